@@ -1,0 +1,5 @@
+pub mod Faults
+pub mod Streams
+pub mod Doors
+pub mod Clocks
+pub mod Disks

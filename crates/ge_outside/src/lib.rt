@@ -1,0 +1,17 @@
+//! The outside, as the batch system sees it: streams, connections, disks, doors and clocks, each a
+//! trait with a count of its faults, so that a failure always has a cause, and with the content that
+//! an object tells, so that clauses above speak of the bytes that came in and went out. Forms in
+//! memory tell their content; the adapters of real devices tell none.
+#![tactic(auto)]
+
+mod clocks;
+mod disks;
+mod doors;
+mod failure;
+mod streams;
+
+pub use clocks::Clock;
+pub use disks::Disk;
+pub use doors::Door;
+pub use failure::Failed;
+pub use streams::{Link, Sink, Source, write_all};
