@@ -1,0 +1,6 @@
+//! Recorded scripts: bytes to events.
+#![tactic(auto)]
+
+mod header;
+mod requests;
+mod texts;
