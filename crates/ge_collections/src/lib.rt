@@ -4,18 +4,18 @@
 //! - [`List`]: items in their order; contracts see a list.
 //! - [`Table`]: a map in the order of its keys; contracts see the list of its pairs, whose keys strictly rise.
 //! - [`Twin`]: an equal copy, which may want memory.
-//! - [`Change`], [`TryChange`]: a change in place of one value of a table, without and with memory.
+//! - [`Edit`], [`TryEdit`]: an edit in place of one value of a table, without and with memory.
 //!
 //! A call that finds no memory answers `AllocError` and leaves the collection as it was.
 #![tactic(auto)]
 
-mod change;
+mod edit;
 mod list;
 mod table;
 mod text;
 mod twin;
 
-pub use change::{Change, TryChange};
+pub use edit::{Edit, TryEdit};
 pub use list::List;
 pub use table::Table;
 pub use text::Text;

@@ -9,7 +9,7 @@ ghost use Rattle.std.specs.Map.Iter.{ShowsInOrder, ShowsValuesInOrder, ShowsInRe
 ghost use Rattle.std.specs.BTreeMap.{insert_entry, is_at};
 ghost use Rattle.ge_collections.specs.Changed.{change_value};
 
-use crate::change::{Change, TryChange};
+use crate::edit::{Edit, TryEdit};
 use std::alloc::{AllocError, Global};
 use std::collections::BTreeMap;
 use std::collections::btree_map::{IntoIter, Iter, Keys, Values};
@@ -99,32 +99,32 @@ impl<K: Ord, V> Table<K, V> {
     }
 
     /// Changes the value at a key where it lies, and tells whether there is one.
-    pub fn change<C: Change<V>>(&mut self, key: &K, change: &C) -> bool
+    pub fn change<E: Edit<V>>(&mut self, key: &K, edit: &E) -> bool
         ensures found { IsTrue result ↔ IsSome (lookup (is_at (K.cmp key.now)) self.old) }
-        ensures changed { self.new ≡ change_value (is_at (K.cmp key.now)) (C.changes change.now) self.old }
+        ensures changed { self.new ≡ change_value (is_at (K.cmp key.now)) (E.edited edit.now) self.old }
     {
         match self.rows.get_mut(key) {
             Some(row) => {
-                change.change(row);
+                edit.edit(row);
                 true
             }
             None => false,
         }
     }
 
-    /// Changes the value at a key where it lies by a change that may want memory, and tells whether there is one.
-    pub fn try_change<C: TryChange<V>>(
+    /// Changes the value at a key where it lies by an edit that may want memory, and tells whether there is one.
+    pub fn try_change<E: TryEdit<V>>(
         &mut self,
         alloc: Global,
         key: &K,
-        change: &C,
+        edit: &E,
     ) -> Result<bool, AllocError>
         ensures found { IfOk result (λ found. IsTrue found ↔ IsSome (lookup (is_at (K.cmp key.now)) self.old)) }
-        ensures changed { OnOk result (self.new ≡ change_value (is_at (K.cmp key.now)) (C.changes change.now) self.old) }
+        ensures changed { OnOk result (self.new ≡ change_value (is_at (K.cmp key.now)) (E.edited edit.now) self.old) }
         ensures err { OnErr result (self.new ≡ self.old) }
     {
         match self.rows.get_mut(key) {
-            Some(row) => match change.try_change(alloc, row) {
+            Some(row) => match edit.try_edit(alloc, row) {
                 Ok(()) => Ok(true),
                 Err(want) => Err(want),
             },
