@@ -1,0 +1,5 @@
+pub mod Words
+pub mod Pattern
+pub mod Value
+pub mod Reading
+pub mod Rows
