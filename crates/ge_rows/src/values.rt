@@ -1,6 +1,9 @@
 // Values, their kinds, and the rows of the complex table: see the manual page complex.
 use ge_collections::Text;
 
+/// The amount that stands for INFINITY, 2^48 - 1.
+pub const INFINITY: u64 = 281_474_976_710_655;
+
 /// A value of a resource. The amount of a TIME is in seconds, of a MEMORY in bytes, of a DOUBLE in millionths.
 #[derive(Debug, Drop, PartialEq, Eq)]
 pub enum Value {
