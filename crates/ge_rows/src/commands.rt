@@ -1,0 +1,100 @@
+// Commands as they are read: see the manual pages qsub, qalter, qdel, qhold, qrls, qmod, qstat, qacct and qconf.
+use crate::entries::{Key, ObjectKind, Pick};
+use ge_collections::{List, Text};
+
+/// The options that have effect, each once with its words, in one fixed order.
+#[derive(Drop, PartialEq, Eq)]
+pub struct Options {
+    /// An option's name and its words.
+    pub items: List<(Text, List<Text>)>,
+}
+
+/// What `qstat` lists.
+#[derive(Drop, PartialEq, Eq)]
+pub enum Listing {
+    /// The jobs of owners that match a pattern.
+    All(Text),
+    /// `-j`: one job
+    One(u32),
+    /// `-f`: queue instances
+    Queues,
+    /// `-pri`: priorities
+    Prios,
+}
+
+/// What `qacct` sums up or lists.
+#[derive(Drop, PartialEq, Eq)]
+pub enum Query {
+    /// All lines.
+    Total,
+    /// `-o`: an owner's lines
+    Owner(Text),
+    /// `-j`: a job's lines
+    Job(u32),
+}
+
+/// A command.
+#[derive(PartialEq, Eq)]
+pub enum Command {
+    /// `qsub`: options, the command's words, the script's lines
+    Submit(Options, List<Text>, Text),
+    /// `qalter`: options, jobs
+    Alter(Options, List<u32>),
+    /// `qdel`: whether by force, targets
+    Delete(bool, List<Pick>),
+    /// `qhold`: hold bits, jobs
+    Hold(u8, List<u32>),
+    /// `qrls`: hold bits, jobs
+    Release(u8, List<u32>),
+    /// `qmod -cj`: targets
+    Clear(List<Pick>),
+    /// `qstat`
+    Show(Listing),
+    /// `qacct`
+    Account(Query),
+    /// `qconf -A`: what to add, its body
+    Add(ObjectKind, Text),
+    /// `qconf -M`: what to replace, its body
+    Modify(ObjectKind, Text),
+    /// `qconf -d`
+    Remove(Key),
+    /// `qconf -s`
+    Print(Key),
+    /// `load`: a host, resources with their values as written
+    Load(Text, List<(Text, Text)>),
+    /// `end`: serial, exit status, cpu, mem, io
+    End(u64, u64, u64, u64, u64),
+    /// `sched`
+    Sched,
+    /// `orders`: a host
+    Orders(Text),
+    /// `job`: a serial
+    JobOf(u64),
+    /// `qconf -km`
+    Stop,
+}
+
+impl Drop for Command {
+    fn drop(self) {
+        match self {
+            Command::Submit(_, _, _) => {}
+            Command::Alter(_, _) => {}
+            Command::Delete(_, _) => {}
+            Command::Hold(_, _) => {}
+            Command::Release(_, _) => {}
+            Command::Clear(_) => {}
+            Command::Show(_) => {}
+            Command::Account(_) => {}
+            Command::Add(_, _) => {}
+            Command::Modify(_, _) => {}
+            Command::Remove(_) => {}
+            Command::Print(_) => {}
+            Command::Load(_, _) => {}
+            Command::End(_, _, _, _, _) => {}
+            Command::Sched => {}
+            Command::Orders(_) => {}
+            Command::JobOf(_) => {}
+            Command::Stop => {}
+        }
+    }
+}
