@@ -3,3 +3,7 @@ pub mod Streams
 pub mod Doors
 pub mod Clocks
 pub mod Disks
+pub mod Schedules
+pub mod Memory
+pub mod MemoryDoors
+pub mod MemoryClocks
