@@ -7,3 +7,8 @@ pub mod Schedules
 pub mod Memory
 pub mod MemoryDoors
 pub mod MemoryClocks
+pub mod Starts
+pub mod Steps
+pub mod Histories
+pub mod Images
+pub mod MemoryDisks
