@@ -27,7 +27,7 @@ abbrev pub content_written : Content → ℕ → List ℕ → Content
 content_written c at piece = record {
   synced = c.synced;
   bytes = overwritten c.bytes at piece;
-  pending = (at, length piece) ∷ c.pending;
+  pending = c.pending ++ (at, length piece) ∷ [];
   longest = max c.longest (at + length piece) }
 
 -- a content after a sync
@@ -91,3 +91,8 @@ told_written (now ∷ earlier) at piece = content_written now at piece ∷ now �
 abbrev pub told_synced : List Content → List Content
 told_synced [] = []
 told_synced (now ∷ earlier) = content_synced now ∷ now ∷ earlier
+
+-- the disk as it reads is one of its images, where it tells
+abbrev pub ReadsAnImage : List Content → Type 0
+ReadsAnImage [] = Unit {0}
+ReadsAnImage (now ∷ earlier) = IsImage now now.bytes

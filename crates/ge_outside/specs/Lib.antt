@@ -3,3 +3,12 @@ pub mod Streams
 pub mod Doors
 pub mod Clocks
 pub mod Disks
+pub mod Schedules
+pub mod Memory
+pub mod MemoryDoors
+pub mod MemoryClocks
+pub mod Starts
+pub mod Steps
+pub mod Histories
+pub mod Images
+pub mod MemoryDisks

@@ -2,7 +2,7 @@
 ghost use Rattle.std.specs.Prelude.{◌≡◌, ◌≤◌, ◌+◌, ◌^◌, ℕ, List, length, IfOk, OnOk, OnErr};
 ghost use Rattle.ge_outside.specs.Faults.{HasCause};
 ghost use Rattle.ge_outside.specs.Disks.{StaysOrWrites};
-ghost use Rattle.ge_model_disk.specs.Disk.{Content, HasLength, IsWithin, Reads, IsImageNow, told_written, told_synced};
+ghost use Rattle.ge_model_disk.specs.Disk.{Content, HasLength, IsWithin, Reads, ReadsAnImage, told_written, told_synced};
 
 use crate::Failed;
 
@@ -50,4 +50,7 @@ pub trait Disk {
         ensures counted { syncs self.new ≤ syncs self.old + 1 }
         ensures later { syncs self.old ≤ syncs self.new }
         ensures cause { HasCause (disk_faults self.old) (disk_faults self.new) result };
+
+    /// The disk as it reads is one of its images.
+    ghost reads_an_image: { (disk : Self) → ReadsAnImage (told disk) };
 }

@@ -1,4 +1,4 @@
-use Rattle.std.proofs.Common.{arith}
+use Rattle.std.proofs.Common.{arith, ◌∙◌}
 use Rattle.ge_outside.specs.Streams.{Gains-take}
 use Rattle.ge_outside.proofs.streams.write_all.Goals as goal
 
@@ -8,4 +8,5 @@ loop-done-preserved g c = (
       (rw c.split_at.ensures.back at c.in_ok-done.ensures.gained),
   omega (arith, c.in_ok-done.ensures.bound),
   omega (arith, c.write.ensures.cause.later),
+  c.write.ensures.read_side ∙ c.loop-done.invariant.3,
 )

@@ -1,0 +1,9 @@
+-- What a disk in memory tells.
+use Rattle.std.specs.Prelude.{List}
+use Rattle.ge_model_disk.specs.Disk.{Content, settled_content}
+use Rattle.ge_outside.specs.Starts.{start_of}
+use Rattle.ge_outside.specs.Steps.{moments}
+use Rattle.ge_outside.specs.declared.histories.History.{History}
+
+abbrev pub history_told : History → List Content
+history_told h = moments (settled_content (start_of h.first h.bytes.items)) h.steps.items
