@@ -10,6 +10,7 @@ ghost use Rattle.ge_model_script.specs.Header.{is_blank, is_decimal, decimal_val
 const MOMENT_LIMIT: u64 = 1 << 40;
 
 /// The moment, the user and the group of a request.
+#[derive(Clone, Copy)]
 pub(crate) struct Header<'a> {
     pub(crate) moment: u64,
     pub(crate) user: &'a [u8],

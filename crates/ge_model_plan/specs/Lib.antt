@@ -1,0 +1,5 @@
+pub mod Refusals
+pub mod Submit
+pub mod Plan
+pub mod Render
+pub mod Trace
