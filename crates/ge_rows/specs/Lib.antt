@@ -1,2 +1,4 @@
+pub use Rattle.ge_collections.specs.Changed
+pub use Rattle.ge_collections.specs.Keyed
 pub mod Opening
 pub mod TaskSet
