@@ -103,6 +103,37 @@ pub enum Command {
     Stop,
 }
 
+impl Command {
+    ghost use Rattle.std.specs.Prelude.{◌≡◌};
+    ghost use Rattle.ge_rows.specs.Parts.{submission_of};
+
+    /// The options, the command's words and the script's lines, where it submits a job.
+    pub fn into_submission(self) -> Option<(Options, List<Text>, Text)>
+        ensures { result ≡ submission_of self }
+    {
+        match self {
+            Command::Submit(options, words, script) => Some((options, words, script)),
+            Command::Alter(_, _) => None,
+            Command::Delete(_, _) => None,
+            Command::Hold(_, _) => None,
+            Command::Release(_, _) => None,
+            Command::Clear(_) => None,
+            Command::Show(_) => None,
+            Command::Account(_) => None,
+            Command::Add(_, _) => None,
+            Command::Modify(_, _) => None,
+            Command::Remove(_) => None,
+            Command::Print(_) => None,
+            Command::Load(_, _) => None,
+            Command::End(_, _, _, _, _) => None,
+            Command::Sched => None,
+            Command::Orders(_) => None,
+            Command::JobOf(_) => None,
+            Command::Stop => None,
+        }
+    }
+}
+
 impl Drop for Command {
     fn drop(self) {
         match self {

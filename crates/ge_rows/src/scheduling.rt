@@ -229,6 +229,22 @@ pub enum Decision {
     Skip(TaskId),
 }
 
+impl Decision {
+    ghost use Rattle.std.specs.Prelude.{◌≡◌};
+    ghost use Rattle.ge_rows.specs.Parts.{start_of};
+
+    /// The start, where it is one.
+    pub fn into_start(self) -> Option<Start>
+        ensures { result ≡ start_of self }
+    {
+        match self {
+            Decision::Start(start) => Some(start),
+            Decision::Reserve(_) => None,
+            Decision::Skip(_) => None,
+        }
+    }
+}
+
 impl Drop for Decision {
     fn drop(self) {
         match self {
