@@ -19,4 +19,4 @@ pub use edit::{Edit, TryEdit};
 pub use list::List;
 pub use table::Table;
 pub use text::Text;
-pub use twin::Twin;
+pub use twin::{Twin, twins2, twins3, twins4};

@@ -73,18 +73,13 @@ impl<T: Twin> Twin for Option<T> {
 
 impl<A: Twin + Drop, B: Twin> Twin for (A, B) {
     fn twin(&self, alloc: Global) -> Result<(A, B), AllocError> {
-        let first = self.0.twin(alloc)?;
-        let second = self.1.twin(alloc)?;
-        Ok((first, second))
+        twins2(alloc, &self.0, &self.1)
     }
 }
 
 impl<A: Twin + Drop, B: Twin + Drop, C: Twin> Twin for (A, B, C) {
     fn twin(&self, alloc: Global) -> Result<(A, B, C), AllocError> {
-        let first = self.0.twin(alloc)?;
-        let second = self.1.twin(alloc)?;
-        let third = self.2.twin(alloc)?;
-        Ok((first, second, third))
+        twins3(alloc, &self.0, &self.1, &self.2)
     }
 }
 
@@ -121,4 +116,49 @@ impl<K: Ord + Twin + Drop, V: Twin + Drop> Twin for Table<K, V> {
         }
         Ok(copy)
     }
+}
+
+/// Equal copies of two values.
+pub fn twins2<A: Twin + Drop, B: Twin>(
+    alloc: Global,
+    a: &A,
+    b: &B,
+) -> Result<(A, B), AllocError>
+    ensures { IfOk result (λ copies. copies ≡ (a.now, b.now)) }
+{
+    let a = a.twin(alloc)?;
+    let b = b.twin(alloc)?;
+    Ok((a, b))
+}
+
+/// Equal copies of three values.
+pub fn twins3<A: Twin + Drop, B: Twin + Drop, C: Twin>(
+    alloc: Global,
+    a: &A,
+    b: &B,
+    c: &C,
+) -> Result<(A, B, C), AllocError>
+    ensures { IfOk result (λ copies. copies ≡ (a.now, b.now, c.now)) }
+{
+    let a = a.twin(alloc)?;
+    let b = b.twin(alloc)?;
+    let c = c.twin(alloc)?;
+    Ok((a, b, c))
+}
+
+/// Equal copies of four values.
+pub fn twins4<A: Twin + Drop, B: Twin + Drop, C: Twin + Drop, D: Twin>(
+    alloc: Global,
+    a: &A,
+    b: &B,
+    c: &C,
+    d: &D,
+) -> Result<(A, B, C, D), AllocError>
+    ensures { IfOk result (λ copies. copies ≡ (a.now, b.now, c.now, d.now)) }
+{
+    let a = a.twin(alloc)?;
+    let b = b.twin(alloc)?;
+    let c = c.twin(alloc)?;
+    let d = d.twin(alloc)?;
+    Ok((a, b, c, d))
 }

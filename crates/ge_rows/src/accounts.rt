@@ -1,5 +1,6 @@
 // Accounting lines: see the manual page accounting.
-use ge_collections::Text;
+use ge_collections::{Text, Twin, twins4};
+use std::alloc::{AllocError, Global};
 
 /// The accounting line of one task that ended. Moments are in seconds.
 #[derive(PartialEq, Eq)]
@@ -70,5 +71,46 @@ impl Drop for Line {
             mem: _,
             io: _,
         } = self;
+    }
+}
+
+impl Twin for Line {
+    fn twin(&self, alloc: Global) -> Result<Line, AllocError> {
+        let (queue, host, group, owner) = twins4(
+            alloc,
+            &self.queue,
+            &self.host,
+            &self.group,
+            &self.owner,
+        )?;
+        let (name, account, project, pe) = twins4(
+            alloc,
+            &self.name,
+            &self.account,
+            &self.project,
+            &self.pe,
+        )?;
+        Ok(Line {
+            queue,
+            host,
+            group,
+            owner,
+            name,
+            job: self.job,
+            account,
+            priority: self.priority,
+            submitted: self.submitted,
+            start: self.start,
+            end: self.end,
+            failed: self.failed,
+            exit: self.exit,
+            project,
+            pe,
+            slots: self.slots,
+            task: self.task,
+            cpu: self.cpu,
+            mem: self.mem,
+            io: self.io,
+        })
     }
 }

@@ -7,7 +7,8 @@ use crate::queues::{PeRow, QueueRow};
 use crate::quotas::QuotaRow;
 use crate::settings::Sched;
 use crate::values::ComplexDef;
-use ge_collections::{List, Table, Text};
+use ge_collections::{List, Table, Text, Twin, twins4};
+use std::alloc::{AllocError, Global};
 
 /// All that the master keeps.
 #[derive(PartialEq, Eq)]
@@ -78,5 +79,60 @@ impl Drop for Cluster {
             usage: _,
             lines: _,
         } = self;
+    }
+}
+
+impl Twin for Cluster {
+    fn twin(&self, alloc: Global) -> Result<Cluster, AllocError> {
+        let (complexes, hosts, groups, queues) = twins4(
+            alloc,
+            &self.complexes,
+            &self.hosts,
+            &self.groups,
+            &self.queues,
+        )?;
+        let (pes, quotas, sets, users) = twins4(
+            alloc,
+            &self.pes,
+            &self.quotas,
+            &self.sets,
+            &self.users,
+        )?;
+        let (projects, shares, sched, managers) = twins4(
+            alloc,
+            &self.projects,
+            &self.shares,
+            &self.sched,
+            &self.managers,
+        )?;
+        let (operators, jobs, usage, lines) = twins4(
+            alloc,
+            &self.operators,
+            &self.jobs,
+            &self.usage,
+            &self.lines,
+        )?;
+        Ok(Cluster {
+            last: self.last,
+            last_run: self.last_run,
+            next_job: self.next_job,
+            next_serial: self.next_serial,
+            complexes,
+            hosts,
+            groups,
+            queues,
+            pes,
+            quotas,
+            sets,
+            users,
+            projects,
+            shares,
+            sched,
+            managers,
+            operators,
+            jobs,
+            usage,
+            lines,
+        })
     }
 }

@@ -1,12 +1,20 @@
 // Commands as they are read: see the manual pages qsub, qalter, qdel, qhold, qrls, qmod, qstat, qacct and qconf.
 use crate::entries::{Key, ObjectKind, Pick};
-use ge_collections::{List, Text};
+use ge_collections::{List, Text, Twin, twins2, twins3};
+use std::alloc::{AllocError, Global};
 
 /// The options that have effect, each once with its words, in one fixed order.
 #[derive(Drop, PartialEq, Eq)]
 pub struct Options {
     /// An option's name and its words.
     pub items: List<(Text, List<Text>)>,
+}
+
+impl Twin for Options {
+    fn twin(&self, alloc: Global) -> Result<Options, AllocError> {
+        let items = self.items.twin(alloc)?;
+        Ok(Options { items })
+    }
 }
 
 /// What `qstat` lists.
@@ -22,6 +30,17 @@ pub enum Listing {
     Prios,
 }
 
+impl Twin for Listing {
+    fn twin(&self, alloc: Global) -> Result<Listing, AllocError> {
+        match self {
+            Listing::All(first) => Ok(Listing::All(first.twin(alloc)?)),
+            Listing::One(first) => Ok(Listing::One(*first)),
+            Listing::Queues => Ok(Listing::Queues),
+            Listing::Prios => Ok(Listing::Prios),
+        }
+    }
+}
+
 /// What `qacct` sums up or lists.
 #[derive(Drop, PartialEq, Eq)]
 pub enum Query {
@@ -31,6 +50,16 @@ pub enum Query {
     Owner(Text),
     /// `-j`: a job's lines
     Job(u32),
+}
+
+impl Twin for Query {
+    fn twin(&self, alloc: Global) -> Result<Query, AllocError> {
+        match self {
+            Query::Total => Ok(Query::Total),
+            Query::Owner(first) => Ok(Query::Owner(first.twin(alloc)?)),
+            Query::Job(first) => Ok(Query::Job(*first)),
+        }
+    }
 }
 
 /// A command.
@@ -74,6 +103,37 @@ pub enum Command {
     Stop,
 }
 
+impl Command {
+    ghost use Rattle.std.specs.Prelude.{◌≡◌};
+    ghost use Rattle.ge_rows.specs.Parts.{submission_of};
+
+    /// The options, the command's words and the script's lines, where it submits a job.
+    pub fn into_submission(self) -> Option<(Options, List<Text>, Text)>
+        ensures { result ≡ submission_of self }
+    {
+        match self {
+            Command::Submit(options, words, script) => Some((options, words, script)),
+            Command::Alter(_, _) => None,
+            Command::Delete(_, _) => None,
+            Command::Hold(_, _) => None,
+            Command::Release(_, _) => None,
+            Command::Clear(_) => None,
+            Command::Show(_) => None,
+            Command::Account(_) => None,
+            Command::Add(_, _) => None,
+            Command::Modify(_, _) => None,
+            Command::Remove(_) => None,
+            Command::Print(_) => None,
+            Command::Load(_, _) => None,
+            Command::End(_, _, _, _, _) => None,
+            Command::Sched => None,
+            Command::Orders(_) => None,
+            Command::JobOf(_) => None,
+            Command::Stop => None,
+        }
+    }
+}
+
 impl Drop for Command {
     fn drop(self) {
         match self {
@@ -95,6 +155,57 @@ impl Drop for Command {
             Command::Orders(_) => {}
             Command::JobOf(_) => {}
             Command::Stop => {}
+        }
+    }
+}
+
+impl Twin for Command {
+    fn twin(&self, alloc: Global) -> Result<Command, AllocError> {
+        match self {
+            Command::Submit(first, second, third) => {
+                let (first, second, third) = twins3(alloc, first, second, third)?;
+                Ok(Command::Submit(first, second, third))
+            }
+            Command::Alter(first, second) => {
+                let (first, second) = twins2(alloc, first, second)?;
+                Ok(Command::Alter(first, second))
+            }
+            Command::Delete(first, second) => {
+                let second = second.twin(alloc)?;
+                Ok(Command::Delete(*first, second))
+            }
+            Command::Hold(first, second) => {
+                let second = second.twin(alloc)?;
+                Ok(Command::Hold(*first, second))
+            }
+            Command::Release(first, second) => {
+                let second = second.twin(alloc)?;
+                Ok(Command::Release(*first, second))
+            }
+            Command::Clear(first) => Ok(Command::Clear(first.twin(alloc)?)),
+            Command::Show(first) => Ok(Command::Show(first.twin(alloc)?)),
+            Command::Account(first) => Ok(Command::Account(first.twin(alloc)?)),
+            Command::Add(first, second) => {
+                let second = second.twin(alloc)?;
+                Ok(Command::Add(*first, second))
+            }
+            Command::Modify(first, second) => {
+                let second = second.twin(alloc)?;
+                Ok(Command::Modify(*first, second))
+            }
+            Command::Remove(first) => Ok(Command::Remove(first.twin(alloc)?)),
+            Command::Print(first) => Ok(Command::Print(first.twin(alloc)?)),
+            Command::Load(first, second) => {
+                let (first, second) = twins2(alloc, first, second)?;
+                Ok(Command::Load(first, second))
+            }
+            Command::End(first, second, third, fourth, fifth) => Ok(Command::End(
+                *first, *second, *third, *fourth, *fifth,
+            )),
+            Command::Sched => Ok(Command::Sched),
+            Command::Orders(first) => Ok(Command::Orders(first.twin(alloc)?)),
+            Command::JobOf(first) => Ok(Command::JobOf(*first)),
+            Command::Stop => Ok(Command::Stop),
         }
     }
 }

@@ -7,7 +7,8 @@ use crate::scheduling::Start;
 use crate::settings::Sched;
 use crate::tasks::TaskSet;
 use crate::values::{ComplexDef, Value};
-use ge_collections::{List, Table, Text};
+use ge_collections::{List, Table, Text, Twin, twins2, twins4};
+use std::alloc::{AllocError, Global};
 
 /// A target: a job, or some of its tasks.
 #[derive(Debug, Drop, PartialEq, Eq)]
@@ -16,6 +17,16 @@ pub struct Pick {
     pub job: u32,
     /// The tasks; none means the whole job.
     pub tasks: Option<TaskSet>,
+}
+
+impl Twin for Pick {
+    fn twin(&self, alloc: Global) -> Result<Pick, AllocError> {
+        let tasks = self.tasks.twin(alloc)?;
+        Ok(Pick {
+            job: self.job,
+            tasks,
+        })
+    }
 }
 
 /// What `qalter` sets in a job; what is missing stays.
@@ -63,6 +74,46 @@ impl Drop for Patch {
             after_each: _,
             oticket: _,
         } = self;
+    }
+}
+
+impl Twin for Patch {
+    fn twin(&self, alloc: Global) -> Result<Patch, AllocError> {
+        let (name, request, priority, share) = twins4(
+            alloc,
+            &self.name,
+            &self.request,
+            &self.priority,
+            &self.share,
+        )?;
+        let (project, reserve, not_before, deadline) = twins4(
+            alloc,
+            &self.project,
+            &self.reserve,
+            &self.not_before,
+            &self.deadline,
+        )?;
+        let (account, after, after_each, oticket) = twins4(
+            alloc,
+            &self.account,
+            &self.after,
+            &self.after_each,
+            &self.oticket,
+        )?;
+        Ok(Patch {
+            name,
+            request,
+            priority,
+            share,
+            project,
+            reserve,
+            not_before,
+            deadline,
+            account,
+            after,
+            after_each,
+            oticket,
+        })
     }
 }
 
@@ -117,6 +168,50 @@ impl Drop for Item {
     }
 }
 
+impl Twin for Item {
+    fn twin(&self, alloc: Global) -> Result<Item, AllocError> {
+        match self {
+            Item::Complexes(first) => Ok(Item::Complexes(first.twin(alloc)?)),
+            Item::Host(first, second) => {
+                let (first, second) = twins2(alloc, first, second)?;
+                Ok(Item::Host(first, second))
+            }
+            Item::Group(first, second) => {
+                let (first, second) = twins2(alloc, first, second)?;
+                Ok(Item::Group(first, second))
+            }
+            Item::Queue(first, second) => {
+                let (first, second) = twins2(alloc, first, second)?;
+                Ok(Item::Queue(first, second))
+            }
+            Item::Pe(first, second) => {
+                let (first, second) = twins2(alloc, first, second)?;
+                Ok(Item::Pe(first, second))
+            }
+            Item::Quota(first, second) => {
+                let (first, second) = twins2(alloc, first, second)?;
+                Ok(Item::Quota(first, second))
+            }
+            Item::Set(first, second) => {
+                let (first, second) = twins2(alloc, first, second)?;
+                Ok(Item::Set(first, second))
+            }
+            Item::User(first, second) => {
+                let first = first.twin(alloc)?;
+                Ok(Item::User(first, *second))
+            }
+            Item::Project(first, second) => {
+                let (first, second) = twins2(alloc, first, second)?;
+                Ok(Item::Project(first, second))
+            }
+            Item::Shares(first) => Ok(Item::Shares(first.twin(alloc)?)),
+            Item::Sched(first) => Ok(Item::Sched(first.twin(alloc)?)),
+            Item::Managers(first) => Ok(Item::Managers(first.twin(alloc)?)),
+            Item::Operators(first) => Ok(Item::Operators(first.twin(alloc)?)),
+        }
+    }
+}
+
 /// The sort of a configured object.
 #[derive(Clone, Copy, Debug, PartialEq, Eq)]
 pub enum ObjectKind {
@@ -155,6 +250,16 @@ pub struct Key {
     pub kind: ObjectKind,
     /// Its name.
     pub name: Text,
+}
+
+impl Twin for Key {
+    fn twin(&self, alloc: Global) -> Result<Key, AllocError> {
+        let name = self.name.twin(alloc)?;
+        Ok(Key {
+            kind: self.kind,
+            name,
+        })
+    }
 }
 
 /// What an accepted request changes.
@@ -202,6 +307,38 @@ impl Drop for Change {
     }
 }
 
+impl Twin for Change {
+    fn twin(&self, alloc: Global) -> Result<Change, AllocError> {
+        match self {
+            Change::Submit(first) => Ok(Change::Submit(first.twin(alloc)?)),
+            Change::Alter(first) => Ok(Change::Alter(first.twin(alloc)?)),
+            Change::Hold(first, second) => {
+                let first = first.twin(alloc)?;
+                Ok(Change::Hold(first, *second))
+            }
+            Change::Release(first, second) => {
+                let first = first.twin(alloc)?;
+                Ok(Change::Release(first, *second))
+            }
+            Change::Delete(first, second) => {
+                let first = first.twin(alloc)?;
+                Ok(Change::Delete(first, *second))
+            }
+            Change::Clear(first) => Ok(Change::Clear(first.twin(alloc)?)),
+            Change::Put(first) => Ok(Change::Put(first.twin(alloc)?)),
+            Change::Drop(first) => Ok(Change::Drop(first.twin(alloc)?)),
+            Change::Load(first, second) => {
+                let (first, second) = twins2(alloc, first, second)?;
+                Ok(Change::Load(first, second))
+            }
+            Change::End(first, second, third, fourth, fifth) => Ok(Change::End(
+                *first, *second, *third, *fourth, *fifth,
+            )),
+            Change::Run(first) => Ok(Change::Run(first.twin(alloc)?)),
+        }
+    }
+}
+
 /// One change and its moment.
 #[derive(Drop, PartialEq, Eq)]
 pub struct Entry {
@@ -209,4 +346,14 @@ pub struct Entry {
     pub moment: u64,
     /// What it changes.
     pub change: Change,
+}
+
+impl Twin for Entry {
+    fn twin(&self, alloc: Global) -> Result<Entry, AllocError> {
+        let change = self.change.twin(alloc)?;
+        Ok(Entry {
+            moment: self.moment,
+            change,
+        })
+    }
 }

@@ -2,7 +2,8 @@
 use crate::hosts::InstanceId;
 use crate::tasks::{TaskSet, TaskSpan};
 use crate::values::Value;
-use ge_collections::{List, Table, Text};
+use ge_collections::{List, Table, Text, Twin, twins3, twins4};
+use std::alloc::{AllocError, Global};
 
 /// Slots of one queue instance that a task was granted.
 #[derive(Debug, Drop, PartialEq, Eq)]
@@ -11,6 +12,16 @@ pub struct Grant {
     pub at: InstanceId,
     /// How many slots.
     pub slots: u32,
+}
+
+impl Twin for Grant {
+    fn twin(&self, alloc: Global) -> Result<Grant, AllocError> {
+        let at = self.at.twin(alloc)?;
+        Ok(Grant {
+            at,
+            slots: self.slots,
+        })
+    }
 }
 
 /// A running task. Its number stands in the table's key.
@@ -26,6 +37,18 @@ pub struct Running {
     pub deleting: bool,
 }
 
+impl Twin for Running {
+    fn twin(&self, alloc: Global) -> Result<Running, AllocError> {
+        let grants = self.grants.twin(alloc)?;
+        Ok(Running {
+            serial: self.serial,
+            start: self.start,
+            grants,
+            deleting: self.deleting,
+        })
+    }
+}
+
 /// `-pe`: a parallel environment and a range of slots.
 #[derive(Drop, PartialEq, Eq)]
 pub struct PeRequest {
@@ -35,6 +58,17 @@ pub struct PeRequest {
     pub low: u32,
     /// The greatest number of slots.
     pub high: u32,
+}
+
+impl Twin for PeRequest {
+    fn twin(&self, alloc: Global) -> Result<PeRequest, AllocError> {
+        let name = self.name.twin(alloc)?;
+        Ok(PeRequest {
+            name,
+            low: self.low,
+            high: self.high,
+        })
+    }
 }
 
 /// What a job asks for.
@@ -55,6 +89,13 @@ impl Drop for Request {
             queues: _,
             pe: _,
         } = self;
+    }
+}
+
+impl Twin for Request {
+    fn twin(&self, alloc: Global) -> Result<Request, AllocError> {
+        let (asked, queues, pe) = twins3(alloc, &self.asked, &self.queues, &self.pe)?;
+        Ok(Request { asked, queues, pe })
     }
 }
 
@@ -139,5 +180,51 @@ impl Drop for Job {
             words: _,
             script: _,
         } = self;
+    }
+}
+
+impl Twin for Job {
+    fn twin(&self, alloc: Global) -> Result<Job, AllocError> {
+        let (name, owner, group, account) = twins4(
+            alloc,
+            &self.name,
+            &self.owner,
+            &self.group,
+            &self.account,
+        )?;
+        let (project, request, queued) = twins3(alloc, &self.project, &self.request, &self.queued)?;
+        let (broken, running, after) = twins3(alloc, &self.broken, &self.running, &self.after)?;
+        let (after_each, words, script) = twins3(
+            alloc,
+            &self.after_each,
+            &self.words,
+            &self.script,
+        )?;
+        Ok(Job {
+            number: self.number,
+            name,
+            owner,
+            group,
+            account,
+            submitted: self.submitted,
+            priority: self.priority,
+            share: self.share,
+            project,
+            reserve: self.reserve,
+            not_before: self.not_before,
+            deadline: self.deadline,
+            request,
+            array: self.array,
+            span: self.span,
+            queued,
+            broken,
+            running,
+            hold: self.hold,
+            after,
+            after_each,
+            oticket: self.oticket,
+            words,
+            script,
+        })
     }
 }

@@ -36,7 +36,7 @@ pub use cluster::Cluster;
 pub use commands::{Command, Listing, Options, Query};
 pub use entries::{Change, Entry, Item, Key, ObjectKind, Patch, Pick};
 pub use events::{Event, Form, Reply};
-pub use ge_collections::{Edit, List, Table, Text, TryEdit, Twin};
+pub use ge_collections::{Edit, List, Table, Text, TryEdit, Twin, twins2, twins3, twins4};
 pub use hosts::{Groups, HostRow, InstanceId};
 pub use jobs::{Grant, Job, PeRequest, Request, Running};
 pub use opening_rows::{default_queue, default_sched, opening};

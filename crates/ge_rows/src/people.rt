@@ -1,5 +1,6 @@
 // Users, projects and the share tree: see the manual pages user, project and share_tree.
-use ge_collections::{List, Text};
+use ge_collections::{List, Text, Twin, twins2};
+use std::alloc::{AllocError, Global};
 
 /// A user. The name stands in the table's key.
 #[derive(Clone, Copy, Debug, PartialEq, Eq)]
@@ -8,6 +9,12 @@ pub struct UserRow {
     pub fshare: u64,
     /// Override tickets.
     pub oticket: u64,
+}
+
+impl Twin for UserRow {
+    fn twin(&self, _alloc: Global) -> Result<UserRow, AllocError> {
+        Ok(*self)
+    }
 }
 
 /// A project. The name stands in the table's key.
@@ -23,6 +30,18 @@ pub struct ProjectRow {
     pub xacl: List<Text>,
 }
 
+impl Twin for ProjectRow {
+    fn twin(&self, alloc: Global) -> Result<ProjectRow, AllocError> {
+        let (acl, xacl) = twins2(alloc, &self.acl, &self.xacl)?;
+        Ok(ProjectRow {
+            fshare: self.fshare,
+            oticket: self.oticket,
+            acl,
+            xacl,
+        })
+    }
+}
+
 /// A node of the share tree. Its id stands in the table's key; the root has id 0.
 #[derive(Drop, PartialEq, Eq)]
 pub struct ShareNode {
@@ -34,4 +53,16 @@ pub struct ShareNode {
     pub shares: u64,
     /// The ids of its children in order.
     pub children: List<u32>,
+}
+
+impl Twin for ShareNode {
+    fn twin(&self, alloc: Global) -> Result<ShareNode, AllocError> {
+        let (name, children) = twins2(alloc, &self.name, &self.children)?;
+        Ok(ShareNode {
+            name,
+            project: self.project,
+            shares: self.shares,
+            children,
+        })
+    }
 }

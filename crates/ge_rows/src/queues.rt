@@ -1,6 +1,7 @@
 // Queues and parallel environments: see the manual pages queue_conf and sge_pe.
 use crate::values::Value;
-use ge_collections::{List, Table, Text};
+use ge_collections::{List, Table, Text, Twin, twins2, twins3, twins4};
+use std::alloc::{AllocError, Global};
 
 /// An attribute of a queue: its plain value, and others for hosts and groups of hosts.
 #[derive(Debug, Drop, PartialEq, Eq)]
@@ -9,6 +10,13 @@ pub struct Attr<T> {
     pub plain: T,
     /// The overrides as written: a host or an `@` group, and its value.
     pub overrides: List<(Text, T)>,
+}
+
+impl<T: Twin + Drop> Twin for Attr<T> {
+    fn twin(&self, alloc: Global) -> Result<Attr<T>, AllocError> {
+        let (plain, overrides) = twins2(alloc, &self.plain, &self.overrides)?;
+        Ok(Attr { plain, overrides })
+    }
 }
 
 /// A queue. Its name stands in the table's key.
@@ -56,6 +64,39 @@ impl Drop for QueueRow {
     }
 }
 
+impl Twin for QueueRow {
+    fn twin(&self, alloc: Global) -> Result<QueueRow, AllocError> {
+        let (hosts, seq_no, thresholds, pes) = twins4(
+            alloc,
+            &self.hosts,
+            &self.seq_no,
+            &self.thresholds,
+            &self.pes,
+        )?;
+        let (users, xusers, projects, xprojects) = twins4(
+            alloc,
+            &self.users,
+            &self.xusers,
+            &self.projects,
+            &self.xprojects,
+        )?;
+        let (values, slots, limits) = twins3(alloc, &self.values, &self.slots, &self.limits)?;
+        Ok(QueueRow {
+            hosts,
+            seq_no,
+            thresholds,
+            pes,
+            users,
+            xusers,
+            projects,
+            xprojects,
+            values,
+            slots,
+            limits,
+        })
+    }
+}
+
 /// `allocation_rule`: how a parallel task's slots spread over hosts.
 #[derive(Clone, Copy, Debug, PartialEq, Eq)]
 pub enum Allocation {
@@ -95,4 +136,17 @@ pub struct PeRow {
     pub rule: Allocation,
     /// `urgency_slots`
     pub urgency_slots: UrgencySlots,
+}
+
+impl Twin for PeRow {
+    fn twin(&self, alloc: Global) -> Result<PeRow, AllocError> {
+        let (users, xusers) = twins2(alloc, &self.users, &self.xusers)?;
+        Ok(PeRow {
+            slots: self.slots,
+            users,
+            xusers,
+            rule: self.rule,
+            urgency_slots: self.urgency_slots,
+        })
+    }
 }

@@ -1,5 +1,6 @@
 // Resource quotas: see the manual page sge_resource_quota.
-use ge_collections::{List, Table, Text};
+use ge_collections::{List, Table, Text, Twin, twins2, twins3, twins4};
+use std::alloc::{AllocError, Global};
 
 /// A filter of a rule over names of one sort.
 #[derive(Drop, PartialEq, Eq)]
@@ -10,6 +11,17 @@ pub struct Filter {
     pub plain: List<Text>,
     /// The elements after `!`.
     pub without: List<Text>,
+}
+
+impl Twin for Filter {
+    fn twin(&self, alloc: Global) -> Result<Filter, AllocError> {
+        let (plain, without) = twins2(alloc, &self.plain, &self.without)?;
+        Ok(Filter {
+            braces: self.braces,
+            plain,
+            without,
+        })
+    }
 }
 
 /// A rule of a rule set. A filter that is missing matches all.
@@ -45,6 +57,28 @@ impl Drop for Rule {
     }
 }
 
+impl Twin for Rule {
+    fn twin(&self, alloc: Global) -> Result<Rule, AllocError> {
+        let (name, users, projects, pes) = twins4(
+            alloc,
+            &self.name,
+            &self.users,
+            &self.projects,
+            &self.pes,
+        )?;
+        let (queues, hosts, limits) = twins3(alloc, &self.queues, &self.hosts, &self.limits)?;
+        Ok(Rule {
+            name,
+            users,
+            projects,
+            pes,
+            queues,
+            hosts,
+            limits,
+        })
+    }
+}
+
 /// A rule set. Its name stands in the table's key.
 #[derive(Drop, PartialEq, Eq)]
 pub struct QuotaRow {
@@ -54,4 +88,15 @@ pub struct QuotaRow {
     pub enabled: bool,
     /// The rules in order.
     pub rules: List<Rule>,
+}
+
+impl Twin for QuotaRow {
+    fn twin(&self, alloc: Global) -> Result<QuotaRow, AllocError> {
+        let (description, rules) = twins2(alloc, &self.description, &self.rules)?;
+        Ok(QuotaRow {
+            description,
+            enabled: self.enabled,
+            rules,
+        })
+    }
 }

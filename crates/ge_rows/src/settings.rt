@@ -1,5 +1,6 @@
 // The scheduler's settings: see the manual page sched_conf.
-use ge_collections::Text;
+use ge_collections::{Text, Twin};
+use std::alloc::{AllocError, Global};
 
 /// `queue_sort_method`
 #[derive(Clone, Copy, Debug, PartialEq, Eq)]
@@ -55,4 +56,33 @@ pub struct Sched {
     pub u_io: u64,
     /// `max_pending_tasks_per_job`; 0 is no bound
     pub max_pending: u64,
+}
+
+impl Twin for Sched {
+    fn twin(&self, alloc: Global) -> Result<Sched, AllocError> {
+        let load_formula = self.load_formula.twin(alloc)?;
+        Ok(Sched {
+            interval: self.interval,
+            maxujobs: self.maxujobs,
+            sort: self.sort,
+            load_formula,
+            w_priority: self.w_priority,
+            w_urgency: self.w_urgency,
+            w_ticket: self.w_ticket,
+            w_waiting: self.w_waiting,
+            w_deadline: self.w_deadline,
+            functional: self.functional,
+            share: self.share,
+            w_user: self.w_user,
+            w_project: self.w_project,
+            w_job: self.w_job,
+            halftime: self.halftime,
+            max_reservation: self.max_reservation,
+            default_duration: self.default_duration,
+            u_cpu: self.u_cpu,
+            u_mem: self.u_mem,
+            u_io: self.u_io,
+            max_pending: self.max_pending,
+        })
+    }
 }

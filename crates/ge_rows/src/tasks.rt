@@ -2,8 +2,8 @@
 ghost use Rattle.std.specs.Prelude.{◌≡◌, IsTrue, []};
 ghost use Rattle.ge_rows.specs.TaskSet.{is_form};
 
-use ge_collections::List;
-use std::alloc::Global;
+use ge_collections::{List, Twin};
+use std::alloc::{AllocError, Global};
 use std::marker::Model;
 
 /// A task: its job's number and its own.
@@ -15,6 +15,12 @@ pub struct TaskId {
     pub task: u32,
 }
 
+impl Twin for TaskId {
+    fn twin(&self, _alloc: Global) -> Result<TaskId, AllocError> {
+        Ok(*self)
+    }
+}
+
 /// Numbers with one same difference: the first, and those after it by the step, up to the last.
 #[derive(Clone, Copy, Debug, PartialEq, Eq, PartialOrd, Ord)]
 pub struct TaskSpan {
@@ -24,6 +30,12 @@ pub struct TaskSpan {
     pub last: u32,
     /// The difference of neighbours; 1 where there is one number.
     pub step: u32,
+}
+
+impl Twin for TaskSpan {
+    fn twin(&self, _alloc: Global) -> Result<TaskSpan, AllocError> {
+        Ok(*self)
+    }
 }
 
 /// A set of task numbers, each at least 1. Contracts see its spans in the set's one form: they are found from the
@@ -99,4 +111,12 @@ impl Eq for TaskSet {
     ghost use Rattle.ge_rows.specs.contracts.tasks.TaskSpanEq.TheImpl.Laws.{laws-law};
 
     ghost laws = { lists_equiv laws-law };
+}
+
+impl Twin for TaskSet {
+    fn twin(&self, alloc: Global) -> Result<TaskSet, AllocError> {
+        Ok(TaskSet {
+            spans: self.spans.twin(alloc)?,
+        })
+    }
 }

@@ -1,5 +1,6 @@
 // Values, their kinds, and the rows of the complex table: see the manual page complex.
-use ge_collections::Text;
+use ge_collections::{Text, Twin, twins2};
+use std::alloc::{AllocError, Global};
 
 /// The amount that stands for INFINITY, 2^48 - 1.
 pub const INFINITY: u64 = 281_474_976_710_655;
@@ -13,6 +14,16 @@ pub enum Value {
     Flag(bool),
     /// A text.
     Word(Text),
+}
+
+impl Twin for Value {
+    fn twin(&self, alloc: Global) -> Result<Value, AllocError> {
+        match self {
+            Value::Amount(first) => Ok(Value::Amount(*first)),
+            Value::Flag(first) => Ok(Value::Flag(*first)),
+            Value::Word(first) => Ok(Value::Word(first.twin(alloc)?)),
+        }
+    }
 }
 
 /// The kind of a resource.
@@ -92,4 +103,19 @@ pub struct ComplexDef {
     pub fallback: Value,
     /// The urgency that a request adds, in millionths.
     pub urgency: u64,
+}
+
+impl Twin for ComplexDef {
+    fn twin(&self, alloc: Global) -> Result<ComplexDef, AllocError> {
+        let (shortcut, fallback) = twins2(alloc, &self.shortcut, &self.fallback)?;
+        Ok(ComplexDef {
+            shortcut,
+            kind: self.kind,
+            relop: self.relop,
+            requestable: self.requestable,
+            consumable: self.consumable,
+            fallback,
+            urgency: self.urgency,
+        })
+    }
 }
