@@ -7,4 +7,4 @@ rendered_line line = line ++ 10 ∷ []
 
 -- the code, a blank, the number of lines and a line feed, and then each line with a line feed
 unfoldable pub rendered : Reply → List ℕ
-rendered r = decimal r.code ++ (32 ∷ (decimal (length r.lines) ++ (10 ∷ flat_map rendered_line r.lines)))
+rendered r = decimal r.code ++ 32 ∷ [] ++ decimal (length r.lines) ++ 10 ∷ [] ++ flat_map rendered_line r.lines

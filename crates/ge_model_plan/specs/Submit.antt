@@ -43,7 +43,7 @@ abbrev pub submit_refusal : Cluster → List (List ℕ) → Option Refusal
 submit_refusal c words = first_refusal ((nat_le 100000 (length c.jobs), Limit) ∷ (nat_lt 4294967294 c.next_job, Limit) ∷ (nat_lt 1024 (length words), Limit) ∷ [])
 
 abbrev pub submitted_line : ℕ → List ℕ → List ℕ
-submitted_line number name = codes "Your job " ++ (decimal number ++ (codes " (\"" ++ (name ++ codes "\") has been submitted")))
+submitted_line number name = codes "Your job " ++ decimal number ++ codes " (\"" ++ name ++ codes "\") has been submitted"
 
 unfoldable pub submit_plan : Cluster → Event → Options → List (List ℕ) → Planned
 submit_plan c e options words = unless_refused (submit_refusal c words) (record {
