@@ -7,6 +7,7 @@
 mod clocks;
 mod disks;
 mod doors;
+mod draws;
 mod failure;
 mod histories;
 mod memory_clocks;
@@ -16,7 +17,9 @@ mod memory_links;
 mod memory_steps;
 mod memory_streams;
 mod overwriting;
+mod replays;
 mod schedules;
+mod showing;
 mod streams;
 
 pub use clocks::Clock;
