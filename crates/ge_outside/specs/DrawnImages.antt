@@ -1,5 +1,5 @@
 -- What is drawn is an image.
-use Rattle.std.specs.Prelude.{◌≡◌, ◌⊎◌, ℕ, zero, suc, ◌+◌, ◌-◌, ◌%◌, ◌^◌, ◌<◌, ◌≤◌, min, Bool, true, false, nat_le, nat_lt, List, [], ◌∷◌, length, slice_index, refl}
+use Rattle.std.specs.Prelude.{◌≡◌, ◌⊎◌, ℕ, zero, suc, ◌+◌, ◌%◌, ◌^◌, ◌<◌, ◌≤◌, false, nat_le, List, [], ◌∷◌, length, slice_index, refl}
 use Rattle.std.proofs.Common.{arith, ap, inl, inr}
 use Rattle.std.proofs.lemmas.Bool.{lt-leb, le-ltb}
 use Rattle.std.proofs.Math.Bool.{and-false}
@@ -8,7 +8,7 @@ use Rattle.ge_model_disk.specs.Disk.{Content, IsOutside, IsImage, IsImageNow, se
 use Rattle.ge_outside.specs.Steps.{moments, after_steps}
 use Rattle.ge_outside.specs.Images.{reads_an_image}
 use Rattle.ge_outside.specs.declared.memory_steps.Step.{Step}
-use Rattle.ge_outside.specs.Draws.{next_state, drawn, range_has, is_pending, drawn_byte, drawn_bytes, drawn_length, drawn_image}
+use Rattle.ge_outside.specs.Draws.{next_state, range_has, is_pending, drawn_byte, drawn_bytes, drawn_length, drawn_image}
 
 -- the image that a pick draws of the newest moment
 abbrev pub drawn_now : List Content → ℕ → List ℕ

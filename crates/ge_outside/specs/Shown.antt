@@ -1,5 +1,4 @@
 -- What a disk holds at a moment, as the code keeps it.
-use Rattle.std.specs.Prelude.{ℕ, List}
 use Rattle.ge_model_disk.specs.Disk.{Content}
 use Rattle.ge_outside.specs.declared.showing.Shown.{Shown}
 

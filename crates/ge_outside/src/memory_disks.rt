@@ -23,7 +23,7 @@ pub struct MemDisk {
 impl MemDisk {
     ghost use Rattle.std.specs.Prelude.{[], ◌∷◌};
     ghost use Rattle.ge_outside.specs.MemoryDisks.{disk_told, disk_schedule, disk_fault_count, disk_sync_count};
-    ghost use Rattle.ge_model_disk.specs.Disk.{IsImageNow};
+    ghost use Rattle.ge_model_disk.specs.Disk.{IsImageNow, read_bytes};
     ghost use Rattle.ge_outside.specs.DrawnImages.{drawn_now};
 
     /// A disk that holds these bytes, with nothing pending. The calls whose numbers, counted from 1, are
@@ -41,6 +41,13 @@ impl MemDisk {
             faults: 0,
             syncs: 0,
         }
+    }
+
+    /// What a read gives.
+    pub fn bytes(&self) -> &[u8]
+        ensures { result.now ≡ read_bytes (disk_told self.now) }
+    {
+        self.history.bytes.as_slice()
     }
 
     /// A disk of what a stop might leave now, chosen by `pick`: nothing is pending on it, and no call fails.

@@ -1,4 +1,4 @@
-use Rattle.std.proofs.Common.{◌≡◌, ◌++◌, ◌-◌, ◌<◌, ◌^◌, ℕ}
+use Rattle.std.proofs.Common.{◌≡◌, ◌++◌, ◌-◌, ◌<◌, ◌^◌}
 use Rattle.ge_outside.specs.Draws.{drawn_bytes, drawn_image}
 use Rattle.ge_outside.specs.Shown.{shown_content}
 use Rattle.ge_outside.proofs.draws.draw_image.Given as goal
