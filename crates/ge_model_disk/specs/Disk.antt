@@ -28,7 +28,8 @@ content_written c at piece = record {
   synced = c.synced;
   bytes = overwritten c.bytes at piece;
   pending = c.pending ++ (at, length piece) ∷ [];
-  longest = max c.longest (at + length piece) }
+  longest = max c.longest (at + length piece);
+}
 
 -- a content after a sync
 abbrev pub content_synced : Content → Content
@@ -59,7 +60,12 @@ IsImageNow (now ∷ earlier) image = IsImage now image
 abbrev pub IsImageSince : ℕ → List Content → List ℕ → Type 0
 IsImageSince start [] image = ⊥
 IsImageSince start (now ∷ earlier) image =
-  (start ≤ length (now ∷ earlier)) × (IsImage now image ⊎ IsImageSince start earlier image)
+    (start ≤ length (now ∷ earlier)) × (IsImage now image ⊎ IsImageSince start earlier image)
+
+-- the bytes that a read gives, where the disk tells
+abbrev pub read_bytes : List Content → List ℕ
+read_bytes [] = []
+read_bytes (now ∷ earlier) = now.bytes
 
 -- a disk has this length, where it tells
 abbrev pub HasLength : List Content → ℕ → Type 0

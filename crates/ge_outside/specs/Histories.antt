@@ -1,5 +1,5 @@
 -- What a disk in memory tells.
-use Rattle.std.specs.Prelude.{List}
+use Rattle.std.specs.Prelude.{◌≡◌, List, [], ◌∷◌}
 use Rattle.ge_model_disk.specs.Disk.{Content, settled_content}
 use Rattle.ge_outside.specs.Starts.{start_of}
 use Rattle.ge_outside.specs.Steps.{moments}
@@ -7,3 +7,8 @@ use Rattle.ge_outside.specs.declared.histories.History.{History}
 
 abbrev pub history_told : History → List Content
 history_told h = moments (settled_content (start_of h.first h.bytes.items)) h.steps.items
+
+-- a content is that of the newest moment
+abbrev pub IsNewest : Content → List Content → Type 0
+IsNewest c [] = ⊥
+IsNewest c (now ∷ earlier) = c ≡ now

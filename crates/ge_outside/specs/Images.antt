@@ -1,9 +1,8 @@
 -- A disk in memory reads as one of its images.
-use Rattle.std.specs.Prelude.{◌≡◌, ◌⊎◌, ℕ, ◌+◌, ◌-◌, ◌<◌, ◌≤◌, min, max, List, [], ◌∷◌, ◌++◌, length, take, drop, slice_index, refl}
+use Rattle.std.specs.Prelude.{◌≡◌, ◌⊎◌, ℕ, ◌+◌, ◌-◌, ◌<◌, ◌≤◌, max, List, [], ◌∷◌, ◌++◌, length, take, drop, slice_index, refl}
 use Rattle.std.proofs.Common.{arith, ◌∙◌, ap, length-append, length-take, length-drop, ⊎_elim}
 use Rattle.std.proofs.lemmas.List.{get_or-take, get_or_append_left, get_or-append_right, get_or-drop}
-use Rattle.std.proofs.lemmas.Grind.{common_steps}
-use Rattle.ge_model_disk.specs.Disk.{Content, IsOutside, IsImage, IsImageOf, ReadsAnImage, overwritten, content_written, content_synced, settled_content}
+use Rattle.ge_model_disk.specs.Disk.{Content, IsOutside, IsImage, ReadsAnImage, overwritten, settled_content}
 use Rattle.ge_outside.specs.Steps.{after_step, after_steps, moments}
 use Rattle.ge_outside.specs.declared.memory_steps.Step.{Step}
 use Rattle.ge_outside.specs.declared.memory_steps.Step.TheVariants.{Wrote, Synced}
@@ -11,14 +10,24 @@ use Rattle.ge_outside.specs.declared.memory_steps.Step.TheVariants.{Wrote, Synce
 -- how long overwritten bytes are at least
 pub length-overwritten : (bytes : List ℕ) (at : ℕ) (piece : List ℕ) → length bytes ≤ length (overwritten bytes at piece)
 length-overwritten bytes at piece =
-    omega (arith, length-append (take at bytes) (piece ++ drop (at + length piece) bytes), length-append piece (drop (at + length piece) bytes),
-        length-take at bytes, length-drop (at + length piece) bytes)
+    omega (
+      arith,
+      length-append (take at bytes) (piece ++ drop (at + length piece) bytes),
+      length-append piece (drop (at + length piece) bytes),
+      length-take at bytes,
+      length-drop (at + length piece) bytes,
+    )
 
 -- and at most
 pub length-overwritten-le : (bytes : List ℕ) (at : ℕ) (piece : List ℕ) → length (overwritten bytes at piece) ≤ max (length bytes) (at + length piece)
 length-overwritten-le bytes at piece =
-    omega (arith, length-append (take at bytes) (piece ++ drop (at + length piece) bytes), length-append piece (drop (at + length piece) bytes),
-        length-take at bytes, length-drop (at + length piece) bytes)
+    omega (
+      arith,
+      length-append (take at bytes) (piece ++ drop (at + length piece) bytes),
+      length-append piece (drop (at + length piece) bytes),
+      length-take at bytes,
+      length-drop (at + length piece) bytes,
+    )
 
 -- a byte in front of a piece that was written stays
 pub overwritten-before : (bytes : List ℕ) (at : ℕ) (piece : List ℕ) (place : ℕ) → place < length bytes → place < at
@@ -48,14 +57,15 @@ outside-append place (range ∷ ranges) at size outside =
 -- a step keeps it that a disk reads as one of its images
 pub step_reads : (c : Content) (step : Step) → IsImage c c.bytes → IsImage (after_step c step) (after_step c step).bytes
 step_reads c Synced reads = record { no_shorter = omega arith; no_longer = omega arith; kept = λ place within outside. refl }
-step_reads c (Wrote at piece) reads = record {
-  no_shorter = omega (arith, reads.no_shorter, length-overwritten c.bytes at piece.items);
-  no_longer = omega (arith, reads.no_longer, length-overwritten-le c.bytes at piece.items);
+step_reads c (Wrote write) reads = record {
+  no_shorter = omega (arith, reads.no_shorter, length-overwritten c.bytes write.at write.piece.items);
+  no_longer = omega (arith, reads.no_longer, length-overwritten-le c.bytes write.at write.piece.items);
   kept = λ place within outside.
-    let apart = outside-append place c.pending at (length piece.items) outside in
-    let there : place < length c.bytes = omega (arith, reads.no_shorter) in
-    ⊎_elim (overwritten-before c.bytes at piece.items place there) (overwritten-behind c.bytes at piece.items place there) apart.1
-    ∙ reads.kept place within apart.0 }
+      let apart = outside-append place c.pending write.at (length write.piece.items) outside in
+      let there : place < length c.bytes = omega (arith, reads.no_shorter) in
+      ⊎_elim (overwritten-before c.bytes write.at write.piece.items place there) (overwritten-behind c.bytes write.at write.piece.items place there) apart.1
+      ∙ reads.kept place within apart.0;
+}
 
 pub steps_read : (c : Content) (steps : List Step) → IsImage c c.bytes → IsImage (after_steps c steps) (after_steps c steps).bytes
 steps_read c [] reads = reads

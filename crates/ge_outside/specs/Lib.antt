@@ -12,3 +12,6 @@ pub mod Steps
 pub mod Histories
 pub mod Images
 pub mod MemoryDisks
+pub mod Shown
+pub mod Draws
+pub mod DrawnImages

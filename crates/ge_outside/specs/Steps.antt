@@ -1,17 +1,17 @@
 -- What a disk in memory tells: its moments, from the bytes that it began with and its steps since.
-use Rattle.std.specs.Prelude.{◌≡◌, ℕ, Bool, true, false, if◌then◌else◌, List, [], ◌∷◌, ◌++◌, Vec, Result, Ok, Err, OnOk, OnErr, refl}
-use Rattle.std.specs.declared.alloc.Global.{Global}
+use Rattle.std.specs.Prelude.{◌≡◌, ℕ, Bool, true, false, if◌then◌else◌, List, [], ◌∷◌, ◌++◌, Result, Ok, Err, OnOk, OnErr, refl}
 use Rattle.ge_model_disk.specs.Disk.{Content, content_written, content_synced, overwritten, told_written, told_synced}
+use Rattle.ge_outside.specs.declared.memory_steps.Write.{Write}
 use Rattle.ge_outside.specs.declared.memory_steps.Step.{Step}
 use Rattle.ge_outside.specs.declared.memory_steps.Step.TheVariants.{Wrote, Synced}
 
 -- the steps are one write more, of a copy of this piece
 abbrev pub Keeps : List Step → List Step → ℕ → List ℕ → Type 0
-Keeps steps more at piece = (kept : Vec ℕ Global) × (kept.items ≡ piece) × (more ≡ steps ++ Wrote at kept ∷ [])
+Keeps steps more at piece = (write : Write) × (write.at ≡ at) × (write.piece.items ≡ piece) × (more ≡ steps ++ Wrote write ∷ [])
 
 -- a content after a step
 abbrev pub after_step : Content → Step → Content
-after_step c (Wrote at piece) = content_written c at piece.items
+after_step c (Wrote write) = content_written c write.at write.piece.items
 after_step c Synced = content_synced c
 
 -- a content after steps
@@ -42,14 +42,14 @@ pub write-tied : {T E : Type 0} (c : Content) (steps more : List Step) (bytes no
     → OnOk r (now ≡ overwritten bytes at piece) → OnOk r (Keeps steps more at piece) → OnErr r (now ≡ bytes) → OnErr r (more ≡ steps)
     → bytes ≡ (after_steps c steps).bytes → now ≡ (after_steps c more).bytes
 write-tied c steps more bytes now piece at (Ok x) written pushed stay same tied =
-    rw (pushed.2, after_steps-push c steps (Wrote at pushed.0), written, tied, pushed.1) refl
+    rw (pushed.3, after_steps-push c steps (Wrote pushed.0), written, tied, pushed.1, pushed.2) refl
 write-tied c steps more bytes now piece at (Err e) written pushed stay same tied = rw (same, stay) tied
 
 -- and of the moments
 pub write-told : (c : Content) (steps more : List Step) (piece : List ℕ) (at : ℕ)
     → Keeps steps more at piece → moments c more ≡ told_written (moments c steps) at piece
 write-told c steps more piece at pushed =
-    rw (pushed.2, after_steps-push c steps (Wrote at pushed.0), contents_before-push [] c steps (Wrote at pushed.0), pushed.1) refl
+    rw (pushed.3, after_steps-push c steps (Wrote pushed.0), contents_before-push [] c steps (Wrote pushed.0), pushed.1, pushed.2) refl
 
 -- what a sync more makes of both
 pub sync-tied : (c : Content) (steps more : List Step) (bytes : List ℕ) (ok : Bool)

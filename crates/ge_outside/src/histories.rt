@@ -1,12 +1,14 @@
 // The past of a disk in memory.
-ghost use Rattle.std.specs.Prelude.{◌≡◌, ◌≤◌, ◌++◌, ◌∷◌, [], List, ℕ, length, OnOk, OnErr};
+ghost use Rattle.std.specs.Prelude.{◌≡◌, ◌≤◌, ◌+◌, ◌^◌, ◌∷◌, [], List, ℕ, length, IfOk, OnOk, OnErr};
 ghost use Rattle.ge_model_disk.specs.Disk.{settled_content, overwritten, IsWithin, told_written, told_synced};
 ghost use Rattle.ge_outside.specs.Starts.{start_of};
 ghost use Rattle.ge_outside.specs.Steps.{after_steps, Keeps};
 ghost use Rattle.ge_outside.specs.declared.memory_steps.Step.TheVariants.{Wrote, Synced};
 
-use crate::memory_steps::Step;
+use crate::memory_steps::{Step, Write};
 use crate::overwriting::overwrite;
+use crate::replays::replay;
+use crate::showing::Shown;
 use std::alloc::{AllocError, Global};
 
 /// What a disk in memory holds and what was done to it, so that it tells what it held at each moment.
@@ -21,7 +23,8 @@ pub struct History {
 }
 
 impl History {
-    ghost use Rattle.ge_outside.specs.Histories.{history_told};
+    ghost use Rattle.ge_outside.specs.Histories.{history_told, IsNewest};
+    ghost use Rattle.ge_outside.specs.Shown.{shown_content};
 
     pub fn new(alloc: Global, bytes: Vec<u8>) -> Self
         ensures { history_told result ≡ settled_content bytes.items ∷ [] }
@@ -33,15 +36,36 @@ impl History {
         }
     }
 
-    /// Makes a write and keeps it, or does neither.
+    /// A write, with a copy of its bytes.
+    fn copied(alloc: Global, at: u64, piece: &[u8]) -> Result<Write, AllocError>
+        requires { at + length piece.now ≤ 2 ^ 30 }
+        ensures at { IfOk result (λ write. write.at ≡ at) }
+        ensures piece { IfOk result (λ write. write.piece.items ≡ piece.now) }
+    {
+        let piece = piece.to_vec(alloc)?;
+        Ok(Write { at, piece })
+    }
+
+    // Makes a write and keeps it, or does neither.
     pub fn write(&mut self, alloc: Global, at: u64, piece: &[u8]) -> Result<(), AllocError>
-        requires { IsWithin (history_told self.old) at }
+        requires below_limit { at + length piece.now ≤ 2 ^ 30 }
+        requires within { IsWithin (history_told self.old) at }
         ensures written { OnOk result (history_told self.new ≡ told_written (history_told self.old) at piece.now) }
         ensures stays { OnErr result (history_told self.new ≡ history_told self.old) }
     {
         keep_first(alloc, &mut self.first, &self.bytes)?;
         keep_write(alloc, &mut self.bytes, &mut self.steps, at, piece)?;
         Ok(())
+    }
+
+    /// What the disk holds now.
+    pub fn shown(&self, alloc: Global) -> Result<Shown, AllocError>
+        ensures { IfOk result (λ shown. IsNewest (shown_content shown) (history_told self.now)) }
+    {
+        match &self.first {
+            Some(first) => replay(alloc, first.as_slice(), self.steps.as_slice()),
+            None => replay(alloc, self.bytes.as_slice(), self.steps.as_slice()),
+        }
     }
 
     /// Keeps a sync.
@@ -65,6 +89,16 @@ fn keep_first(alloc: Global, first: &mut Option<Vec<u8>>, bytes: &Vec<u8>) -> Re
     Ok(())
 }
 
+// A write, with a copy of its bytes.
+fn copied(alloc: Global, at: u64, piece: &[u8]) -> Result<Write, AllocError>
+    requires { at + length piece.now ≤ 2 ^ 30 }
+    ensures at { IfOk result (λ write. write.at ≡ at) }
+    ensures piece { IfOk result (λ write. write.piece.items ≡ piece.now) }
+{
+    let piece = piece.to_vec(alloc)?;
+    Ok(Write { at, piece })
+}
+
 // Makes a write and keeps it, or does neither.
 fn keep_write(
     alloc: Global,
@@ -73,13 +107,15 @@ fn keep_write(
     at: u64,
     piece: &[u8],
 ) -> Result<(), AllocError>
-    requires { at ≤ length bytes.old.items }
+    requires below_limit { at + length piece.now ≤ 2 ^ 30 }
+    requires within { at ≤ length bytes.old.items }
     ensures bytes { OnOk result (bytes.new.items ≡ overwritten bytes.old.items at piece.now) }
     ensures step { OnOk result (Keeps steps.old.items steps.new.items at piece.now) }
     ensures bytes_stay { OnErr result (bytes.new.items ≡ bytes.old.items) }
     ensures steps_stay { OnErr result (steps.new.items ≡ steps.old.items) }
 {
-    steps.push(Step::Wrote(at, piece.to_vec(alloc)?))?;
+    let write = copied(alloc, at, piece)?;
+    steps.push(Step::Wrote(write))?;
     if overwrite(bytes, at as usize, piece).is_err() {
         let _ = steps.pop();
         return Err(AllocError);

@@ -7,6 +7,7 @@
 mod clocks;
 mod disks;
 mod doors;
+mod draws;
 mod failure;
 mod histories;
 mod memory_clocks;
@@ -16,7 +17,9 @@ mod memory_links;
 mod memory_steps;
 mod memory_streams;
 mod overwriting;
+mod replays;
 mod schedules;
+mod showing;
 mod streams;
 
 pub use clocks::Clock;
@@ -29,3 +32,6 @@ pub use memory_doors::MemDoor;
 pub use memory_links::MemLink;
 pub use memory_streams::{MemSink, MemSource, PlainSource};
 pub use streams::{Link, Sink, Source, write_all};
+
+#[cfg(test)]
+mod tests;

@@ -1,12 +1,13 @@
 // A disk in memory.
-ghost use Rattle.std.specs.Prelude.{◌≡◌, ◌+◌, ◌^◌, ◌≤◌, ℕ, List, length, IfOk, IsErr, OnOk, OnErr};
+ghost use Rattle.std.specs.Prelude.{◌≡◌, ◌↔◌, ◌+◌, ◌^◌, ◌≤◌, ℕ, List, length, IfOk, IsErr, OnOk, OnErr};
 ghost use Rattle.ge_model_disk.specs.Disk.{settled_content};
 ghost use Rattle.ge_outside.specs.Starts.{start_of};
 
+use crate::draws::draw_image;
 use crate::histories::History;
 use crate::schedules::{Schedule, fill};
 use crate::{Disk, Failed};
-use std::alloc::Global;
+use std::alloc::{AllocError, Global};
 
 /// A disk in memory, of which chosen calls fail. It keeps each write and each sync since it was made, so
 /// that it tells what it held at each moment. A write that fails may still reach it.
@@ -22,6 +23,8 @@ pub struct MemDisk {
 impl MemDisk {
     ghost use Rattle.std.specs.Prelude.{[], ◌∷◌};
     ghost use Rattle.ge_outside.specs.MemoryDisks.{disk_told, disk_schedule, disk_fault_count, disk_sync_count};
+    ghost use Rattle.ge_model_disk.specs.Disk.{IsImageNow, read_bytes};
+    ghost use Rattle.ge_outside.specs.DrawnImages.{drawn_now};
 
     /// A disk that holds these bytes, with nothing pending. The calls whose numbers, counted from 1, are
     /// in `fails` fail.
@@ -38,6 +41,26 @@ impl MemDisk {
             faults: 0,
             syncs: 0,
         }
+    }
+
+    /// What a read gives.
+    pub fn bytes(&self) -> &[u8]
+        ensures { result.now ≡ read_bytes (disk_told self.now) }
+    {
+        self.history.bytes.as_slice()
+    }
+
+    /// A disk of what a stop might leave now, chosen by `pick`: nothing is pending on it, and no call fails.
+    pub fn image(&self, pick: u64) -> Result<MemDisk, AllocError>
+        ensures told { IfOk result (λ disk. disk_told disk ≡ settled_content (drawn_now (disk_told self.now) pick) ∷ []) }
+        ensures image { OnOk result (IsImageNow (disk_told self.now) (drawn_now (disk_told self.now) pick)) }
+        ensures faults { IfOk result (λ disk. disk_fault_count disk ≡ 0) }
+        ensures fails { IfOk result (λ disk. (disk_schedule disk).fails.items ≡ []) }
+        ensures calls { IfOk result (λ disk. (disk_schedule disk).calls ≡ 0) }
+    {
+        let shown = self.history.shown(self.alloc)?;
+        let bytes = draw_image(self.alloc, &shown, pick)?;
+        Ok(MemDisk::new(self.alloc, bytes, Vec::new(self.alloc)))
     }
 }
 
@@ -58,7 +81,16 @@ impl Disk for MemDisk {
 
     ghost reads_an_image = { λ disk. reads_an_image (start_of disk.history.first disk.history.bytes.items) disk.history.steps.items };
 
-    fn len(&mut self) -> Result<u64, Failed> {
+    /// It fails exactly at the calls that were chosen.
+    fn len(&mut self) -> Result<u64, Failed>
+        ensures bound { IfOk result (λ n. n ≤ 2 ^ 63) }
+        ensures length { IfOk result (λ n. HasLength (disk_told self.old) n) }
+        ensures told { disk_told self.new ≡ disk_told self.old }
+        ensures syncs { disk_sync_count self.new ≡ disk_sync_count self.old }
+        ensures cause { HasCause (disk_fault_count self.old) (disk_fault_count self.new) result }
+        ensures due { IsErr result ↔ IsDue (disk_schedule self.old) }
+        ensures calls { disk_schedule self.new ≡ next_call (disk_schedule self.old) }
+    {
         if self.schedule.next_fails() {
             self.faults = self.faults.saturating_add(1);
             return Err(Failed);
@@ -66,7 +98,16 @@ impl Disk for MemDisk {
         Ok(self.history.bytes.len() as u64)
     }
 
-    fn read_at(&mut self, at: u64, buf: &mut [u8]) -> Result<usize, Failed> {
+    /// It fails exactly at the calls that were chosen.
+    fn read_at(&mut self, at: u64, buf: &mut [u8]) -> Result<usize, Failed>
+        ensures bound { IfOk result (λ n. n ≤ length buf.old) }
+        ensures read { IfOk result (λ n. Reads (disk_told self.old) at n buf.old buf.new) }
+        ensures told { disk_told self.new ≡ disk_told self.old }
+        ensures syncs { disk_sync_count self.new ≡ disk_sync_count self.old }
+        ensures cause { HasCause (disk_fault_count self.old) (disk_fault_count self.new) result }
+        ensures due { IsErr result ↔ IsDue (disk_schedule self.old) }
+        ensures calls { disk_schedule self.new ≡ next_call (disk_schedule self.old) }
+    {
         if self.schedule.next_fails() {
             self.faults = self.faults.saturating_add(1);
             return Err(Failed);
@@ -76,7 +117,18 @@ impl Disk for MemDisk {
         Ok(fill(rest, buf))
     }
 
-    fn write_at(&mut self, at: u64, piece: &[u8]) -> Result<(), Failed> {
+    /// It fails at the calls that were chosen, where the write is made nevertheless, and where there is no
+    /// memory, where it is not.
+    fn write_at(&mut self, at: u64, piece: &[u8]) -> Result<(), Failed>
+        requires below_limit { at + length piece.now ≤ 2 ^ 30 }
+        requires within { IsWithin (disk_told self.old) at }
+        ensures written { OnOk result (disk_told self.new ≡ told_written (disk_told self.old) at piece.now) }
+        ensures failed { OnErr result (StaysOrWrites (disk_told self.old) (disk_told self.new) at piece.now) }
+        ensures syncs { disk_sync_count self.new ≡ disk_sync_count self.old }
+        ensures cause { HasCause (disk_fault_count self.old) (disk_fault_count self.new) result }
+        ensures due { IsDue (disk_schedule self.old) → IsErr result }
+        ensures calls { disk_schedule self.new ≡ next_call (disk_schedule self.old) }
+    {
         let fails = self.schedule.next_fails();
         if self.history.write(self.alloc, at, piece).is_err() || fails {
             self.faults = self.faults.saturating_add(1);
@@ -85,7 +137,16 @@ impl Disk for MemDisk {
         Ok(())
     }
 
-    fn sync(&mut self) -> Result<(), Failed> {
+    /// It fails at the calls that were chosen, and where there is no memory.
+    fn sync(&mut self) -> Result<(), Failed>
+        ensures synced { OnOk result (disk_told self.new ≡ told_synced (disk_told self.old)) }
+        ensures failed { OnErr result (disk_told self.new ≡ disk_told self.old) }
+        ensures counted { disk_sync_count self.new ≤ disk_sync_count self.old + 1 }
+        ensures later { disk_sync_count self.old ≤ disk_sync_count self.new }
+        ensures cause { HasCause (disk_fault_count self.old) (disk_fault_count self.new) result }
+        ensures due { IsDue (disk_schedule self.old) → IsErr result }
+        ensures calls { disk_schedule self.new ≡ next_call (disk_schedule self.old) }
+    {
         if self.schedule.next_fails() || self.history.sync().is_err() {
             self.faults = self.faults.saturating_add(1);
             return Err(Failed);

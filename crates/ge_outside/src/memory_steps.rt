@@ -1,8 +1,17 @@
 // What a disk in memory keeps of its past.
+ghost use Rattle.std.specs.Prelude.{◌+◌, ◌^◌, ◌≤◌, vec_len};
+
+/// A write: the place and the bytes.
+#[derive(Drop)]
+pub struct Write {
+    pub at: u64,
+    pub piece: Vec<u8>,
+    ghost below_limit: { at + vec_len piece ≤ 2 ^ 30 },
+}
 
 /// What a call did to a disk.
 #[derive(Drop)]
 pub enum Step {
-    Wrote(u64, Vec<u8>),
+    Wrote(Write),
     Synced,
 }

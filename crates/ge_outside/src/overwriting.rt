@@ -12,12 +12,12 @@ fn put(bytes: &mut [u8], at: usize, piece: &[u8])
     bytes[at..at + piece.len()].copy_from_slice(piece);
 }
 
-/// Writes over what stands at `at`, and past the end.
+/// Writes over what stands at `at`, and past the end; at the end, where `at` lies past it.
 pub fn overwrite(bytes: &mut Vec<u8>, at: usize, piece: &[u8]) -> Result<(), AllocError>
-    requires { at ≤ vec_len bytes.old }
     ensures ok { OnOk result (bytes.new.items ≡ overwritten bytes.old.items at piece.now) }
     ensures err { OnErr result (bytes.new.items ≡ bytes.old.items) }
 {
+    let at = at.min(bytes.len());
     let inside = piece.len().min(bytes.len() - at);
     let (over, beyond) = piece.split_at(inside);
     bytes.extend_from_slice(beyond)?;

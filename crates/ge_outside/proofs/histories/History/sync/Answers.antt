@@ -1,5 +1,3 @@
-use Rattle.ge_model_disk.specs.Disk.{settled_content}
-use Rattle.ge_outside.specs.Starts.{start_of}
 use Rattle.ge_outside.specs.Steps.{sync-tied, sync-told}
 use Rattle.ge_outside.proofs.histories.History.sync.Goals as goal
 
