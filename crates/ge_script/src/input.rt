@@ -2,7 +2,7 @@
 ghost use Rattle.std.specs.Prelude.{◌≡◌, ◌≤◌, ◌<◌, ◌^◌, ℕ, [], ◌++◌, length, take, vec_len, IfOk, OnOk, IfSome, IsErrOf, IsTrue, true, false, MatchBool, ⊤};
 ghost use Rattle.ge_outside.specs.Faults.{Rose};
 ghost use Rattle.ge_script.specs.declared.input.ScriptFault.TheVariants.{Read, Memory};
-ghost use Rattle.ge_script.specs.Input.{Moved, Ended};
+ghost use Rattle.ge_model_script.specs.Sources.{Moved, IsReadToEnd};
 
 use ge_outside::{Failed, Source};
 use std::alloc::{AllocError, Global};
@@ -55,7 +55,7 @@ fn read_more<S: Source>(
     requires { 0 < length chunk.old }
     ensures moved { IfOk result (λ some. Moved (S.rest input.old) (S.rest input.new) bytes.old.items bytes.new.items) }
     ensures more { IfOk result (λ some. MatchBool some (vec_len bytes.old < vec_len bytes.new) (vec_len bytes.new ≡ vec_len bytes.old)) }
-    ensures ended { IfOk result (λ some. MatchBool some ⊤ (Ended (S.rest input.new))) }
+    ensures ended { IfOk result (λ some. MatchBool some ⊤ (IsReadToEnd (S.rest input.new))) }
     ensures later { S.read_faults input.old ≤ S.read_faults input.new }
     ensures fault { IsErrOf result ScriptFault.Read → Rose (S.read_faults input.old) (S.read_faults input.new) }
     ensures long { IsErrOf result ScriptFault.Long → ⊥ }
@@ -71,6 +71,7 @@ fn read_more<S: Source>(
 pub fn read_script<S: Source>(alloc: Global, input: &mut S) -> Result<Vec<u8>, ScriptFault>
     ensures whole { IfOk result (λ bytes. IfSome (S.rest input.old) (λ script. bytes.items ≡ script)) }
     ensures below { IfOk result (λ bytes. vec_len bytes < 2 ^ 40) }
+    ensures ended { OnOk result (IsReadToEnd (S.rest input.new)) }
     ensures long { IsErrOf result ScriptFault.Long → IfSome (S.rest input.old) (λ script. 2 ^ 40 ≤ length script) }
     ensures later { S.read_faults input.old ≤ S.read_faults input.new }
     ensures fault { IsErrOf result ScriptFault.Read → Rose (S.read_faults input.old) (S.read_faults input.new) }

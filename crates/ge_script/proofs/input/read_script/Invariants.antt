@@ -1,6 +1,6 @@
 use Rattle.std.proofs.Common.{[], ◌-◌, ◌^◌, ◌≤◌, ◌<◌, vec_len}
 use Rattle.std.specs.Vec.{vec_items}
-use Rattle.ge_script.specs.Input.{Moved}
+use Rattle.ge_model_script.specs.Sources.{Moved}
 use Rattle.ge_script.proofs.input.read_script.Given as goal
 
 -- what was read, and what is left, are the script

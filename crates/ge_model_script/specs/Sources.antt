@@ -9,6 +9,6 @@ Moved None (Some new) before after = ⊥
 Moved (Some old) None before after = ⊥
 
 -- a source that tells has nothing left
-abbrev pub Ended : Option (List ℕ) → Type 0
-Ended None = Unit {0}
-Ended (Some rest) = rest ≡ []
+abbrev pub IsReadToEnd : Option (List ℕ) → Type 0
+IsReadToEnd None = Unit {0}
+IsReadToEnd (Some rest) = rest ≡ []
