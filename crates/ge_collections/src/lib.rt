@@ -1,0 +1,22 @@
+//! The collections that every row is made of, each seen by contracts as one plain value.
+//!
+//! - [`Text`]: bytes; contracts see a list of numbers below 256.
+//! - [`List`]: items in their order; contracts see a list.
+//! - [`Table`]: a map in the order of its keys; contracts see the list of its pairs, whose keys strictly rise.
+//! - [`Twin`]: an equal copy, which may want memory.
+//! - [`Edit`], [`TryEdit`]: an edit in place of one value of a table, without and with memory.
+//!
+//! A call that finds no memory answers `AllocError` and leaves the collection as it was.
+#![tactic(auto)]
+
+mod edit;
+mod list;
+mod table;
+mod text;
+mod twin;
+
+pub use edit::{Edit, TryEdit};
+pub use list::List;
+pub use table::Table;
+pub use text::Text;
+pub use twin::{Twin, twins2, twins3, twins4};

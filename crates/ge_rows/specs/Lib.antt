@@ -1,0 +1,5 @@
+pub use Rattle.ge_collections.specs.Changed
+pub use Rattle.ge_collections.specs.Keyed
+pub mod Opening
+pub mod Parts
+pub mod TaskSet

@@ -1,0 +1,48 @@
+//! The rows: everything that the cluster keeps, that a command says, that a run decides and that the spool holds,
+//! as plain records and enums over [`Text`], [`List`] and [`Table`].
+//!
+//! - `values`: values, their kinds, the rows of the complex table.
+//! - `hosts`, `queues`, `quotas`, `people`, `settings`: what `qconf` configures.
+//! - `tasks`, `jobs`, `accounts`: jobs, their tasks and sets of tasks, accounting lines.
+//! - `cluster`: all of these together; `opening_rows`: the cluster before the first command.
+//! - `scheduling`: limits, bookings and the decisions of a run.
+//! - `entries`: what an accepted command changes.
+//! - `events`, `commands`: what comes in, as it is read, and the replies.
+//!
+//! All fields are public but those of [`TaskSet`], whose spans keep one form. An empty text in place of a
+//! project or of a parallel environment means none. Amounts are whole numbers: seconds, bytes, or millionths of
+//! a DOUBLE. Rows with many parts have a `Drop` of their own, so their parts are given by `into_parts`.
+#![tactic(auto)]
+
+mod accounts;
+mod cluster;
+mod commands;
+mod entries;
+mod events;
+mod hosts;
+mod jobs;
+mod opening_rows;
+mod people;
+mod queues;
+mod quotas;
+mod scheduling;
+mod settings;
+mod tasks;
+mod values;
+
+pub use accounts::Line;
+pub use cluster::Cluster;
+pub use commands::{Command, Listing, Options, Query};
+pub use entries::{Change, Entry, Item, Key, ObjectKind, Patch, Pick};
+pub use events::{Event, Form, Reply};
+pub use ge_collections::{Edit, List, Table, Text, TryEdit, Twin, twins2, twins3, twins4};
+pub use hosts::{Groups, HostRow, InstanceId};
+pub use jobs::{Grant, Job, PeRequest, Request, Running};
+pub use opening_rows::{default_queue, default_sched, opening};
+pub use people::{ProjectRow, ShareNode, UserRow};
+pub use queues::{Allocation, Attr, PeRow, QueueRow, UrgencySlots};
+pub use quotas::{Filter, QuotaRow, Rule};
+pub use scheduling::{Booking, Decision, Demand, LimitId, Prio, QuotaKey, Reservation, Start};
+pub use settings::{Sched, SortMethod};
+pub use tasks::{TaskId, TaskSet, TaskSpan};
+pub use values::{ComplexDef, Consumable, INFINITY, Kind, Relop, Requestable, Value};
