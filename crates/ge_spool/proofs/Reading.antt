@@ -129,7 +129,7 @@ records_of-area bytes generation snapshot records end area =
     ∙ ap (λ k. Ok (records, k)) (omega (arith, area.place, area.is_top.size))
 
 -- a test is one or the other
-either : (b : Bool) → (b ≡ true) ⊎ (b ≡ false)
+pub either : (b : Bool) → (b ≡ true) ⊎ (b ≡ false)
 either true = inl refl
 either false = inr refl
 
