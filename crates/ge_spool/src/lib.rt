@@ -1,0 +1,4 @@
+//! A journal for any bodies, in two areas of disks.
+#![tactic(auto)]
+
+mod laying;
