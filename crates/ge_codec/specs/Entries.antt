@@ -22,7 +22,7 @@ module _ {K V : Type 0} (cmp : K → K → Ordering) (key : Code K) (value : Cod
   pair = pair_canonical k v
 
   -- a pair is read as a pair, where its key may stand
-  entry_back : (last : Option K) (bytes : List ℕ) (at : ℕ) (e : K × V) (rest : List ℕ) → IsTrue (is_next cmp key value last e.0) → IsTrue ((pair_code key value).fits e) → drop at bytes ≡ (pair_code key value).write e ++ rest
+  entry_back : (last : Option K) (bytes : List ℕ) (at : ℕ) (e : K × V) (rest : List ℕ) → IsTrue (is_next cmp last e.0) → IsTrue ((pair_code key value).fits e) → drop at bytes ≡ (pair_code key value).write e ++ rest
       → entry_at cmp key value last bytes at ≡ Ok (e, at + length ((pair_code key value).write e))
   entry_back last bytes at e rest above fits here =
       let each = both (key.fits e.0) (value.fits e.1) fits in
@@ -31,8 +31,8 @@ module _ {K V : Type 0} (cmp : K → K → Ordering) (key : Code K) (value : Cod
       let one = k.reads_back bytes at e.0 (value.write e.1 ++ rest) each.0 here_key in
       let two = v.reads_back bytes mid e.1 rest each.1 (drop-past bytes at (key.write e.0) (value.write e.1 ++ rest) here_key) in
       let end : mid + length (value.write e.1) ≡ at + length (key.write e.0 ++ value.write e.1) = omega (arith, length-append (key.write e.0) (value.write e.1)) in
-      ap (λ r. after_it r (λ x mid. if is_next cmp key value last x then after_it (value.read bytes mid) (λ y end. Ok ((x, y), end)) else Err (Range at))) one
-      ∙ if_true (is_next cmp key value last e.0) (after_it (value.read bytes mid) (λ y end. Ok ((e.0, y), end))) (Err (Range at)) above
+      ap (λ r. after_it r (λ x mid. if is_next cmp last x then after_it (value.read bytes mid) (λ y end. Ok ((x, y), end)) else Err (Range at))) one
+      ∙ if_true (is_next cmp last e.0) (after_it (value.read bytes mid) (λ y end. Ok ((e.0, y), end))) (Err (Range at)) above
       ∙ ap (λ r. after_it r (λ y end. Ok ((e.0, y), end))) two
       ∙ (λ i. Ok (e, end i))
 
@@ -41,16 +41,16 @@ module _ {K V : Type 0} (cmp : K → K → Ordering) (key : Code K) (value : Cod
   if_read false reading fault q h = cc
 
   -- a pair that is read stands there, and its key may
-  entry_stands : (last : Option K) (bytes : List ℕ) (at : ℕ) (e : K × V) (end : ℕ) → AreBytes bytes → at ≤ length bytes → entry_at cmp key value last bytes at ≡ Ok (e, end) → IsTrue (is_next cmp key value last e.0) × StandsAt (pair_code key value) bytes at e end
+  entry_stands : (last : Option K) (bytes : List ℕ) (at : ℕ) (e : K × V) (end : ℕ) → AreBytes bytes → at ≤ length bytes → entry_at cmp key value last bytes at ≡ Ok (e, end) → IsTrue (is_next cmp last e.0) × StandsAt (pair_code key value) bytes at e end
   entry_stands last bytes at e end are in_range h =
-      let outer = after_it-ok (key.read bytes at) (λ x mid. if is_next cmp key value last x then after_it (value.read bytes mid) (λ y end. Ok ((x, y), end)) else Err (Range at)) (e, end) h in
+      let outer = after_it-ok (key.read bytes at) (λ x mid. if is_next cmp last x then after_it (value.read bytes mid) (λ y end. Ok ((x, y), end)) else Err (Range at)) (e, end) h in
       let q = outer.0 in
-      let kept = if_read (is_next cmp key value last q.0) (after_it (value.read bytes q.1) (λ y end. Ok ((q.0, y), end))) (Range at) (e, end) outer.2 in
+      let kept = if_read (is_next cmp last q.0) (after_it (value.read bytes q.1) (λ y end. Ok ((q.0, y), end))) (Range at) (e, end) outer.2 in
       let inner = after_it-ok (value.read bytes q.1) (λ y end. Ok ((q.0, y), end)) (e, end) kept.1 in
       let whole : ◌≡◌ {A = (K × V) × ℕ} ((q.0, inner.0.0), inner.0.1) (e, end) = ok_is _ _ inner.2 in
       let key_is : q.0 ≡ e.0 = ap (λ w. w.0.0) whole in
       let again : (pair_code key value).read bytes at ≡ Ok (e, end) = ap (λ r. after_it r (λ x mid. after_it (value.read bytes mid) (λ y end. Ok ((x, y), end)))) outer.1 ∙ kept.1 in
-      (subst (λ x. IsTrue (is_next cmp key value last x)) key_is kept.0, pair.writes_back bytes at e end are in_range again)
+      (subst (λ x. IsTrue (is_next cmp last x)) key_is kept.0, pair.writes_back bytes at e end are in_range again)
 
   more-ok : (reading : Reading (K × V)) (rest : K × V → ℕ → Reading (List (K × V))) (q : List (K × V) × ℕ) → ◌≡◌ {A = Reading (List (K × V))} (elim reading [ Ok p ↦ made (λ es. p.0 ∷ es) (rest p.0 p.1) | Err fault ↦ Err fault ]) (Ok q)
       → (p : (K × V) × ℕ) × (reading ≡ Ok p) × (t : List (K × V) × ℕ) × (rest p.0 p.1 ≡ Ok t) × (p.0 ∷ t.0 ≡ q.0) × (t.1 ≡ q.1)
@@ -58,16 +58,16 @@ module _ {K V : Type 0} (cmp : K → K → Ordering) (key : Code K) (value : Cod
   more-ok (Err fault) rest q h = cc
 
   -- the two tests of the entries, for one more of them
-  entries_split : (last : Option K) (e : K × V) (es : List (K × V)) → IsTrue (are_entries cmp key value last (e ∷ es)) → IsTrue (is_next cmp key value last e.0) × IsTrue ((pair_code key value).fits e) × IsTrue (are_entries cmp key value (Some e.0) es)
+  entries_split : (last : Option K) (e : K × V) (es : List (K × V)) → IsTrue (are_entries cmp key value last (e ∷ es)) → IsTrue (is_next cmp last e.0) × IsTrue ((pair_code key value).fits e) × IsTrue (are_entries cmp key value (Some e.0) es)
   entries_split last e es h =
-      let halves = both (is_rising cmp key value last (e ∷ es)) (list_all (pair_code key value).fits (e ∷ es)) h in
-      let rise = both (is_next cmp key value last e.0) (is_rising cmp key value (Some e.0) es) halves.0 in
+      let halves = both (is_rising cmp last (e ∷ es)) (list_all (pair_code key value).fits (e ∷ es)) h in
+      let rise = both (is_next cmp last e.0) (is_rising cmp (Some e.0) es) halves.0 in
       let fit = both ((pair_code key value).fits e) (list_all (pair_code key value).fits es) halves.1 in
       (rise.0, fit.0, and_of _ _ rise.1 fit.1)
 
-  entries_joined : (last : Option K) (e : K × V) (es : List (K × V)) → IsTrue (is_next cmp key value last e.0) → IsTrue ((pair_code key value).fits e) → IsTrue (are_entries cmp key value (Some e.0) es) → IsTrue (are_entries cmp key value last (e ∷ es))
+  entries_joined : (last : Option K) (e : K × V) (es : List (K × V)) → IsTrue (is_next cmp last e.0) → IsTrue ((pair_code key value).fits e) → IsTrue (are_entries cmp key value (Some e.0) es) → IsTrue (are_entries cmp key value last (e ∷ es))
   entries_joined last e es above fits rest =
-      let halves = both (is_rising cmp key value (Some e.0) es) (list_all (pair_code key value).fits es) rest in
+      let halves = both (is_rising cmp (Some e.0) es) (list_all (pair_code key value).fits es) rest in
       and_of _ _ (and_of _ _ above halves.0) (and_of _ _ fits halves.1)
 
   entries_back : (es : List (K × V)) (last : Option K) (bytes : List ℕ) (at : ℕ) (rest : List ℕ) → IsTrue (are_entries cmp key value last es) → at ≤ length bytes → drop at bytes ≡ flat_map (pair_code key value).write es ++ rest

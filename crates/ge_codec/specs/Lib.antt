@@ -1,4 +1,5 @@
 pub mod Entries
+pub mod Fronts
 pub mod Laws
 pub mod Led
 pub mod Numbers

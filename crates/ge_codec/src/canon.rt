@@ -1,8 +1,9 @@
 // Writing and reading of values as canonical bytes.
-ghost use Rattle.std.specs.Prelude.{◌≡◌, ◌++◌, ◌≤◌, length, take, IfOk, OnOk, OnErr};
+ghost use Rattle.std.specs.Prelude.{◌≡◌, ◌++◌, ◌≤◌, length, IfOk, OnOk, OnErr};
 ghost use Rattle.ge_model_codec.specs.Code.{Code};
 ghost use Rattle.ge_model_codec.specs.Canonical.{IsCanonical, IsPrefixFree};
 ghost use Rattle.ge_model_codec.specs.Reading.{Reads};
+ghost use Rattle.ge_codec.specs.Fronts.{IsFront};
 ghost use Rattle.ge_codec.specs.Places.{prefix_free_from};
 
 use ge_model_codec::TakeFault;
@@ -17,7 +18,7 @@ pub trait Canon: Sized {
     /// Puts the value's bytes at the end. After want of memory the bytes that stood are the front of what stands.
     fn put(&self, out: &mut Text) -> Result<(), AllocError>
         ensures ok { OnOk result (out.new ≡ out.old ++ code.write self.now) }
-        ensures err { OnErr result (take (length out.old) out.new ≡ out.old) };
+        ensures err { OnErr result (IsFront out.old out.new) };
 
     /// Reads a value at a place, which is at most the length, and tells where it ends.
     fn take(alloc: Global, bytes: &[u8], at: usize) -> Result<(Self, usize), TakeFault>

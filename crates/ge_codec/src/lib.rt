@@ -7,6 +7,7 @@
 
 mod canon;
 mod numbers;
+mod texts;
 
 pub use canon::Canon;
 pub use ge_model_codec::TakeFault;

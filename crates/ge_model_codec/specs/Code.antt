@@ -143,21 +143,22 @@ module _ {X Y : Type 0} (first : Code X) (rest : Code Y) where
     read = λ bytes at. after_it (first.read bytes at) (λ x mid. after_it (rest.read bytes mid) (λ y end. Ok ((x, y), end)));
   }
 
-module _ {K V : Type 0} (cmp : K → K → Ordering) (key : Code K) (value : Code V) where
+module _ {K : Type 0} (cmp : K → K → Ordering) where
   -- whether a key stands above the one before it, if there is one
   abbrev pub is_next : Option K → K → Bool
   is_next None k = true
   is_next (Some last) k = is_lt (cmp last k)
 
   -- whether the keys strictly rise, from above this one on
-  abbrev pub is_rising : Option K → List (K × V) → Bool
+  abbrev pub is_rising : {V : Type 0} → Option K → List (K × V) → Bool
   is_rising last [] = true
   is_rising last (e ∷ es) = is_next last e.0 && is_rising (Some e.0) es
 
+module _ {K V : Type 0} (cmp : K → K → Ordering) (key : Code K) (value : Code V) where
   -- a pair whose key stands above the one before it
   abbrev pub entry_at : Option K → List ℕ → ℕ → Reading (K × V)
   entry_at last bytes at = after_it (key.read bytes at)
-      (λ k mid. if is_next last k then after_it (value.read bytes mid) (λ v end. Ok ((k, v), end)) else Err (Range at))
+      (λ k mid. if is_next cmp last k then after_it (value.read bytes mid) (λ v end. Ok ((k, v), end)) else Err (Range at))
 
   -- so many pairs, one behind the other
   abbrev pub entries_at : ℕ → Option K → List ℕ → ℕ → Reading (List (K × V))
@@ -169,7 +170,7 @@ module _ {K V : Type 0} (cmp : K → K → Ordering) (key : Code K) (value : Cod
 
   -- whether each key and value is one of its type, and the keys strictly rise from above this one on
   abbrev pub are_entries : Option K → List (K × V) → Bool
-  are_entries last es = is_rising last es && list_all (pair_code key value).fits es
+  are_entries last es = is_rising cmp last es && list_all (pair_code key value).fits es
 
   abbrev pub table_code : Code (List (K × V))
   table_code = counted_code length (are_entries None) (λ es. flat_map (pair_code key value).write es) (λ n bytes at. entries_at n None bytes at)
