@@ -7,6 +7,7 @@
 
 mod canon;
 mod numbers;
+mod pairs;
 mod texts;
 
 pub use canon::Canon;
