@@ -1,0 +1,9 @@
+pub mod Entries
+pub mod Fronts
+pub mod Laws
+pub mod Led
+pub mod Numbers
+pub mod Parts
+pub mod Passing
+pub mod Places
+pub mod Variants
