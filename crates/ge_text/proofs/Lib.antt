@@ -1,1 +1,3 @@
+pub mod PatternLemmas
+pub mod StandsLemmas
 pub mod WordsLemmas
