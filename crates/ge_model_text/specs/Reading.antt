@@ -102,7 +102,7 @@ whole_amount Fixed n = cut (1000000 * n)
 abbrev pub part_amount : Form → ℕ → ℕ → ℕ
 part_amount Int whole millionths = whole
 part_amount Time whole millionths = whole
-part_amount Memory whole millionths = whole
+part_amount Memory whole millionths = cut (scaled (1000000 * whole + millionths) 1)
 part_amount Fixed whole millionths = cut (1000000 * whole + millionths)
 
 -- the amount of what was read, where it is a whole text

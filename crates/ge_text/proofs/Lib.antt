@@ -1,3 +1,4 @@
+pub mod NumberLemmas
 pub mod PatternLemmas
 pub mod StandsLemmas
 pub mod WordsLemmas

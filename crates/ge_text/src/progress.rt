@@ -201,7 +201,8 @@ fn amount_of_part(form: Form, whole: u64, millionths: u64) -> u64
 {
     match form {
         Form::Fixed => cut_amount(in_millionths(whole, millionths)),
-        _ => whole,
+        Form::Memory => cut_amount(in_millionths(whole, millionths) / 1_000_000),
+        Form::Int | Form::Time => whole,
     }
 }
 
