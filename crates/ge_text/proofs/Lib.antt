@@ -1,4 +1,5 @@
 pub mod NumberLemmas
 pub mod PatternLemmas
+pub mod ReadLemmas
 pub mod StandsLemmas
 pub mod WordsLemmas
