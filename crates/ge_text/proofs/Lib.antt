@@ -1,5 +1,9 @@
+pub mod CompleteLemmas
 pub mod NumberLemmas
 pub mod PatternLemmas
 pub mod ReadLemmas
+pub mod ReadingLaws
+pub mod RunLemmas
 pub mod StandsLemmas
 pub mod WordsLemmas
+pub mod WorthLemmas

@@ -119,7 +119,7 @@ by_letter front fixed whole millionths b None is multiplier letter same = tt
 by_letter front fixed whole millionths b (Some times) is multiplier letter same =
     letter_read front fixed (cut (scaled (1000000 * whole + millionths) times)) b times is multiplier (same times letter.grows)
 
-whole_scaled : (front : List ℕ) (n times : ℕ) → n ≡ cut (number front) → 1 ≤ times → cut (scaled (1000000 * n + 0) times) ≡ cut (scaled (1000000 * number front) times)
+pub whole_scaled : (front : List ℕ) (n times : ℕ) → n ≡ cut (number front) → 1 ≤ times → cut (scaled (1000000 * n + 0) times) ≡ cut (scaled (1000000 * number front) times)
 whole_scaled front n times value grows =
     let plain : 1000000 * number front + 0 ≡ 1000000 * number front = omega arith in
     ap (λ m. cut (scaled (1000000 * m + 0) times)) value ∙ (cut-scaled (number front) 0 times grows ∙ ap (λ m. cut (scaled m times)) plain)
@@ -183,12 +183,12 @@ part_digit front whole millionths count b has digit few = record {
       ∙ sym (millionths_from-append 0 has.part b))));
 }
 
-not_zero : (count : ℕ) → (count == 0) ≡ false → 0 < count
+pub not_zero : (count : ℕ) → (count == 0) ≡ false → 0 < count
 not_zero zero some = absurd (cc)
 not_zero (suc count) some = omega arith
 
 -- a fraction that has a digit
-part_fixed : (front : List ℕ) (whole millionths count : ℕ) → HasPart front whole millionths count → (count == 0) ≡ false
+pub part_fixed : (front : List ℕ) (whole millionths count : ℕ) → HasPart front whole millionths count → (count == 0) ≡ false
     → (fixed : ℕ) × IsFixed front fixed × ((times : ℕ) → 1 ≤ times → cut (scaled (1000000 * whole + millionths) times) ≡ cut (scaled fixed times)) × (cut (1000000 * whole + millionths) ≡ cut fixed)
 part_fixed front whole millionths count has some =
     let counted : count ≡ length has.part = has.counted in
