@@ -1,7 +1,7 @@
 -- The words of a line. Blanks part them. A word that begins with a quote, single or double, reaches to the
 -- next same quote, which a blank or the end has to follow; a quote elsewhere is a plain byte. There are no
 -- escapes.
-use Rattle.std.specs.Prelude.{ℕ, suc, zero, ◌+◌, ◌-◌, ◌==◌, ◌||◌, Bool, true, false, if◌then◌else◌, List, [], ◌∷◌, ◌++◌, length, Result, Ok, Err, Option, Some, None, map, drop, take, position, unwrap_or}
+use Rattle.std.specs.Prelude.{ℕ, suc, zero, ◌+◌, ◌-◌, ◌==◌, ◌||◌, Bool, true, if◌then◌else◌, List, [], ◌∷◌, ◌++◌, length, Result, Ok, Err, Option, Some, None, map, drop, take, position, unwrap_or}
 use Rattle.ge_model_text.specs.declared.Span.{Span}
 
 -- a space or a tab

@@ -1,15 +1,14 @@
 -- The machine reads each text of the grammar, to its amount.
-use Rattle.std.proofs.Common.{◌≡◌, ℕ, suc, zero, ◌+◌, ◌-◌, ◌*◌, ◌/◌, ◌^◌, ◌<◌, ◌≤◌, min, Bool, true, false, cond, ◌==◌, nat_lt, List, [], ◌∷◌, ◌++◌, length, refl, ap, sym, subst, ◌∙◌, arith, append_assoc, append-nil, add-zero, Option, Some, None, Result, Ok, Err, IfSome, ◌⊎◌, inl, inr, lit≤, lit<}
+use Rattle.std.proofs.Common.{◌≡◌, ℕ, ◌+◌, ◌*◌, ◌<◌, ◌≤◌, false, ◌==◌, nat_lt, List, [], ◌∷◌, length, refl, ap, sym, subst, ◌∙◌, arith, append-nil, Option, Some, None, Ok, Err, IfSome, ◌⊎◌, inl, inr, lit≤}
 use Rattle.std.specs.Option.{option_map}
-use Rattle.std.proofs.lemmas.Bool.{and_parts, lt-ltb, le-ltb, ne_eqb, cond-true, cond-false, cases_lt}
+use Rattle.std.proofs.lemmas.Bool.{le-ltb, ne_eqb, cond-true, cond-false, cases_lt}
 use Rattle.ge_model_text.specs.declared.Form.{Form}
 use Rattle.ge_model_text.specs.declared.Form.TheVariants.{Int, Time, Memory, Fixed}
 use Rattle.ge_model_text.specs.declared.Progress.{Progress}
-use Rattle.ge_model_text.specs.declared.Progress.TheVariants.{Start, Whole, Minutes, Seconds, Part, Multiple, Letters}
-use Rattle.ge_model_text.specs.declared.ValueFault.{ValueFault}
-use Rattle.ge_model_text.specs.declared.ValueFault.TheVariants.{Empty, Digit, TooLarge}
-use Rattle.ge_model_text.specs.Value.{is_digit, AreDigits, IsNumber, IsInt, IsFraction, IsFixed, WithoutFraction, WithFraction, IsClock, IsTime, InSeconds, ByTheClock, WithoutEnd, IsMultiple, IsMemory, InBytes, InMultiples, WithoutLimit, IsWorth, number, number_after, unit_at, millionths_from, factor, scaled, infinity, endless}
-use Rattle.ge_model_text.specs.Reading.{cut, limit, appended, step, next, if_occurs, done, answer, bounded, reading, reading_from, multiple, occurs, part_amount}
+use Rattle.ge_model_text.specs.declared.Progress.TheVariants.{Start, Whole, Seconds, Part, Multiple, Letters}
+use Rattle.ge_model_text.specs.declared.ValueFault.TheVariants.{TooLarge}
+use Rattle.ge_model_text.specs.Value.{is_digit, IsInt, IsFixed, WithoutFraction, WithFraction, IsTime, InSeconds, ByTheClock, WithoutEnd, IsMemory, InBytes, InMultiples, WithoutLimit, IsWorth, number, millionths_from, factor, scaled}
+use Rattle.ge_model_text.specs.Reading.{cut, limit, step, if_occurs, done, answer, bounded, reading_from, multiple, occurs}
 use Rattle.ge_text.proofs.NumberLemmas.{IsLetter, letters, cut-scaled}
 use Rattle.ge_text.proofs.ReadLemmas.{whole_scaled}
 use Rattle.ge_text.proofs.RunLemmas.{run, run-one, run-append, reading_from-append, run_start, run_clock, run_part, HasFractions}
@@ -72,14 +71,15 @@ fixed_run form text fixed has (WithoutFraction digits value) =
 fixed_run form text fixed has (WithFraction is) =
     let n : ℕ = cut (number is.whole) in
     let some : 0 < length is.part = is.part_digits.some in
-    let short : length is.part ≤ 6 = is.short in
-    (Part n (millionths_from 0 is.part) (length is.part),
-     ap (λ bytes. run form Start bytes) is.spelled
-     ∙ (run-append form Start (Whole n) is.whole (46 ∷ is.part) (run_start form is.whole is.whole_digits)
-     ∙ (run-one form (Whole n) (Part n 0 0) 46 is.part (cond-true (occurs (Part n 0 0) form) (Some (Part n 0 0)) None (has n 0 0))
-     ∙ (run_part form n 0 0 is.part has is.part_digits.digits (omega arith) (omega arith)
-     ∙ same_end n (0 + millionths_from 0 is.part) (millionths_from 0 is.part) (0 + length is.part) (length is.part) (omega arith) (omega arith)))),
-     rw is.value (part_is_read is.whole is.part some))
+    let short : length is.part ≤ 6 = is.short in (
+      Part n (millionths_from 0 is.part) (length is.part),
+      ap (λ bytes. run form Start bytes) is.spelled
+          ∙ (run-append form Start (Whole n) is.whole (46 ∷ is.part) (run_start form is.whole is.whole_digits)
+          ∙ (run-one form (Whole n) (Part n 0 0) 46 is.part (cond-true (occurs (Part n 0 0) form) (Some (Part n 0 0)) None (has n 0 0))
+          ∙ (run_part form n 0 0 is.part has is.part_digits.digits (omega arith) (omega arith)
+          ∙ same_end n (0 + millionths_from 0 is.part) (millionths_from 0 is.part) (0 + length is.part) (length is.part) (omega arith) (omega arith)))),
+      rw is.value (part_is_read is.whole is.part some),
+    )
 
 memory_fractions : HasFractions Memory
 memory_fractions whole millionths count = refl
@@ -99,10 +99,11 @@ clock_amount h m s = omega arith
 
 reads_time : (text : List ℕ) (amount : ℕ) → IsTime text amount → Reads Time text amount
 reads_time text amount (InSeconds is) = (Whole (cut (number text)), run_start Time text is.digits, ap (λ n. Some (cut n)) (sym is.value))
-reads_time text amount (ByTheClock is) =
-    (Seconds (cut (number is.hours)) (cut (number is.minutes)) (cut (number is.rest)),
-     ap (λ bytes. run Time Start bytes) is.spelled ∙ run_clock is.hours is.minutes is.rest is.hours_digits is.minutes_digits is.rest_digits,
-     ap (λ n. Some n) (clock_amount (number is.hours) (number is.minutes) (number is.rest) ∙ ap cut (sym is.value)))
+reads_time text amount (ByTheClock is) = (
+  Seconds (cut (number is.hours)) (cut (number is.minutes)) (cut (number is.rest)),
+  ap (λ bytes. run Time Start bytes) is.spelled ∙ run_clock is.hours is.minutes is.rest is.hours_digits is.minutes_digits is.rest_digits,
+  ap (λ n. Some n) (clock_amount (number is.hours) (number is.minutes) (number is.rest) ∙ ap cut (sym is.value)),
+)
 reads_time text amount (WithoutEnd spelled value) =
     (Letters 8, ap (λ bytes. run Time Start bytes) spelled, ap (λ n. Some (cut n)) (sym value))
 
@@ -113,12 +114,13 @@ reads_memory text amount (InBytes fixed is value) =
 reads_memory text amount (InMultiples is) =
     let ran = fixed_run Memory is.front is.millionths memory_fractions is.fixed in
     let letter = letter_is is.letter is.times is.multiplier in
-    let n : ℕ = cut (scaled is.millionths is.times) in
-    (Multiple n,
-     ap (λ bytes. run Memory Start bytes) is.spelled
-     ∙ (run-append Memory Start ran.0 is.front (is.letter ∷ []) ran.1
-     ∙ run-one Memory ran.0 (Multiple n) is.letter [] (ap (λ o. if_occurs Memory o) (ran.2.by_letter is.letter is.times is.multiplier letter))),
-     ap (λ a. Some (cut a)) (sym is.value) )
+    let n : ℕ = cut (scaled is.millionths is.times) in (
+      Multiple n,
+      ap (λ bytes. run Memory Start bytes) is.spelled
+          ∙ (run-append Memory Start ran.0 is.front (is.letter ∷ []) ran.1
+          ∙ run-one Memory ran.0 (Multiple n) is.letter [] (ap (λ o. if_occurs Memory o) (ran.2.by_letter is.letter is.times is.multiplier letter))),
+      ap (λ a. Some (cut a)) (sym is.value),
+    )
 reads_memory text amount (WithoutLimit spelled value) =
     (Letters 8, ap (λ bytes. run Memory Start bytes) spelled, ap (λ n. Some (cut n)) (sym value))
 

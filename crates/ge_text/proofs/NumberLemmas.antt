@@ -1,8 +1,8 @@
 -- Digits, the numbers that they count, and where these are cut.
-use Rattle.std.proofs.Common.{◌≡◌, ℕ, suc, zero, ◌+◌, ◌-◌, ◌*◌, ◌/◌, ◌^◌, ◌<◌, ◌≤◌, min, Bool, true, false, cond, ◌&&◌, ◌==◌, nat_le, List, [], ◌∷◌, ◌++◌, length, get_or, refl, ap, sym, subst, ◌∙◌, arith, add-one, add_assoc, zero-add, add-zero, Option, Some, None, IfSome, ◌⊎◌, inl, inr, lit≤}
-use Rattle.std.proofs.Math.Nat.{mul-le-mul, mul-le-mul_left, mul-le-mul_right}
+use Rattle.std.proofs.Common.{◌≡◌, ℕ, suc, zero, ◌+◌, ◌-◌, ◌*◌, ◌<◌, ◌≤◌, Bool, true, false, cond, ◌==◌, nat_le, List, [], ◌∷◌, ◌++◌, length, refl, ap, sym, subst, ◌∙◌, arith, Option, Some, None, IfSome, ◌⊎◌, inl, inr, lit≤}
+use Rattle.std.proofs.Math.Nat.{mul-le-mul, mul-le-mul_left}
 use Rattle.std.proofs.lemmas.Bool.{and_parts, and_from, leb-true, eqb-true, cases_lt}
-use Rattle.ge_model_text.specs.Value.{is_digit, AreDigits, IsNumber, number, number_after, unit_at, millionths_from, factor, scaled}
+use Rattle.ge_model_text.specs.Value.{is_digit, AreDigits, number_after, unit_at, millionths_from, factor, scaled}
 use Rattle.ge_model_text.specs.Reading.{cut, limit, appended}
 
 -- digits

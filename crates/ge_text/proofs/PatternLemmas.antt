@@ -1,5 +1,5 @@
 -- What the loops over a set, a pattern and a name keep.
-use Rattle.std.proofs.Common.{◌≡◌, ℕ, suc, zero, ◌+◌, ◌<◌, ◌≤◌, Bool, true, false, cond, ◌||◌, ◌&&◌, ◌==◌, nat_le, List, [], ◌∷◌, ◌++◌, length, get_or, drop, take, refl, ap, sym, subst, ◌∙◌, arith, add-one, drop-drop, Option, Some, None}
+use Rattle.std.proofs.Common.{◌≡◌, ℕ, suc, zero, ◌<◌, Bool, true, false, cond, ◌||◌, ◌&&◌, ◌==◌, nat_le, List, [], ◌∷◌, length, get_or, drop, take, refl, ap, sym, subst, ◌∙◌, arith, add-one, drop-drop, Option, Some, None}
 use Rattle.std.proofs.lemmas.Bool.{ne_eqb, and_parts}
 use Rattle.ge_model_text.specs.Pattern.{in_set, set_end, Piece, Many, One, Exactly, Among, piece_here, rest_of_piece, pieces_from, pieces_of, takes, covers, some_end, front_and_rest}
 use Rattle.ge_text.specs.Fronts.{begins_range, Reach, ToEnd, ToStar, Nowhere, front_of, goes_on}
@@ -212,8 +212,8 @@ pub keeps_end : (pieces : List Piece) (name : List ℕ) (others : List Piece) (r
     → some_end (covers others) rest ≡ some_end (covers pieces) name
 keeps_end pieces name others rest h =
     same_tests (some_end (covers others) rest) (some_end (covers pieces) name)
-        (λ passes. some_end-here (covers pieces) name (sym (covers_star pieces name others rest h) ∙ passes))
-        (λ passes. let found = some_end-place (covers pieces) name passes in some_end-drop (covers others) rest found.0 (later_end pieces name found.0 others rest h found.1))
+    (λ passes. some_end-here (covers pieces) name (sym (covers_star pieces name others rest h) ∙ passes))
+    (λ passes. let found = some_end-place (covers pieces) name passes in some_end-drop (covers others) rest found.0 (later_end pieces name found.0 others rest h found.1))
 
 pub whole_end : (pieces : List Piece) (name : List ℕ) → front_of pieces name ≡ ToEnd → true ≡ some_end (covers pieces) name
 whole_end pieces name h = sym (some_end-here (covers pieces) name (sym (covers_whole pieces name h)))

@@ -1,15 +1,12 @@
 -- What the machine knows of the bytes that it read.
-use Rattle.std.proofs.Common.{◌≡◌, ℕ, suc, zero, ◌+◌, ◌-◌, ◌*◌, ◌/◌, ◌^◌, ◌<◌, ◌≤◌, min, Bool, true, false, cond, ◌&&◌, ◌==◌, nat_le, nat_lt, List, [], ◌∷◌, ◌++◌, length, get_or, take, drop, refl, ap, sym, subst, ◌∙◌, arith, add-one, zero-add, append_assoc, append-nil, length-append, Option, Some, None, IfSome, lit≤, lit<}
+use Rattle.std.proofs.Common.{◌≡◌, ℕ, suc, zero, ◌+◌, ◌-◌, ◌*◌, ◌<◌, ◌≤◌, Bool, true, false, cond, ◌&&◌, ◌==◌, nat_lt, List, [], ◌∷◌, ◌++◌, length, get_or, take, refl, ap, sym, subst, ◌∙◌, arith, add-one, zero-add, append_assoc, length-append, Option, Some, None, IfSome, lit≤}
 use Rattle.std.specs.Option.{option_map}
 use Rattle.std.proofs.Math.Seq.{take-suc}
-use Rattle.std.proofs.lemmas.List.{take-append-drop}
-use Rattle.std.proofs.lemmas.Bool.{and_parts, and_from, leb-true, eqb-true, ltb-true}
-use Rattle.ge_model_text.specs.declared.Form.{Form}
-use Rattle.ge_model_text.specs.declared.Form.TheVariants.{Int, Time, Memory, Fixed}
+use Rattle.std.proofs.lemmas.Bool.{and_parts, eqb-true, ltb-true}
 use Rattle.ge_model_text.specs.declared.Progress.{Progress}
 use Rattle.ge_model_text.specs.declared.Progress.TheVariants.{Start, Whole, Minutes, Seconds, Part, Multiple, Letters}
-use Rattle.ge_model_text.specs.Value.{is_digit, AreDigits, IsNumber, IsInt, IsFraction, IsFixed, WithoutFraction, WithFraction, IsClock, IsTime, InSeconds, ByTheClock, WithoutEnd, IsMultiple, IsMemory, InBytes, InMultiples, WithoutLimit, IsWorth, number, number_after, unit_at, millionths_from, factor, scaled, infinity, endless}
-use Rattle.ge_model_text.specs.Reading.{cut, limit, appended, multiple, after_whole, after_part, step, occurs, if_occurs, next, whole_amount, part_amount, done, Begins}
+use Rattle.ge_model_text.specs.Value.{is_digit, AreDigits, IsNumber, IsFixed, WithoutFraction, WithFraction, IsMultiple, number, unit_at, millionths_from, factor, scaled, infinity}
+use Rattle.ge_model_text.specs.Reading.{cut, appended, multiple, step}
 use Rattle.ge_text.proofs.NumberLemmas.{AreDigits-append, number_after-append, cut-appended, millionths_from-append, part_at_most, part_uncut, IsLetter, letters, cut-scaled}
 
 -- hours, a colon and the digits of the minutes so far
@@ -98,9 +95,9 @@ from_start : (b : ℕ) → IfSome (step Start b) (λ after. HasRead after (b ∷
 from_start b =
     chosen (λ after. HasRead after (b ∷ [])) (is_digit b) (Whole (appended 0 b)) _ (λ digit. more_digits [] b 0 refl refl digit)
     (chosen (λ after. HasRead after (b ∷ [])) (b == 58) (Minutes 0 0) _
-        (at_byte (λ c. HasMinutes (c ∷ []) 0 0) b 58 (record { first = []; second = []; spelled = refl; first_digits = refl; second_digits = refl; first_value = refl; second_value = refl }))
+    (at_byte (λ c. HasMinutes (c ∷ []) 0 0) b 58 (record { first = []; second = []; spelled = refl; first_digits = refl; second_digits = refl; first_value = refl; second_value = refl }))
     (chosen (λ after. HasRead after (b ∷ [])) (b == 73) (Letters 1) None
-        (at_byte (λ c. HasLetters (c ∷ []) 1) b 73 (record { spelled = refl; short = lit≤ tt }))
+    (at_byte (λ c. HasLetters (c ∷ []) 1) b 73 (record { spelled = refl; short = lit≤ tt }))
     tt))
 
 -- after a number, a letter
@@ -128,9 +125,9 @@ from_whole : (front : List ℕ) (n b : ℕ) → HasWhole front n → IfSome (ste
 from_whole front n b has =
     chosen (λ after. HasRead after (front ++ b ∷ [])) (is_digit b) (Whole (appended n b)) _ (λ digit. more_digits front b n has.digits.digits has.value digit)
     (chosen (λ after. HasRead after (front ++ b ∷ [])) (b == 58) (Minutes n 0) _
-        (at_byte (λ c. HasMinutes (front ++ c ∷ []) n 0) b 58 (record { first = front; second = []; spelled = refl; first_digits = has.digits.digits; second_digits = refl; first_value = has.value; second_value = refl }))
+    (at_byte (λ c. HasMinutes (front ++ c ∷ []) n 0) b 58 (record { first = front; second = []; spelled = refl; first_digits = has.digits.digits; second_digits = refl; first_value = has.value; second_value = refl }))
     (chosen (λ after. HasRead after (front ++ b ∷ [])) (b == 46) (Part n 0 0) _
-        (at_byte (λ c. HasPart (front ++ c ∷ []) n 0 0) b 46 (record { first = front; part = []; spelled = refl; first_digits = has.digits; part_digits = refl; counted = refl; short = lit≤ tt; first_value = has.value; part_value = refl }))
+    (at_byte (λ c. HasPart (front ++ c ∷ []) n 0 0) b 46 (record { first = front; part = []; spelled = refl; first_digits = has.digits; part_digits = refl; counted = refl; short = lit≤ tt; first_value = has.value; part_value = refl }))
     (by_letter front (1000000 * number front) n 0 b (factor b) (WithoutFraction has.digits refl) refl (letters b) (λ times grows. whole_scaled front n times has.value grows))))
 
 -- after a colon, two colons or a point
@@ -138,28 +135,45 @@ from_whole front n b has =
 from_minutes : (front : List ℕ) (hours minutes b : ℕ) → HasMinutes front hours minutes → IfSome (step (Minutes hours minutes) b) (λ after. HasRead after (front ++ b ∷ []))
 from_minutes front hours minutes b has =
     chosen (λ after. HasRead after (front ++ b ∷ [])) (is_digit b) (Minutes hours (appended minutes b)) _
-        (λ digit. record {
-          first = has.first; second = has.second ++ b ∷ []; spelled = behind has.first 58 has.second front b has.spelled;
-          first_digits = has.first_digits; second_digits = AreDigits-append has.second b has.second_digits digit;
-          first_value = has.first_value; second_value = more_value has.second b minutes has.second_value;
-        })
+    (λ digit. record {
+      first = has.first;
+      second = has.second ++ b ∷ [];
+      spelled = behind has.first 58 has.second front b has.spelled;
+      first_digits = has.first_digits;
+      second_digits = AreDigits-append has.second b has.second_digits digit;
+      first_value = has.first_value;
+      second_value = more_value has.second b minutes has.second_value;
+    })
     (chosen (λ after. HasRead after (front ++ b ∷ [])) (b == 58) (Seconds hours minutes 0) None
-        (at_byte (λ c. HasSeconds (front ++ c ∷ []) hours minutes 0) b 58 (record {
-          first = has.first; second = has.second; third = []; spelled = behind has.first 58 has.second front 58 has.spelled;
-          first_digits = has.first_digits; second_digits = has.second_digits; third_digits = refl;
-          first_value = has.first_value; second_value = has.second_value; third_value = refl;
-        }))
+    (at_byte (λ c. HasSeconds (front ++ c ∷ []) hours minutes 0) b 58 (record {
+      first = has.first;
+      second = has.second;
+      third = [];
+      spelled = behind has.first 58 has.second front 58 has.spelled;
+      first_digits = has.first_digits;
+      second_digits = has.second_digits;
+      third_digits = refl;
+      first_value = has.first_value;
+      second_value = has.second_value;
+      third_value = refl;
+    }))
     tt)
 
 from_seconds : (front : List ℕ) (hours minutes seconds b : ℕ) → HasSeconds front hours minutes seconds → IfSome (step (Seconds hours minutes seconds) b) (λ after. HasRead after (front ++ b ∷ []))
 from_seconds front hours minutes seconds b has =
     chosen (λ after. HasRead after (front ++ b ∷ [])) (is_digit b) (Seconds hours minutes (appended seconds b)) None
-        (λ digit. record {
-          first = has.first; second = has.second; third = has.third ++ b ∷ [];
-          spelled = behind has.first 58 (has.second ++ 58 ∷ has.third) front b has.spelled ∙ ap (λ rest. has.first ++ 58 ∷ rest) (append_assoc has.second (58 ∷ has.third) (b ∷ []));
-          first_digits = has.first_digits; second_digits = has.second_digits; third_digits = AreDigits-append has.third b has.third_digits digit;
-          first_value = has.first_value; second_value = has.second_value; third_value = more_value has.third b seconds has.third_value;
-        })
+    (λ digit. record {
+      first = has.first;
+      second = has.second;
+      third = has.third ++ b ∷ [];
+      spelled = behind has.first 58 (has.second ++ 58 ∷ has.third) front b has.spelled ∙ ap (λ rest. has.first ++ 58 ∷ rest) (append_assoc has.second (58 ∷ has.third) (b ∷ []));
+      first_digits = has.first_digits;
+      second_digits = has.second_digits;
+      third_digits = AreDigits-append has.third b has.third_digits digit;
+      first_value = has.first_value;
+      second_value = has.second_value;
+      third_value = more_value has.third b seconds has.third_value;
+    })
     tt
 
 part_small : (front : List ℕ) (whole millionths count : ℕ) → HasPart front whole millionths count → millionths ≤ 900000 * count
@@ -170,8 +184,11 @@ part_small front whole millionths count has =
 part_digit : (front : List ℕ) (whole millionths count b : ℕ) → HasPart front whole millionths count → is_digit b ≡ true → count < 6
     → HasPart (front ++ b ∷ []) whole (cut (millionths + (b - 48) * unit_at count)) (count + 1)
 part_digit front whole millionths count b has digit few = record {
-  first = has.first; part = has.part ++ b ∷ []; spelled = behind has.first 46 has.part front b has.spelled;
-  first_digits = has.first_digits; part_digits = AreDigits-append has.part b has.part_digits digit;
+  first = has.first;
+  part = has.part ++ b ∷ [];
+  spelled = behind has.first 46 has.part front b has.spelled;
+  first_digits = has.first_digits;
+  part_digits = AreDigits-append has.part b has.part_digits digit;
   counted = let counted : count ≡ length has.part = has.counted in omega (arith, length-append has.part (b ∷ []));
   short = omega arith;
   first_value = has.first_value;
@@ -194,16 +211,22 @@ part_fixed front whole millionths count has some =
     let counted : count ≡ length has.part = has.counted in
     let part_value : millionths ≡ millionths_from 0 has.part = has.part_value in
     let first_value : whole ≡ cut (number has.first) = has.first_value in
-    let more : 0 < length has.part = subst (λ (n : ℕ). 0 < n) counted (not_zero count some) in
-    (1000000 * number has.first + millionths_from 0 has.part,
-     WithFraction (record {
-       whole = has.first; part = has.part; spelled = has.spelled; whole_digits = has.first_digits;
-       part_digits = record { digits = has.part_digits; some = more };
-       short = subst (λ (n : ℕ). n ≤ 6) counted has.short; value = refl }),
-     (λ times grows. ap (λ m. cut (scaled (1000000 * whole + m) times)) part_value
-        ∙ (ap (λ w. cut (scaled (1000000 * w + millionths_from 0 has.part) times)) first_value
-        ∙ cut-scaled (number has.first) (millionths_from 0 has.part) times grows)),
-     omega arith)
+    let more : 0 < length has.part = subst (λ (n : ℕ). 0 < n) counted (not_zero count some) in (
+      1000000 * number has.first + millionths_from 0 has.part,
+      WithFraction (record {
+        whole = has.first;
+        part = has.part;
+        spelled = has.spelled;
+        whole_digits = has.first_digits;
+        part_digits = record { digits = has.part_digits; some = more };
+        short = subst (λ (n : ℕ). n ≤ 6) counted has.short;
+        value = refl;
+      }),
+      (λ times grows. ap (λ m. cut (scaled (1000000 * whole + m) times)) part_value
+          ∙ (ap (λ w. cut (scaled (1000000 * w + millionths_from 0 has.part) times)) first_value
+          ∙ cut-scaled (number has.first) (millionths_from 0 has.part) times grows)),
+      omega arith,
+    )
 
 from_part : (front : List ℕ) (whole millionths count b : ℕ) (digit few none : Bool) → is_digit b ≡ digit → nat_lt count 6 ≡ few → (count == 0) ≡ none
     → HasPart front whole millionths count

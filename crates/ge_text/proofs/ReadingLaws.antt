@@ -1,5 +1,5 @@
 -- What the machine answers is what the grammar says.
-use Rattle.std.proofs.Common.{◌≡◌, ℕ, suc, zero, ◌+◌, ◌<◌, ◌≤◌, Bool, true, false, cond, nat_lt, List, [], ◌∷◌, ◌++◌, length, take, refl, ap, sym, subst, ◌∙◌, arith, append_assoc, append-nil, length-append, Option, Some, None, Result, Ok, Err, IfSome, ◌⊎◌, inl, inr, ◌↔◌}
+use Rattle.std.proofs.Common.{◌≡◌, ℕ, ◌+◌, ◌<◌, ◌≤◌, Bool, true, false, cond, nat_lt, List, [], ◌∷◌, ◌++◌, length, take, refl, ap, sym, subst, ◌∙◌, arith, append_assoc, append-nil, length-append, Option, Some, None, Result, Ok, Err, IfSome, ◌⊎◌, inl, inr, ◌↔◌}
 use Rattle.std.proofs.Math.Seq.{take-append_seam, take-append-add}
 use Rattle.std.proofs.lemmas.Bool.{le-ltb, lt-ltb, cond-true, cond-false, cases_lt}
 use Rattle.std.proofs.lemmas.Option.{cond_some}
@@ -41,12 +41,12 @@ worth_by form text value worth (inl below) =
     let value_is : value ≡ cut worth.0 = worth.2 in
     let same : worth.0 ≡ value = omega arith in
     subst (λ (r : Result ℕ ValueFault). Answers form text r) (sym (cond-true (nat_lt value limit) (Ok value) (Err TooLarge) (lt-ltb value limit below)))
-        (subst (λ (n : ℕ). IsWorth form text n) same worth.1, below)
+    (subst (λ (n : ℕ). IsWorth form text n) same worth.1, below)
 worth_by form text value worth (inr above) =
     let value_is : value ≡ cut worth.0 = worth.2 in
     let large : limit ≤ worth.0 = omega arith in
     subst (λ (r : Result ℕ ValueFault). Answers form text r) (sym (cond-false (nat_lt value limit) (Ok value) (Err TooLarge) (le-ltb value limit above)))
-        (worth.0, worth.1, large)
+    (worth.0, worth.1, large)
 
 -- a text that breaks off
 
@@ -106,21 +106,21 @@ sound : (form : Form) (progress : Progress) (front rest : List ℕ) (place : ℕ
 sound form progress front [] place has there ran where_ some =
     let here : place ≡ 0 + length front = omega arith in
     let read : reading_from form Start 0 front ≡ answer place (done form progress) =
-        ap (λ bytes. reading_from form Start 0 bytes) (sym (append-nil front))
-        ∙ (reading_from-append form Start progress 0 front [] ran ∙ ap (λ n. answer n (done form progress)) (sym here)) in
+    ap (λ bytes. reading_from form Start 0 bytes) (sym (append-nil front))
+    ∙ (reading_from-append form Start progress 0 front [] ran ∙ ap (λ n. answer n (done form progress)) (sym here)) in
     subst (λ (bytes : List ℕ). Answers form bytes (answer place (done form progress))) (sym (append-nil front))
-        (at_end form progress front place (done form progress) has there read where_ (subst (λ (bytes : List ℕ). 0 < length bytes) (append-nil front) some)
-            (done_is_worth form progress front has there))
+    (at_end form progress front place (done form progress) has there read where_ (subst (λ (bytes : List ℕ). 0 < length bytes) (append-nil front) some)
+    (done_is_worth form progress front has there))
 sound form progress front (b ∷ rest) place has there ran where_ some =
     at_next form progress front b rest place (next form progress b) has there ran refl where_
-        (λ after is.
-            let on = next_reads form progress after front b has is in
-            let longer : length (front ++ b ∷ []) ≡ length front + 1 = length-append front (b ∷ []) in
-            subst (λ (bytes : List ℕ). Answers form bytes (reading_from form after (place + 1) rest)) (append_assoc front (b ∷ []) rest)
-                (sound form after (front ++ b ∷ []) rest (place + 1) on.0 on.1
-                    (run-append form Start progress front (b ∷ []) ran ∙ run-one form progress after b [] is)
-                    (omega arith)
-                    (subst (λ (bytes : List ℕ). 0 < length bytes) (sym (append_assoc front (b ∷ []) rest)) some)))
+    (λ after is.
+    let on = next_reads form progress after front b has is in
+    let longer : length (front ++ b ∷ []) ≡ length front + 1 = length-append front (b ∷ []) in
+    subst (λ (bytes : List ℕ). Answers form bytes (reading_from form after (place + 1) rest)) (append_assoc front (b ∷ []) rest)
+    (sound form after (front ++ b ∷ []) rest (place + 1) on.0 on.1
+    (run-append form Start progress front (b ∷ []) ran ∙ run-one form progress after b [] is)
+    (omega arith)
+    (subst (λ (bytes : List ℕ). 0 < length bytes) (sym (append_assoc front (b ∷ []) rest)) some)))
 
 -- the answer is what the grammar says
 pub reading_answers : (form : Form) (text : List ℕ) → Answers form text (reading form text)

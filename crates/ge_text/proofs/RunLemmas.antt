@@ -1,17 +1,14 @@
 -- Runs of the machine, and that it reads each text of the grammar.
-use Rattle.std.proofs.Common.{◌≡◌, ℕ, suc, zero, ◌+◌, ◌-◌, ◌*◌, ◌/◌, ◌^◌, ◌<◌, ◌≤◌, min, Bool, true, false, cond, ◌&&◌, ◌==◌, nat_lt, List, [], ◌∷◌, ◌++◌, length, refl, ap, sym, subst, ◌∙◌, arith, append_assoc, append-nil, add-zero, length-append, Option, Some, None, Result, Ok, Err, IfSome, ◌⊎◌, inl, inr, lit≤, lit<}
-use Rattle.std.specs.Option.{option_map}
-use Rattle.ge_text.proofs.ReadLemmas.{whole_scaled}
-use Rattle.std.proofs.lemmas.Bool.{and_parts, lt-ltb, le-ltb, ne_eqb, cond-true, cond-false, cases_lt}
+use Rattle.std.proofs.Common.{◌≡◌, ℕ, suc, ◌+◌, ◌-◌, ◌*◌, ◌<◌, ◌≤◌, true, nat_lt, List, [], ◌∷◌, ◌++◌, length, refl, ap, ◌∙◌, arith, Option, Some, None, Err}
+use Rattle.std.proofs.lemmas.Bool.{and_parts, lt-ltb, cond-true}
 use Rattle.ge_model_text.specs.declared.Form.{Form}
-use Rattle.ge_model_text.specs.declared.Form.TheVariants.{Int, Time, Memory, Fixed}
+use Rattle.ge_model_text.specs.declared.Form.TheVariants.{Time}
 use Rattle.ge_model_text.specs.declared.Progress.{Progress}
-use Rattle.ge_model_text.specs.declared.Progress.TheVariants.{Start, Whole, Minutes, Seconds, Part, Multiple, Letters}
-use Rattle.ge_model_text.specs.declared.ValueFault.{ValueFault}
-use Rattle.ge_model_text.specs.declared.ValueFault.TheVariants.{Digit, TooLarge}
-use Rattle.ge_model_text.specs.Value.{is_digit, AreDigits, IsNumber, IsInt, IsFraction, IsFixed, WithoutFraction, WithFraction, IsClock, IsTime, InSeconds, ByTheClock, WithoutEnd, IsMultiple, IsMemory, InBytes, InMultiples, WithoutLimit, IsWorth, number, number_after, unit_at, millionths_from, factor, scaled, infinity, endless}
-use Rattle.ge_model_text.specs.Reading.{cut, limit, appended, step, next, if_occurs, done, answer, bounded, reading_from, multiple, occurs}
-use Rattle.ge_text.proofs.NumberLemmas.{cut_after, cut_after-cut, part_uncut, digit_counts, IsLetter, letters, cut-scaled}
+use Rattle.ge_model_text.specs.declared.Progress.TheVariants.{Start, Whole, Minutes, Seconds, Part}
+use Rattle.ge_model_text.specs.declared.ValueFault.TheVariants.{Digit}
+use Rattle.ge_model_text.specs.Value.{is_digit, AreDigits, IsNumber, number, unit_at, millionths_from}
+use Rattle.ge_model_text.specs.Reading.{cut, appended, next, if_occurs, reading_from, occurs}
+use Rattle.ge_text.proofs.NumberLemmas.{cut_after, cut_after-cut, part_uncut, digit_counts}
 
 -- where the machine is after these bytes
 abbrev pub run : Form → Progress → List ℕ → Option Progress
@@ -56,7 +53,7 @@ reading_from-append form progress after place [] more is =
     ap (λ p. reading_from form p place more) same ∙ ap (λ n. reading_from form after n more) here
 reading_from-append form progress after place (b ∷ front) more is =
     read_on_by form place (next form progress b) front more after is
-        (λ p there. reading_from-append form p after (place + 1) front more there ∙ ap (λ n. reading_from form after n more) (shifted place (length front)))
+    (λ p there. reading_from-append form p after (place + 1) front more there ∙ ap (λ n. reading_from form after n more) (shifted place (length front)))
 
 -- digits
 

@@ -1,5 +1,5 @@
 -- The test of a pattern says what the pattern stands for.
-use Rattle.std.proofs.Common.{◌≡◌, ℕ, suc, zero, ◌↔◌, ◌&&◌, ◌==◌, Bool, true, false, List, [], ◌∷◌, ◌++◌, take, drop, IsTrue, refl, ap, sym, subst, ◌∙◌}
+use Rattle.std.proofs.Common.{◌≡◌, ℕ, ◌↔◌, ◌==◌, Bool, true, List, [], ◌∷◌, ◌++◌, take, drop, IsTrue, refl, ap, sym}
 use Rattle.std.proofs.lemmas.Bool.{and_parts, and_from, eqb-true, eq-eqb}
 use Rattle.std.proofs.lemmas.List.{take-append-drop}
 use Rattle.ge_model_text.specs.Pattern.{Piece, Many, One, Exactly, Among, covers, some_end, in_set, StandsFor}

@@ -1,5 +1,5 @@
 -- A turn of the loop over the words of a line.
-use Rattle.std.proofs.Common.{◌≡◌, ℕ, suc, zero, ◌+◌, ◌<◌, ◌≤◌, List, [], ◌∷◌, ◌++◌, length, get_or, take, drop, refl, ap, sym, ◌∙◌, append_assoc, add-one, add-zero, arith, drop-cons, drop-drop, Result, Ok, Err, Option, option_to_list}
+use Rattle.std.proofs.Common.{◌≡◌, ℕ, suc, zero, ◌+◌, ◌<◌, List, [], ◌∷◌, ◌++◌, length, get_or, drop, refl, ap, sym, ◌∙◌, append_assoc, add-one, add-zero, arith, drop-cons, drop-drop, Result, Ok, Err}
 use Rattle.ge_model_text.specs.declared.Span.{Span}
 use Rattle.ge_model_text.specs.Words.{joined, words_from, word_here, taken_here}
 
@@ -37,7 +37,7 @@ one_more_word spans found place taken line whole within word more told =
     let rest : List ℕ = drop (place + 1) line in
     let opened : drop place line ≡ get_or line place 0 ∷ rest = rw (add-one, drop-cons line place 0 within) refl in
     let turn : words_from place 0 (drop place line) ≡ joined (Ok found) (words_from (place + 1 + taken) 0 (drop taken rest)) =
-        ap (λ bytes. words_from place 0 bytes) opened ∙ words_from-turn place (get_or line place 0) taken rest found word more in
+    ap (λ bytes. words_from place 0 bytes) opened ∙ words_from-turn place (get_or line place 0) taken rest found word more in
     let there : drop taken rest ≡ drop (place + 1 + taken) line = drop-drop taken (place + 1) line in
     let same : place + 1 + taken ≡ place + (1 + taken) = omega arith in
     ap (λ n. joined (Ok (spans ++ found)) (words_from n 0 (drop n line))) (sym same)

@@ -1,13 +1,13 @@
 -- What the bytes that the machine read are worth, and how they go on to a text of the form.
-use Rattle.std.proofs.Common.{◌≡◌, ℕ, suc, zero, ◌+◌, ◌-◌, ◌*◌, ◌/◌, ◌^◌, ◌<◌, ◌≤◌, min, Bool, true, false, cond, ◌==◌, List, [], ◌∷◌, ◌++◌, length, take, drop, refl, ap, sym, subst, ◌∙◌, arith, append_assoc, append-nil, length-append, Option, Some, None, IfSome, lit≤, lit<}
+use Rattle.std.proofs.Common.{◌≡◌, ℕ, ◌+◌, ◌*◌, Bool, true, false, cond, ◌==◌, List, [], ◌∷◌, ◌++◌, length, take, drop, refl, ap, sym, subst, ◌∙◌, arith, append_assoc, append-nil, length-append, Some, None, IfSome, lit≤, lit<}
 use Rattle.std.proofs.lemmas.List.{take-append-drop}
 use Rattle.std.proofs.lemmas.Bool.{eqb-true}
 use Rattle.ge_model_text.specs.declared.Form.{Form}
 use Rattle.ge_model_text.specs.declared.Form.TheVariants.{Int, Time, Memory, Fixed}
 use Rattle.ge_model_text.specs.declared.Progress.{Progress}
 use Rattle.ge_model_text.specs.declared.Progress.TheVariants.{Start, Whole, Minutes, Seconds, Part, Multiple, Letters}
-use Rattle.ge_model_text.specs.Value.{AreDigits, IsNumber, IsInt, IsFraction, IsFixed, WithoutFraction, WithFraction, IsClock, IsTime, InSeconds, ByTheClock, WithoutEnd, IsMultiple, IsMemory, InBytes, InMultiples, WithoutLimit, IsWorth, number, millionths_from, scaled, infinity, endless}
-use Rattle.ge_model_text.specs.Reading.{cut, limit, occurs, whole_amount, part_amount, done, Begins}
+use Rattle.ge_model_text.specs.Value.{IsFixed, WithoutFraction, WithFraction, InSeconds, ByTheClock, WithoutEnd, InBytes, InMultiples, WithoutLimit, IsWorth, number, millionths_from, scaled, infinity, endless}
+use Rattle.ge_model_text.specs.Reading.{cut, occurs, whole_amount, part_amount, done, Begins}
 use Rattle.ge_text.proofs.NumberLemmas.{AreDigits-append}
 use Rattle.ge_text.proofs.ReadLemmas.{HasRead, HasWhole, HasMinutes, HasSeconds, HasPart, HasMultiple, HasLetters, part_fixed}
 
@@ -29,12 +29,20 @@ worth_seconds : (text : List ℕ) (hours minutes seconds : ℕ) → HasSeconds t
 worth_seconds text hours minutes seconds has =
     let first : hours ≡ cut (number has.first) = has.first_value in
     let second : minutes ≡ cut (number has.second) = has.second_value in
-    let third : seconds ≡ cut (number has.third) = has.third_value in
-    (3600 * number has.first + 60 * number has.second + number has.third,
-     ByTheClock (record {
-       hours = has.first; minutes = has.second; rest = has.third; spelled = has.spelled;
-       hours_digits = has.first_digits; minutes_digits = has.second_digits; rest_digits = has.third_digits; value = refl }),
-     omega arith)
+    let third : seconds ≡ cut (number has.third) = has.third_value in (
+      3600 * number has.first + 60 * number has.second + number has.third,
+      ByTheClock (record {
+        hours = has.first;
+        minutes = has.second;
+        rest = has.third;
+        spelled = has.spelled;
+        hours_digits = has.first_digits;
+        minutes_digits = has.second_digits;
+        rest_digits = has.third_digits;
+        value = refl;
+      }),
+      omega arith,
+    )
 
 worth_part : (form : Form) (text : List ℕ) (whole millionths count : ℕ) (none : Bool) → HasPart text whole millionths count → occurs (Part whole millionths count) form ≡ true
     → (count == 0) ≡ none → IfSome (cond none None (Some (part_amount form whole millionths))) (Worth form text)
@@ -105,12 +113,20 @@ zero_begins Fixed = (48 ∷ [], 0, WithoutFraction (record { digits = refl; some
 minutes_begin : (form : Form) (text : List ℕ) (hours minutes : ℕ) → HasMinutes text hours minutes → occurs (Minutes hours minutes) form ≡ true → Begins form text
 minutes_begin Int text hours minutes has there = absurd (cc)
 minutes_begin Time text hours minutes has there =
-    let spelled : text ≡ has.first ++ 58 ∷ has.second = has.spelled in
-    (58 ∷ [], 3600 * number has.first + 60 * number has.second + 0,
-     ByTheClock (record {
-       hours = has.first; minutes = has.second; rest = [];
-       spelled = rw spelled (append_assoc has.first (58 ∷ has.second) (58 ∷ []));
-       hours_digits = has.first_digits; minutes_digits = has.second_digits; rest_digits = refl; value = refl }))
+    let spelled : text ≡ has.first ++ 58 ∷ has.second = has.spelled in (
+      58 ∷ [],
+      3600 * number has.first + 60 * number has.second + 0,
+      ByTheClock (record {
+        hours = has.first;
+        minutes = has.second;
+        rest = [];
+        spelled = rw spelled (append_assoc has.first (58 ∷ has.second) (58 ∷ []));
+        hours_digits = has.first_digits;
+        minutes_digits = has.second_digits;
+        rest_digits = refl;
+        value = refl;
+      }),
+    )
 minutes_begin Memory text hours minutes has there = absurd (cc)
 minutes_begin Fixed text hours minutes has there = absurd (cc)
 
@@ -118,15 +134,18 @@ minutes_begin Fixed text hours minutes has there = absurd (cc)
 point_zero : (text : List ℕ) (whole millionths count : ℕ) → HasPart text whole millionths count → count ≡ 0 → (millionths : ℕ) × IsFixed (text ++ 48 ∷ []) millionths
 point_zero text whole millionths count has none =
     let spelled : text ≡ has.first ++ 46 ∷ has.part = has.spelled in
-    let counted : count ≡ length has.part = has.counted in
-    (1000000 * number has.first + millionths_from 0 (has.part ++ 48 ∷ []),
-     WithFraction (record {
-       whole = has.first; part = has.part ++ 48 ∷ [];
-       spelled = rw spelled (append_assoc has.first (46 ∷ has.part) (48 ∷ []));
-       whole_digits = has.first_digits;
-       part_digits = record { digits = AreDigits-append has.part 48 has.part_digits refl; some = omega (arith, length-append has.part (48 ∷ [])) };
-       short = omega (arith, length-append has.part (48 ∷ []));
-       value = refl }))
+    let counted : count ≡ length has.part = has.counted in (
+      1000000 * number has.first + millionths_from 0 (has.part ++ 48 ∷ []),
+      WithFraction (record {
+        whole = has.first;
+        part = has.part ++ 48 ∷ [];
+        spelled = rw spelled (append_assoc has.first (46 ∷ has.part) (48 ∷ []));
+        whole_digits = has.first_digits;
+        part_digits = record { digits = AreDigits-append has.part 48 has.part_digits refl; some = omega (arith, length-append has.part (48 ∷ [])) };
+        short = omega (arith, length-append has.part (48 ∷ []));
+        value = refl;
+      }),
+    )
 
 part_begins : (form : Form) (text : List ℕ) (whole millionths count : ℕ) (none : Bool) → HasPart text whole millionths count → occurs (Part whole millionths count) form ≡ true → (count == 0) ≡ none → Begins form text
 part_begins Int text whole millionths count none has there is = absurd (cc)

@@ -1,5 +1,5 @@
 -- What the calls on words return, against the words of a line.
-use Rattle.std.specs.Prelude.{◌≡◌, ℕ, ◌≤◌, length, List, Option, Some, None, Result, Ok, Err, option_to_list}
+use Rattle.std.specs.Prelude.{◌≡◌, ℕ, ◌≤◌, length, List, Option, Result, Ok, Err, option_to_list}
 use Rattle.ge_model_text.specs.declared.Span.{Span}
 use Rattle.ge_text.specs.declared.splitting.TextFault.{TextFault}
 use Rattle.ge_text.specs.declared.splitting.TextFault.TheVariants.{Quote, NoMemory}

@@ -22,7 +22,11 @@ fn begins_with_range(set: &[u8]) -> bool
     ensures range { result ≡ begins_range set.now }
     ensures long { IsTrue result → 3 ≤ length set.now }
 {
-    if let [_, dash, _, ..] = set { *dash == b'-' } else { false }
+    if let [_, dash, _, ..] = set {
+        *dash == b'-'
+    } else {
+        false
+    }
 }
 
 /// Whether the item at the front of a set has a byte, and how many bytes of the set it takes.
@@ -34,7 +38,11 @@ fn item_of_set(set: &[u8], b: u8) -> (bool, usize)
     ensures within { result.1 ≤ length set.now }
 {
     let low = set[0];
-    if begins_with_range(set) { (low <= b && b <= set[2], 3) } else { (b == low, 1) }
+    if begins_with_range(set) {
+        (low <= b && b <= set[2], 3)
+    } else {
+        (b == low, 1)
+    }
 }
 
 /// Whether a set has a byte.
@@ -119,7 +127,11 @@ fn front<'a>(pattern: &'a [u8], name: &'a [u8]) -> Reached<'a>
         parts = later;
         behind = others;
     }
-    if behind.is_empty() { Reached::Whole } else { Reached::Apart }
+    if behind.is_empty() {
+        Reached::Whole
+    } else {
+        Reached::Apart
+    }
 }
 
 /// Whether a pattern stands for some end of a name.

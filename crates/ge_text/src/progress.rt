@@ -23,7 +23,9 @@ fn with_digit(n: u64, b: u8) -> u64
     requires { 48 ≤ b }
     ensures { result ≡ appended n b }
 {
-    n.saturating_mul(10).saturating_add(u64::from(b - b'0')).min(LIMIT)
+    n.saturating_mul(10)
+        .saturating_add(u64::from(b - b'0'))
+        .min(LIMIT)
 }
 
 /// What a letter behind a number multiplies it by.
@@ -97,13 +99,21 @@ fn past_part(whole: u64, millionths: u64, digits: u8, b: u8) -> Option<Progress>
     ensures { result ≡ after_part whole millionths digits b }
 {
     if !digit(b) {
-        return if digits == 0 { None } else { with_letter(whole, millionths, b) };
+        return if digits == 0 {
+            None
+        } else {
+            with_letter(whole, millionths, b)
+        };
     }
     if digits >= 6 {
         return None;
     }
     let counts = u64::from(b - b'0') * unit(digits);
-    Some(Progress::Part(whole, millionths.saturating_add(counts).min(LIMIT), digits + 1))
+    Some(Progress::Part(
+        whole,
+        millionths.saturating_add(counts).min(LIMIT),
+        digits + 1,
+    ))
 }
 
 /// A colon, as what stands before it says.
@@ -184,7 +194,11 @@ pub(crate) fn advanced(form: Form, progress: Progress, b: u8) -> Option<Progress
     ensures { result ≡ next form progress b }
 {
     let after = stepped(progress, b)?;
-    if may_occur(after, form) { Some(after) } else { None }
+    if may_occur(after, form) {
+        Some(after)
+    } else {
+        None
+    }
 }
 
 fn amount_of_whole(form: Form, n: u64) -> u64
@@ -231,7 +245,11 @@ pub(crate) fn finished(form: Form, progress: Progress) -> Option<u64>
         }
         Progress::Multiple(n) => Some(n),
         Progress::Letters(count) => {
-            if count == LETTERS { Some(LIMIT - 1) } else { None }
+            if count == LETTERS {
+                Some(LIMIT - 1)
+            } else {
+                None
+            }
         }
     }
 }

@@ -1,8 +1,7 @@
 //! The list of a line's words.
 
-use std::marker::Model;
-
 use ge_model_text::Span;
+use std::marker::Model;
 
 /// Where the words of a line stand, in their order. Contracts see the list of the spans.
 #[derive(Debug, Drop)]

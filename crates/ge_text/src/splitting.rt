@@ -5,10 +5,9 @@ ghost use Rattle.std.specs.Prelude.{◌≡◌, ◌+◌, ◌^◌, ◌<◌, ◌∷
 ghost use Rattle.ge_model_text.specs.Words.{is_blank, is_quote, ends_word, before_blank, quoted_word, quoted_taken, word_here, taken_here, words_of};
 ghost use Rattle.ge_text.specs.Splitting.{SplitsInto, IsWordHere};
 
-use std::alloc::{AllocError, AllocFailed, Global};
-
 use crate::spans::Spans;
 use ge_model_text::Span;
+use std::alloc::{AllocError, AllocFailed, Global};
 
 /// Why a line has no words.
 #[derive(Clone, Copy, Debug, PartialEq, Eq)]
@@ -102,7 +101,13 @@ fn word_in_quotes(place: u32, quote: u8, rest: &[u8]) -> Result<(Option<Span>, u
         return Err(TextFault::Quote(place));
     }
     let from = place + 1;
-    Ok((Some(Span { from, to: from + inside as u32 }), inside + 1))
+    Ok((
+        Some(Span {
+            from,
+            to: from + inside as u32,
+        }),
+        inside + 1,
+    ))
 }
 
 /// The word that begins with `first` at a place, and how many bytes of `rest` belong to it: no word where
@@ -118,7 +123,13 @@ fn word_at(place: u32, first: u8, rest: &[u8]) -> Result<(Option<Span>, usize), 
         return word_in_quotes(place, first, rest);
     }
     let taken = length_before_blank(rest);
-    Ok((Some(Span { from: place, to: place + 1 + taken as u32 }), taken))
+    Ok((
+        Some(Span {
+            from: place,
+            to: place + 1 + taken as u32,
+        }),
+        taken,
+    ))
 }
 
 /// Adds a word, if there is one.

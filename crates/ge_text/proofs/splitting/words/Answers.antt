@@ -1,4 +1,4 @@
-use Rattle.std.proofs.Common.{◌≡◌, ◌≤◌, ◌+◌, length, ◌++◌, option_to_list, ap, ◌∙◌, arith, length-drop, drop, Ok}
+use Rattle.std.proofs.Common.{◌≤◌, ◌+◌, length, option_to_list, ap, ◌∙◌, arith, length-drop, drop, Ok}
 use Rattle.ge_model_text.specs.Words.{joined, words_from}
 use Rattle.ge_text.proofs.WordsLemmas.{one_more_word}
 use Rattle.ge_text.proofs.splitting.words.Goals as goal
