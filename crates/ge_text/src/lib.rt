@@ -21,3 +21,6 @@ pub use ge_model_text::{Span, ValueFault};
 pub use patterns::matches;
 pub use spans::Spans;
 pub use splitting::{TextFault, words};
+
+#[cfg(test)]
+mod tests;
