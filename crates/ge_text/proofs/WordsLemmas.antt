@@ -18,7 +18,7 @@ joined-joined xs ys (Ok zs) = ap Ok (sym (append_assoc xs ys zs))
 joined-joined xs ys (Err place) = refl
 
 -- the words from the byte b on are the one that begins there and those behind it
-words_from-turn : (place b taken : ℕ) (rest : List ℕ) (found : List Span)
+pub words_from-turn : (place b taken : ℕ) (rest : List ℕ) (found : List Span)
     → word_here place b rest ≡ Ok found → taken ≡ taken_here b rest
     → words_from place 0 (b ∷ rest) ≡ joined (Ok found) (words_from (place + 1 + taken) 0 (drop taken rest))
 words_from-turn place b taken rest found word more =

@@ -1,8 +1,9 @@
 //! The words of a line. Blanks part them, and a word that begins with a quote reaches to the next same
 //! quote.
 
-ghost use Rattle.std.specs.Prelude.{◌≡◌, ◌+◌, ◌^◌, ◌<◌, ◌∷◌, [], length, drop, ◌==◌, ◌≤◌, position, ◌++◌, Ok, Err, IfErr, OnOk, IfSome, option_to_list};
+ghost use Rattle.std.specs.Prelude.{◌≡◌, ℕ, IfOk, ◌+◌, ◌^◌, ◌<◌, ◌∷◌, [], length, drop, ◌==◌, ◌≤◌, position, ◌++◌, Ok, Err, IfErr, OnOk, IfSome, option_to_list};
 ghost use Rattle.ge_model_text.specs.Words.{is_blank, is_quote, ends_word, before_blank, quoted_word, quoted_taken, word_here, taken_here, words_of};
+ghost use Rattle.ge_model_text.specs.Line.{HasWords, HasOpenQuote};
 ghost use Rattle.ge_text.specs.Splitting.{SplitsInto, IsWordHere};
 
 use crate::spans::Spans;
@@ -143,8 +144,8 @@ fn push_word(items: &mut Vec<Span>, found: Option<Span>) -> Result<(), TextFault
     Ok(())
 }
 
-/// The words of a line, in their order, or the first quote that begins a word and isn't closed.
-pub fn words(alloc: Global, line: &[u8]) -> Result<Spans, TextFault>
+/// Finds the words of a line.
+fn found_words(alloc: Global, line: &[u8]) -> Result<Spans, TextFault>
     requires { length line.now < 2 ^ 32 }
     ensures { SplitsInto result (words_of line.now) }
 {
@@ -157,4 +158,17 @@ pub fn words(alloc: Global, line: &[u8]) -> Result<Spans, TextFault>
         place += 1 + taken;
     }
     Ok(Spans::from_vec(items))
+}
+
+/// The words of a line, in their order, or the first quote that begins a word and isn't closed (sge_types,
+/// the quoting of a shell). It is what `words_of` computes (`computed`); `spans` and `quote` say by the
+/// cases of a line alone what that is. Only [`TextFault::NoMemory`] is left open.
+#[tactic(auto, using(crate::proofs::LineLemmas::splits_spans, crate::proofs::LineLemmas::splits_quote))]
+pub fn words(alloc: Global, line: &[u8]) -> Result<Spans, TextFault>
+    requires { length line.now < 2 ^ 32 }
+    ensures computed { SplitsInto result (words_of line.now) }
+    ensures spans { IfOk result (λ spans. HasWords 0 line.now spans) }
+    ensures quote { (place : ℕ) → result ≡ Err (TextFault.Quote place) → HasOpenQuote 0 line.now place }
+{
+    found_words(alloc, line)
 }

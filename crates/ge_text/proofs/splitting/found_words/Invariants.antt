@@ -1,6 +1,6 @@
 use Rattle.std.proofs.Common.{length, ◌-◌, ◌≡◌, ◌≤◌, drop, Ok}
 use Rattle.ge_model_text.specs.Words.{joined, words_from, words_of}
-use Rattle.ge_text.proofs.splitting.words.Given as goal
+use Rattle.ge_text.proofs.splitting.found_words.Given as goal
 
 -- the words so far, and then those of what is left, are the words of the line
 abbrev pub invariant-loop-place : goal.invariant-loop-place

@@ -1,7 +1,7 @@
 use Rattle.std.proofs.Common.{◌≤◌, ◌+◌, length, option_to_list, ap, ◌∙◌, arith, length-drop, drop, Ok}
 use Rattle.ge_model_text.specs.Words.{joined, words_from}
 use Rattle.ge_text.proofs.WordsLemmas.{one_more_word}
-use Rattle.ge_text.proofs.splitting.words.Goals as goal
+use Rattle.ge_text.proofs.splitting.found_words.Goals as goal
 
 pub loop-place-preserved : goal.loop-place-preserved
 loop-place-preserved c =
