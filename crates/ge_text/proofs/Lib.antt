@@ -1,4 +1,5 @@
 pub mod CompleteLemmas
+pub mod LineCompleteLemmas
 pub mod LineLemmas
 pub mod NumberLemmas
 pub mod PatternLemmas

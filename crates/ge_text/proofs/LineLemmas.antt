@@ -1,5 +1,5 @@
 -- The words that are found are the words of the line.
-use Rattle.std.proofs.Common.{◌≡◌, ◌≢◌, ℕ, suc, zero, ◌+◌, ◌-◌, ◌<◌, ◌≤◌, ◌==◌, Bool, true, false, cond, not, ◌||◌, nat_lt, List, [], ◌∷◌, ◌++◌, length, get_or, drop, refl, ap, sym, subst, ◌∙◌, arith, add-one, drop-cons, drop-drop, length-drop, get_or-drop, Option, Some, None, Result, Ok, Err, ◌⊎◌, inl, inr, IfOk, unwrap_or}
+use Rattle.std.proofs.Common.{◌≡◌, ℕ, suc, zero, ◌+◌, ◌<◌, ◌≤◌, ◌==◌, Bool, true, false, cond, not, ◌||◌, nat_lt, List, [], ◌∷◌, ◌++◌, length, get_or, drop, refl, ap, sym, subst, ◌∙◌, arith, add-one, drop-cons, length-drop, Option, Some, None, Result, Ok, Err, ◌⊎◌, inl, inr, IfOk, unwrap_or}
 use Rattle.std.specs.List.{position, position_or_len}
 use Rattle.std.proofs.lemmas.Bool.{cond-true, cond-false, eqb-true, eq-eqb, ltb-false, both_ways, cases_order}
 use Rattle.std.proofs.lemmas.List.Quantifiers.{position-Some}
@@ -46,13 +46,13 @@ says_behind place next bytes rest found (Ok spans) says words opened = words spa
 says_behind place next bytes rest found (Err there) says words opened = opened there says
 
 -- a place with what stands behind it
-at_drop : (bytes : List ℕ) (size b : ℕ) (rest : List ℕ) → drop size bytes ≡ b ∷ rest → (size < length bytes) × (get_or bytes size 0 ≡ b)
+pub at_drop : (bytes : List ℕ) (size b : ℕ) (rest : List ℕ) → drop size bytes ≡ b ∷ rest → (size < length bytes) × (get_or bytes size 0 ≡ b)
 at_drop [] zero b rest is = absurd (cc)
 at_drop [] (suc size) b rest is = absurd (cc)
 at_drop (c ∷ bytes) zero b rest is = let same : c ≡ b = cc in (omega arith, same)
 at_drop (c ∷ bytes) (suc size) b rest is = let found = at_drop bytes size b rest is in let below : size < length bytes = found.0 in (omega arith, found.1)
 
-from_place : (bytes : List ℕ) (k b : ℕ) → k < length bytes → get_or bytes k 0 ≡ b → drop k bytes ≡ b ∷ drop (k + 1) bytes
+pub from_place : (bytes : List ℕ) (k b : ℕ) → k < length bytes → get_or bytes k 0 ≡ b → drop k bytes ≡ b ∷ drop (k + 1) bytes
 from_place bytes k b below is = rw add-one (drop-cons bytes k 0 below ∙ ap (λ c. c ∷ drop (suc k) bytes) is)
 
 -- blanks
@@ -69,9 +69,9 @@ says_blank place b bytes blank later =
     let next : place + 1 + 0 ≡ place + 1 = omega arith in
     let turn = words_from-turn place b 0 bytes [] (cond-true (is_blank b) (Ok []) _ blank) (sym (cond-true (is_blank b) 0 _ blank)) in
     subst (λ (r : Result (List Span) ℕ). Says place (b ∷ bytes) r) (sym turn)
-        (says_behind place (place + 1 + 0) (b ∷ bytes) bytes [] (words_from (place + 1 + 0) 0 bytes) (later (place + 1 + 0) bytes (omega arith))
-            (λ spans words. Blank place b bytes spans blank (subst (λ (n : ℕ). HasWords n bytes spans) next words))
-            (λ there opened. BehindBlank place b bytes there blank (subst (λ (n : ℕ). HasOpenQuote n bytes there) next opened)))
+    (says_behind place (place + 1 + 0) (b ∷ bytes) bytes [] (words_from (place + 1 + 0) 0 bytes) (later (place + 1 + 0) bytes (omega arith))
+    (λ spans words. Blank place b bytes spans blank (subst (λ (n : ℕ). HasWords n bytes spans) next words))
+    (λ there opened. BehindBlank place b bytes there blank (subst (λ (n : ℕ). HasOpenQuote n bytes there) next opened)))
 
 -- words without quotes
 
@@ -98,10 +98,10 @@ says_plain place b bytes blank quote later =
     let word : word_here place b bytes ≡ Ok (span ∷ []) = cond-false (is_blank b) (Ok []) _ blank ∙ cond-false (is_quote b) _ (Ok (span ∷ [])) quote in
     let more : size ≡ taken_here b bytes = sym (cond-false (is_blank b) 0 _ blank ∙ cond-false (is_quote b) _ size quote) in
     subst (λ (r : Result (List Span) ℕ). Says place (b ∷ bytes) r) (sym (words_from-turn place b size bytes (span ∷ []) word more))
-        (says_behind place (place + 1 + size) (b ∷ bytes) (drop size bytes) (span ∷ []) (words_from (place + 1 + size) 0 (drop size bytes))
-            (later (place + 1 + size) (drop size bytes) (shorter size bytes))
-            (λ spans words. Plain place b bytes size spans blank quote goes words)
-            (λ there opened. BehindPlain place b bytes size there blank quote goes opened))
+    (says_behind place (place + 1 + size) (b ∷ bytes) (drop size bytes) (span ∷ []) (words_from (place + 1 + size) 0 (drop size bytes))
+    (later (place + 1 + size) (drop size bytes) (shorter size bytes))
+    (λ spans words. Plain place b bytes size spans blank quote goes words)
+    (λ there opened. BehindPlain place b bytes size there blank quote goes opened))
 
 -- words in quotes
 
@@ -112,12 +112,12 @@ no_blank_by false b is quote = subst (λ (c : ℕ). is_blank c ≡ false) (sym (
 quote_no_blank : (b : ℕ) → is_quote b ≡ true → is_blank b ≡ false
 quote_no_blank b quote = no_blank_by (b == 39) b refl quote
 
-word_quoted : (place b : ℕ) (bytes : List ℕ) (o : Option ℕ) → is_quote b ≡ true → position (λ c. c == b) bytes ≡ o → word_here place b bytes ≡ quoted_word place bytes o
+pub word_quoted : (place b : ℕ) (bytes : List ℕ) (o : Option ℕ) → is_quote b ≡ true → position (λ c. c == b) bytes ≡ o → word_here place b bytes ≡ quoted_word place bytes o
 word_quoted place b bytes o quote is =
     cond-false (is_blank b) (Ok []) _ (quote_no_blank b quote) ∙ (cond-true (is_quote b) (quoted_word place bytes (position (λ c. c == b) bytes)) _ quote
     ∙ ap (λ p. quoted_word place bytes p) is)
 
-taken_quoted : (b : ℕ) (bytes : List ℕ) (o : Option ℕ) → is_quote b ≡ true → position (λ c. c == b) bytes ≡ o → quoted_taken o ≡ taken_here b bytes
+pub taken_quoted : (b : ℕ) (bytes : List ℕ) (o : Option ℕ) → is_quote b ≡ true → position (λ c. c == b) bytes ≡ o → quoted_taken o ≡ taken_here b bytes
 taken_quoted b bytes o quote is =
     sym (cond-false (is_blank b) 0 _ (quote_no_blank b quote) ∙ (cond-true (is_quote b) (quoted_taken (position (λ c. c == b) bytes)) _ quote ∙ ap quoted_taken is))
 
@@ -125,8 +125,8 @@ says_open : (place b : ℕ) (bytes : List ℕ) → is_quote b ≡ true → word_
     → Says place (b ∷ bytes) (words_from place 0 (b ∷ bytes))
 says_open place b bytes quote word none =
     subst (λ (r : Result (List Span) ℕ). Says place (b ∷ bytes) r)
-        (sym (ap (λ w. joined w (words_from (place + 1) (taken_here b bytes) bytes)) word))
-        (Here place b bytes quote none)
+    (sym (ap (λ w. joined w (words_from (place + 1) (taken_here b bytes) bytes)) word))
+    (Here place b bytes quote none)
 
 not_enclosed : (b : ℕ) (bytes : List ℕ) → position (λ c. c == b) bytes ≡ None → (size : ℕ) (rest : List ℕ) → Encloses b bytes size rest → ⊥
 not_enclosed b bytes is size rest encloses =
@@ -147,26 +147,30 @@ not_ended_by b bytes k is goes_on size rest encloses (inr (inl below)) =
 not_ended_by b bytes k is goes_on size rest encloses (inr (inr above)) =
     encloses.others k above (eqb-true (get_or bytes k 0) b (position-Some (λ c. c == b) bytes k 0 is).1)
 
+pub encloses_at : (b : ℕ) (bytes : List ℕ) (k : ℕ) → position (λ c. c == b) bytes ≡ Some k → ends_word (drop (k + 1) bytes) ≡ true → Encloses b bytes k (drop (k + 1) bytes)
+encloses_at b bytes k is ends =
+    let found = position-Some (λ c. c == b) bytes k 0 is in
+    record {
+      others = λ j below same. both_ways (get_or bytes j 0 == b) (found.2 j below) (eq-eqb (get_or bytes j 0) b same);
+      closed = from_place bytes k b found.0 (eqb-true (get_or bytes k 0) b found.1);
+      ends = ends;
+    }
+
 says_closed : (place b : ℕ) (bytes : List ℕ) (k : ℕ) (ends : Bool) → is_quote b ≡ true → position (λ c. c == b) bytes ≡ Some k → ends_word (drop (k + 1) bytes) ≡ ends
     → SaysShorter bytes → Says place (b ∷ bytes) (words_from place 0 (b ∷ bytes))
 says_closed place b bytes k false quote is ends later =
     says_open place b bytes quote
-        (word_quoted place b bytes (Some k) quote is ∙ cond-false (ends_word (drop (k + 1) bytes)) _ (Err place) ends)
-        (λ size rest encloses. not_ended_by b bytes k is ends size rest encloses (cases_order size k))
+    (word_quoted place b bytes (Some k) quote is ∙ cond-false (ends_word (drop (k + 1) bytes)) _ (Err place) ends)
+    (λ size rest encloses. not_ended_by b bytes k is ends size rest encloses (cases_order size k))
 says_closed place b bytes k true quote is ends later =
-    let found = position-Some (λ c. c == b) bytes k 0 is in
     let span : Span = record { from = place + 1; to = place + 1 + k } in
     let word : word_here place b bytes ≡ Ok (span ∷ []) = word_quoted place b bytes (Some k) quote is ∙ cond-true (ends_word (drop (k + 1) bytes)) (Ok (span ∷ [])) (Err place) ends in
-    let encloses : Encloses b bytes k (drop (k + 1) bytes) = record {
-      others = λ j below same. both_ways (get_or bytes j 0 == b) (found.2 j below) (eq-eqb (get_or bytes j 0) b same);
-      closed = from_place bytes k b found.0 (eqb-true (get_or bytes k 0) b found.1);
-      ends = ends;
-    } in
+    let encloses : Encloses b bytes k (drop (k + 1) bytes) = encloses_at b bytes k is ends in
     subst (λ (r : Result (List Span) ℕ). Says place (b ∷ bytes) r) (sym (words_from-turn place b (k + 1) bytes (span ∷ []) word (taken_quoted b bytes (Some k) quote is)))
-        (says_behind place (place + 1 + (k + 1)) (b ∷ bytes) (drop (k + 1) bytes) (span ∷ []) (words_from (place + 1 + (k + 1)) 0 (drop (k + 1) bytes))
-            (later (place + 1 + (k + 1)) (drop (k + 1) bytes) (shorter (k + 1) bytes))
-            (λ spans words. Quoted place b bytes k (drop (k + 1) bytes) spans quote encloses words)
-            (λ there opened. BehindQuoted place b bytes k (drop (k + 1) bytes) there quote encloses opened))
+    (says_behind place (place + 1 + (k + 1)) (b ∷ bytes) (drop (k + 1) bytes) (span ∷ []) (words_from (place + 1 + (k + 1)) 0 (drop (k + 1) bytes))
+    (later (place + 1 + (k + 1)) (drop (k + 1) bytes) (shorter (k + 1) bytes))
+    (λ spans words. Quoted place b bytes k (drop (k + 1) bytes) spans quote encloses words)
+    (λ there opened. BehindQuoted place b bytes k (drop (k + 1) bytes) there quote encloses opened))
 
 says_quoted : (place b : ℕ) (bytes : List ℕ) (o : Option ℕ) → is_quote b ≡ true → position (λ c. c == b) bytes ≡ o → SaysShorter bytes → Says place (b ∷ bytes) (words_from place 0 (b ∷ bytes))
 says_quoted place b bytes None quote is later = says_open place b bytes quote (word_quoted place b bytes None quote is) (not_enclosed b bytes is)

@@ -1,8 +1,9 @@
 //! The words of a line. Blanks part them, and a word that begins with a quote reaches to the next same
 //! quote.
 
-ghost use Rattle.std.specs.Prelude.{◌≡◌, ℕ, IfOk, ◌+◌, ◌^◌, ◌<◌, ◌∷◌, [], length, drop, ◌==◌, ◌≤◌, position, ◌++◌, Ok, Err, IfErr, OnOk, IfSome, option_to_list};
+ghost use Rattle.std.specs.Prelude.{◌≡◌, ℕ, List, IfOk, ◌+◌, ◌^◌, ◌<◌, ◌∷◌, [], length, drop, ◌==◌, ◌≤◌, position, ◌++◌, Ok, Err, IfErr, OnOk, IfSome, option_to_list};
 ghost use Rattle.ge_model_text.specs.Words.{is_blank, is_quote, ends_word, before_blank, quoted_word, quoted_taken, word_here, taken_here, words_of};
+ghost use Rattle.ge_model_text.specs.declared.Span.{Span};
 ghost use Rattle.ge_model_text.specs.Line.{HasWords, HasOpenQuote};
 ghost use Rattle.ge_text.specs.Splitting.{SplitsInto, IsWordHere};
 
@@ -160,15 +161,20 @@ fn found_words(alloc: Global, line: &[u8]) -> Result<Spans, TextFault>
     Ok(Spans::from_vec(items))
 }
 
-/// The words of a line, in their order, or the first quote that begins a word and isn't closed (sge_types,
-/// the quoting of a shell). It is what `words_of` computes (`computed`); `spans` and `quote` say by the
-/// cases of a line alone what that is. Only [`TextFault::NoMemory`] is left open.
-#[tactic(auto, using(crate::proofs::LineLemmas::splits_spans, crate::proofs::LineLemmas::splits_quote))]
+/// The words of a line, in their order, or the first quote that begins a word and isn't closed, with the
+/// quotes of a command line (qsub, the command line) and no escapes.
+///
+/// It is what `words_of` computes (`computed`). The other clauses say by the cases of a line alone what
+/// that is: which spans and which quote are answered, and that each line's words or open quote are. Only
+/// [`TextFault::NoMemory`] is left open.
+#[tactic(auto, using(crate::proofs::LineLemmas::splits_spans, crate::proofs::LineLemmas::splits_quote, crate::proofs::LineCompleteLemmas::splits_found, crate::proofs::LineCompleteLemmas::splits_open))]
 pub fn words(alloc: Global, line: &[u8]) -> Result<Spans, TextFault>
     requires { length line.now < 2 ^ 32 }
     ensures computed { SplitsInto result (words_of line.now) }
     ensures spans { IfOk result (λ spans. HasWords 0 line.now spans) }
     ensures quote { (place : ℕ) → result ≡ Err (TextFault.Quote place) → HasOpenQuote 0 line.now place }
+    ensures all_spans { (spans : List Span) → HasWords 0 line.now spans → SplitsInto result (Ok spans) }
+    ensures each_quote { (place : ℕ) → HasOpenQuote 0 line.now place → SplitsInto result (Err place) }
 {
     found_words(alloc, line)
 }
