@@ -1,4 +1,5 @@
 pub mod Words
+pub mod Line
 pub mod Pattern
 pub mod Value
 pub mod Reading

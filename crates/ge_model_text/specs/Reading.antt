@@ -1,6 +1,6 @@
 -- The machine that reads an amount: byte by byte, until a byte comes that no text of the form has there.
 -- Numbers are cut at 2^48 as they are read, which is the first amount that is too large.
-use Rattle.std.specs.Prelude.{◌≡◌, ℕ, suc, zero, ◌+◌, ◌-◌, ◌*◌, ◌/◌, ◌^◌, ◌<◌, ◌≤◌, ◌==◌, ◌&&◌, Bool, true, false, List, [], ◌∷◌, ◌++◌, length, Option, Some, None, Result, Ok, Err, if◌then◌else◌, nat_lt, min, take, slice_index}
+use Rattle.std.specs.Prelude.{◌≡◌, ℕ, ◌+◌, ◌-◌, ◌*◌, ◌^◌, ◌<◌, ◌≤◌, ◌==◌, ◌&&◌, Bool, true, false, List, [], ◌∷◌, ◌++◌, length, Option, Some, None, Result, Ok, Err, if◌then◌else◌, nat_lt, min, take, slice_index}
 use Rattle.std.specs.Option.{option_map}
 use Rattle.ge_model_text.specs.declared.Form.{Form}
 use Rattle.ge_model_text.specs.declared.Form.TheVariants.{Int, Time, Memory, Fixed}
@@ -21,20 +21,25 @@ cut n = min n limit
 abbrev pub appended : ℕ → ℕ → ℕ
 appended n b = cut (10 * n + (b - 48))
 
+-- after a number in millionths and a letter
+abbrev pub multiple : ℕ → ℕ → ℕ → Option Progress
+multiple whole millionths b =
+    option_map (λ times. Multiple (cut (scaled (1000000 * whole + millionths) times))) (factor b)
+
 -- after a whole number
 abbrev pub after_whole : ℕ → ℕ → Option Progress
 after_whole n b =
     if is_digit b then Some (Whole (appended n b))
     else (if b == 58 then Some (Minutes n 0)
     else (if b == 46 then Some (Part n 0 0)
-    else option_map (λ times. Multiple (cut (scaled (1000000 * n) times))) (factor b)))
+    else multiple n 0 b))
 
 -- after so many digits behind a point
 abbrev pub after_part : ℕ → ℕ → ℕ → ℕ → Option Progress
 after_part whole millionths digits b =
     if is_digit b then (if nat_lt digits 6 then Some (Part whole (cut (millionths + (b - 48) * unit_at digits)) (digits + 1)) else None)
     else (if digits == 0 then None
-    else option_map (λ times. Multiple (cut (scaled (1000000 * whole + millionths) times))) (factor b))
+    else multiple whole millionths b)
 
 -- what is read after one more byte, in a text of some form
 abbrev pub step : Progress → ℕ → Option Progress
@@ -97,7 +102,7 @@ whole_amount Fixed n = cut (1000000 * n)
 abbrev pub part_amount : Form → ℕ → ℕ → ℕ
 part_amount Int whole millionths = whole
 part_amount Time whole millionths = whole
-part_amount Memory whole millionths = whole
+part_amount Memory whole millionths = cut (scaled (1000000 * whole + millionths) 1)
 part_amount Fixed whole millionths = cut (1000000 * whole + millionths)
 
 -- the amount of what was read, where it is a whole text
@@ -110,10 +115,14 @@ done form (Part whole millionths digits) = if digits == 0 then None else Some (p
 done form (Multiple n) = Some n
 done form (Letters count) = if count == 8 then Some endless else None
 
+-- the answer for a text that is worth an amount
+abbrev pub bounded : ℕ → Result ℕ ValueFault
+bounded amount = if nat_lt amount limit then Ok amount else Err TooLarge
+
 -- the answer at the end of a text
 abbrev pub answer : ℕ → Option ℕ → Result ℕ ValueFault
 answer place None = Err (Digit place)
-answer place (Some amount) = if nat_lt amount limit then Ok amount else Err TooLarge
+answer place (Some amount) = bounded amount
 
 -- the answer to what was read and the bytes from a place on
 abbrev pub reading_from : Form → Progress → ℕ → List ℕ → Result ℕ ValueFault

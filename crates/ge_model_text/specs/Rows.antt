@@ -1,5 +1,5 @@
 -- Worked rows, each by computation.
-use Rattle.std.specs.Prelude.{◌≡◌, ℕ, codes, refl, true, false, Ok, Err, Some, None, [], ◌∷◌, ◌++◌}
+use Rattle.std.specs.Prelude.{◌≡◌, codes, refl, true, false, Ok, Err, Some, [], ◌∷◌, ◌++◌}
 use Rattle.ge_model_text.specs.Words.{words_of, texts_of}
 use Rattle.ge_model_text.specs.Pattern.{pattern_covers}
 use Rattle.ge_model_text.specs.Reading.{reading}

@@ -1,7 +1,7 @@
 -- The words of a line. Blanks part them. A word that begins with a quote, single or double, reaches to the
 -- next same quote, which a blank or the end has to follow; a quote elsewhere is a plain byte. There are no
 -- escapes.
-use Rattle.std.specs.Prelude.{ℕ, suc, zero, ◌+◌, ◌-◌, ◌==◌, ◌||◌, Bool, true, false, if◌then◌else◌, List, [], ◌∷◌, ◌++◌, length, Result, Ok, Err, Option, Some, None, map, drop, take, position}
+use Rattle.std.specs.Prelude.{ℕ, suc, zero, ◌+◌, ◌-◌, ◌==◌, ◌||◌, Bool, true, if◌then◌else◌, List, [], ◌∷◌, ◌++◌, length, Result, Ok, Err, Option, Some, None, map, drop, take, position, unwrap_or}
 use Rattle.ge_model_text.specs.declared.Span.{Span}
 
 -- a space or a tab
@@ -19,8 +19,7 @@ ends_word (b ∷ rest) = is_blank b
 
 -- how many bytes stand before the first blank
 abbrev pub before_blank : List ℕ → ℕ
-before_blank [] = 0
-before_blank (b ∷ rest) = elim (is_blank b) [ true ↦ 0 | false ↦ before_blank rest + 1 ]
+before_blank rest = unwrap_or (position is_blank rest) (length rest)
 
 -- the word in quotes whose first quote stands at a place, by where its second quote stands in the bytes
 -- after the first: none where it isn't there or where the word doesn't end behind it
@@ -36,11 +35,16 @@ word_here place b rest =
     else (if is_quote b then quoted_word place rest (position (λ c. c == b) rest)
     else Ok (record { from = place; to = place + 1 + before_blank rest } ∷ []))
 
+-- how many of the bytes after its first quote belong to a word in quotes
+abbrev pub quoted_taken : Option ℕ → ℕ
+quoted_taken None = 0
+quoted_taken (Some inside) = inside + 1
+
 -- how many of these bytes belong to the word that begins with b
 abbrev pub taken_here : ℕ → List ℕ → ℕ
 taken_here b rest =
     if is_blank b then 0
-    else (if is_quote b then elim (position (λ c. c == b) rest) [ None ↦ 0 | Some inside ↦ inside + 1 ]
+    else (if is_quote b then quoted_taken (position (λ c. c == b) rest)
     else before_blank rest)
 
 -- these spans and then those, or the first fault

@@ -5,6 +5,7 @@
 //! `ge_text`. It has no code, so a change of a body above it leaves it as it is.
 //!
 //! - `Words`: the words of a line, as a list of spans, or the place of a quote that isn't closed.
+//! - `Line`: the same by cases, apart from how they are found.
 //! - `Pattern`: the parts of a pattern, and the names that they stand for.
 //! - `Value`: the grammar of each form of amount and what each of its texts is worth.
 //! - `Reading`: the machine that reads an amount byte by byte and knows the first byte that is wrong.
