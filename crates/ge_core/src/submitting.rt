@@ -4,7 +4,10 @@ ghost use Rattle.ge_model_plan.specs.Submit.{first_word, job_name, no_request, o
 
 use crate::refusing::{one_line, refuse};
 use ge_base::Refusal;
-use ge_rows::{Change, Cluster, Entry, Event, Job, List, Options, Planned, Reply, Request, Table, TaskSet, TaskSpan, Text, Twin};
+use ge_rows::{
+    Change, Cluster, Entry, Event, Job, List, Options, Planned, Reply, Request, Table, TaskSet,
+    TaskSpan, Text, Twin,
+};
 use std::alloc::{AllocError, Global};
 
 /// This many jobs may live.

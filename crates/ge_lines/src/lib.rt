@@ -7,4 +7,6 @@
 
 mod lines;
 
-pub use lines::{LINE_LIMIT, TEXT_LIMIT, bare_line, bytes_from, first_line, is_too_long_text, line_len};
+pub use lines::{
+    LINE_LIMIT, TEXT_LIMIT, bare_line, bytes_from, first_line, is_too_long_text, line_len,
+};

@@ -1,5 +1,5 @@
 -- The requests that a script begins with.
-use Rattle.std.proofs.Common.{◌≡◌, ℕ, ◌+◌, ◌<◌, Bool, true, false, List, [], ◌∷◌, ◌++◌, take, drop, length, refl, ap, ◌∙◌, sym, append_assoc, arith}
+use Rattle.std.proofs.Common.{◌≡◌, ℕ, ◌+◌, ◌<◌, true, false, List, [], ◌∷◌, ◌++◌, take, drop, length, refl, ap, ◌∙◌, sym, append_assoc, arith}
 use Rattle.std.proofs.lemmas.List.{drop-drop}
 use Rattle.std.proofs.Math.Seq.{take-add}
 use Rattle.ge_model_script.specs.Lines.{lines_of, is_header, put_line, cut, requests_in, requests_of}
@@ -19,9 +19,9 @@ pub next_text_line : (bs : List ℕ) (end n : ℕ) → 0 < length (drop end bs) 
 next_text_line bs end n some text is so_far =
     let rest = cut (lines_of (drop n (drop end bs))) in
     let after : cut (lines_of (drop end bs)) ≡ (take n (drop end bs) ++ rest.0, rest.1) =
-        ap cut is ∙ put_text (take n (drop end bs)) rest (is_header-first (drop end bs) n some is ∙ text) in
+    ap cut is ∙ put_text (take n (drop end bs)) rest (is_header-first (drop end bs) n some is ∙ text) in
     let joined : take end bs ++ (take n (drop end bs) ++ rest.0) ≡ take (end + n) bs ++ rest.0 =
-        rw (take-add end n bs, append_assoc) in
+    rw (take-add end n bs, append_assoc) in
     let onward : drop (end + n) bs ≡ drop n (drop end bs) = sym (drop-drop n end bs) in
     rw onward (rw (← joined) (rw after at so_far))
 

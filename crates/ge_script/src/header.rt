@@ -121,7 +121,11 @@ fn moment(text: &[u8]) -> Option<u64>
         return None;
     }
     let value = value_up_to_limit(text);
-    if value < MOMENT_LIMIT { Some(value) } else { None }
+    if value < MOMENT_LIMIT {
+        Some(value)
+    } else {
+        None
+    }
 }
 
 /// What a header says, or nothing where the line is no header.

@@ -1,6 +1,4 @@
-use Rattle.std.proofs.Common.{ap, ◌∙◌, ◌+◌, ◌≡◌, ℕ, length, min}
-use Rattle.std.specs.List.{position_or_len}
-use Rattle.ge_model_script.specs.Lines.{is_line_feed}
+use Rattle.std.proofs.Common.{ap, ◌∙◌, ◌+◌, ℕ, length, min}
 use Rattle.ge_model_script.proofs.FirstLine.{lines_of-first}
 use Rattle.ge_lines.proofs.lines.line_len.Goals as goal
 

@@ -1,5 +1,4 @@
 use Rattle.std.proofs.Common.{[], ◌-◌, ◌^◌, ◌≤◌, ◌<◌, vec_len}
-use Rattle.std.specs.Vec.{vec_items}
 use Rattle.ge_model_script.specs.Sources.{Moved}
 use Rattle.ge_script.proofs.input.read_script.Given as goal
 

@@ -1,7 +1,7 @@
 use Rattle.std.proofs.Common.{length, drop, arith, ◌<◌, ◌≤◌, ◌≡◌, ◌∙◌, ap, sym, false}
 use Rattle.std.proofs.lemmas.List.{length-drop}
 use Rattle.ge_model_script.specs.Lines.{is_header}
-use Rattle.ge_script.proofs.FirstRequest.{next_text_line, rest_of_requests}
+use Rattle.ge_script.proofs.FirstRequest.{next_text_line}
 use Rattle.ge_script.proofs.requests.request_len.Goals as goal
 
 pub loop-end-preserved : goal.loop-end-preserved

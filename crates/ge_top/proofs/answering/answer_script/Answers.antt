@@ -1,5 +1,5 @@
 use Rattle.std.proofs.Common.{arith}
-use Rattle.ge_top.proofs.Traces.{HasAnswered, HasAnswered-none, HasAnswered-at, HasAnswered-more, HasAnswered-all, HasAnswered-stopped, HasAnswered-replies, HasAnswered-front, WroteFront-from_replies, WroteFront-from_all}
+use Rattle.ge_top.proofs.Traces.{HasAnswered-none, HasAnswered-at, HasAnswered-more, HasAnswered-all, HasAnswered-stopped, HasAnswered-replies, HasAnswered-front, WroteFront-from_replies, WroteFront-from_all}
 use Rattle.ge_top.proofs.answering.answer_script.Goals as goal
 
 pub events-init : goal.events-init
@@ -39,7 +39,7 @@ pub returns-then-answer-clause-front : goal.returns-then-answer-clause-front
 returns-then-answer-clause-front g c =
     let at = HasAnswered-at _ _ _ _ _ _ _ _ _ c.events.invariant.answered c.in-Some.ensures.events c.in_ok-event.ensures in
     WroteFront-from_all _ _ _ _
-      (HasAnswered-stopped _ _ _ _ _ _ _ _ _ _ at c.in_ok-answer.ensures c.if-answer.true (rw c.reply_bytes.ensures at c.in_ok-write_all.ensures.whole))
+    (HasAnswered-stopped _ _ _ _ _ _ _ _ _ _ at c.in_ok-answer.ensures c.if-answer.true (rw c.reply_bytes.ensures at c.in_ok-write_all.ensures.whole))
 
 pub returns-clause-whole : goal.returns-clause-whole
 returns-clause-whole g c = HasAnswered-all _ _ _ _ _ _ c.events.invariant.answered c.in_default.ensures.events
