@@ -2,7 +2,8 @@
 use Rattle.std.specs.Prelude.{ℕ, Bool, false, not, ◌&&◌, ◌==◌, if◌then◌else◌, List, [], ◌∷◌, Option, Some, None, codes}
 use Rattle.std.specs.Str.{bytes_eq}
 use Rattle.ge_rows.specs.declared.commands.Command.{Command}
-use Rattle.ge_rows.specs.declared.commands.Command.TheVariants.{Submit}
+use Rattle.ge_rows.specs.declared.commands.Command.TheVariants.{Submit, Show, Sched}
+use Rattle.ge_rows.specs.declared.commands.Listing.TheVariants.{All}
 use Rattle.ge_rows.specs.declared.commands.Options.{Options}
 use Rattle.ge_model_script.specs.Names.{is_job_name}
 use Rattle.ge_model_command.specs.Words.{is_command_line, words_of, is_unquoted}
@@ -21,10 +22,22 @@ submission_of (option ∷ name ∷ command ∷ arguments) =
     if bytes_eq option (codes "-N") && is_job_name name && not (begins_with_dash command) then Some (Submit (name_option name) (command ∷ arguments) []) else None
 submission_of words = None
 
+-- a command of one word
+abbrev pub alone : Command → List (List ℕ) → Option Command
+alone command [] = Some command
+alone command (word ∷ words) = None
+
+-- qstat lists the jobs of all owners (qstat)
+abbrev pub all_jobs : Command
+all_jobs = Show (All (codes "*"))
+
 -- the first word says which command it is
 abbrev pub command_in : List (List ℕ) → Option Command
 command_in [] = None
-command_in (verb ∷ words) = if bytes_eq verb (codes "qsub") then submission_of words else None
+command_in (verb ∷ words) =
+    if bytes_eq verb (codes "qsub") then submission_of words else
+    if bytes_eq verb (codes "sched") then alone Sched words else
+    if bytes_eq verb (codes "qstat") then alone all_jobs words else None
 
 -- the command that a text is: one line of words
 unfoldable pub command_of : List ℕ → Option Command
