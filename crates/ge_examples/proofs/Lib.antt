@@ -1,1 +1,2 @@
 mod Submissions
+mod Runs
