@@ -1,10 +1,10 @@
 -- Where a task is placed, and what it books there.
-use Rattle.std.specs.Prelude.{ℕ, ◌+◌, ◌-◌, ◌^◌, ◌==◌, Bool, cond, nat_le, min, max, List, [], ◌∷◌, map, filter, flat_map, find, Option, Some, None, codes}
+use Rattle.std.specs.Prelude.{ℕ, ◌+◌, ◌-◌, ◌^◌, ◌==◌, Bool, cond, nat_le, min, max, List, [], ◌∷◌, map, flat_map, find, Option, Some, None, codes}
 use Rattle.std.specs.List.{list_any}
+use Rattle.std.specs.Map.{keys_of}
 use Rattle.std.specs.Option.{option_map}
 use Rattle.ge_collections.specs.Keyed.{text_eq, at_text, at_number}
 use Rattle.ge_rows.specs.declared.cluster.Cluster.{Cluster}
-use Rattle.ge_rows.specs.declared.hosts.HostRow.{HostRow}
 use Rattle.ge_rows.specs.declared.hosts.InstanceId.{InstanceId}
 use Rattle.ge_rows.specs.declared.jobs.Job.{Job}
 use Rattle.ge_rows.specs.declared.jobs.Grant.{Grant}
@@ -22,15 +22,16 @@ abbrev pub duration_of : Cluster → Job → ℕ
 duration_of c job = max 1 c.sched.default_duration
 
 -- whether a queue has a host: queue_conf, hostlist
-abbrev pub has_host : QueueRow → List ℕ × HostRow → Bool
-has_host q host = list_any (text_eq host.0) q.hosts
+abbrev pub has_host : QueueRow → List ℕ → Bool
+has_host q host = list_any (λ name. text_eq name host) q.hosts
 
-abbrev pub instance_at : List ℕ → List ℕ × HostRow → InstanceId
-instance_at queue host = record { queue = queue; host = host.0 }
+-- the instance of a queue on a host, where the queue has it
+abbrev pub instance_on : List ℕ × QueueRow → List ℕ → List InstanceId
+instance_on q host = cond (has_host q.1 host) (record { queue = q.0; host = host } ∷ []) []
 
--- the instances of one queue, by the name of the host
+-- the instances of one queue on the hosts that there are, by the name of the host
 abbrev pub instances_of : Cluster → List ℕ × QueueRow → List InstanceId
-instances_of c q = map (instance_at q.0) (filter (has_host q.1) c.hosts)
+instances_of c q = flat_map (instance_on q) (keys_of c.hosts)
 
 -- the queue instances by name of queue, then of host
 abbrev pub instances : Cluster → List InstanceId
