@@ -7,12 +7,14 @@
 //! Nothing here reads or writes. Each call is the definition that its clause names, or wants memory.
 #![tactic(auto)]
 
+mod access;
 mod applying;
 mod naming;
 mod planning;
 mod reading;
 mod refusing;
 mod rendering;
+mod starting;
 mod submitting;
 mod wording;
 

@@ -1,14 +1,17 @@
 // The plan of an event.
-ghost use Rattle.std.specs.Prelude.{◌≡◌, IfOk};
-ghost use Rattle.ge_model_plan.specs.Plan.{is_cut, event_command, command_plan, timely_plan, plan_of};
+ghost use Rattle.std.specs.Prelude.{◌≡◌, [], IfOk};
+ghost use Rattle.ge_model_listing.specs.Listing.{listing_of};
+ghost use Rattle.ge_model_plan.specs.Plan.{is_cut, event_command, shown, command_plan, timely_plan, plan_of};
 ghost use Rattle.ge_core.specs.Reading.{Gives};
 
 use crate::reading::{ReadFault, read_command};
 use crate::refusing::refuse;
+use crate::starting::plan_run;
 use crate::submitting::plan_submission;
 use ge_base::Refusal;
 use ge_lines::is_too_long_text;
-use ge_rows::{Cluster, Command, Event, Form, Planned};
+use ge_listing::list;
+use ge_rows::{Cluster, Command, Event, Form, List, Listing, Planned, Reply};
 use std::alloc::{AllocError, Global};
 
 fn is_cut_short(form: Form) -> bool
@@ -29,6 +32,22 @@ fn command_in_event(alloc: Global, e: &Event) -> Result<Command, ReadFault>
     }
 }
 
+fn plan_listing(
+    alloc: Global,
+    c: &Cluster,
+    e: &Event,
+    what: &Listing,
+) -> Result<Planned, AllocError>
+    ensures { IfOk result (λ planned. planned ≡ shown (listing_of c.now what.now e.now.moment [])) }
+{
+    let lines = list(alloc, c, what, e.moment, &List::new(alloc))?;
+    Ok(Planned {
+        entry: None,
+        reply: Reply { code: 0, lines },
+        stop: false,
+    })
+}
+
 fn plan_command(
     alloc: Global,
     c: &Cluster,
@@ -39,6 +58,8 @@ fn plan_command(
 {
     match command {
         Command::Submit(options, words, _script) => plan_submission(alloc, c, e, options, words),
+        Command::Sched => plan_run(alloc, c, e),
+        Command::Show(what) => plan_listing(alloc, c, e, what),
         _ => refuse(alloc, Refusal::Syntax),
     }
 }

@@ -2,12 +2,12 @@
 ghost use Rattle.std.specs.Prelude.{◌≡◌, ◌∷◌, [], IfOk, Option, Some, None, codes};
 ghost use Rattle.std.specs.Str.{bytes_eq};
 ghost use Rattle.ge_model_command.specs.Words.{is_command_line, words_of, is_unquoted};
-ghost use Rattle.ge_model_command.specs.Commands.{begins_with_dash, name_option, submission_of, command_in, command_of};
+ghost use Rattle.ge_model_command.specs.Commands.{begins_with_dash, name_option, submission_of, alone, all_jobs, command_in, command_of};
 ghost use Rattle.ge_core.specs.Reading.{Gives};
 
 use crate::naming::is_a_job_name;
 use crate::wording::{has_no_quoted_word, is_a_command_line, words};
-use ge_rows::{Command, List, Options, Text, Twin};
+use ge_rows::{Command, List, Listing, Options, Text, Twin};
 use std::alloc::{AllocError, Global};
 
 /// Why a text gives no command.
@@ -84,6 +84,23 @@ fn read_submission(alloc: Global, words: &[Text]) -> Result<Command, ReadFault>
     }
 }
 
+// A command of one word.
+fn read_alone(command: Command, rest: &[Text]) -> Result<Command, ReadFault>
+    ensures { Gives result (alone command rest.now) }
+{
+    if rest.is_empty() {
+        Ok(command)
+    } else {
+        Err(ReadFault::Syntax)
+    }
+}
+
+fn whole_listing(alloc: Global) -> Result<Command, AllocError>
+    ensures { IfOk result (λ command. command ≡ all_jobs) }
+{
+    Ok(Command::Show(Listing::All(Text::from_bytes(alloc, b"*")?)))
+}
+
 fn read_words(alloc: Global, words: &[Text]) -> Result<Command, ReadFault>
     ensures { Gives result (command_in words.now) }
 {
@@ -92,6 +109,10 @@ fn read_words(alloc: Global, words: &[Text]) -> Result<Command, ReadFault>
     };
     if is_text(verb, b"qsub") {
         read_submission(alloc, rest)
+    } else if is_text(verb, b"sched") {
+        read_alone(Command::Sched, rest)
+    } else if is_text(verb, b"qstat") {
+        read_alone(whole_listing(alloc)?, rest)
     } else {
         Err(ReadFault::Syntax)
     }
