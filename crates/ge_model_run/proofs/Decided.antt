@@ -1,14 +1,15 @@
 -- The function on lists gives a run, and what it books on the way is what its decisions book.
-use Rattle.std.proofs.Common.{◌≡◌, ℕ, inl, inr, List, [], ◌∷◌, ◌++◌, fold, flat_map, Option, Some, None, refl, sym, subst, ap, ◌∙◌, append_assoc}
+use Rattle.std.proofs.Common.{◌≡◌, ℕ, ◌<◌, inl, inr, false, List, [], ◌∷◌, ◌++◌, fold, flat_map, Option, Some, None, refl, sym, subst, ap, ◌∙◌, append_assoc, arith}
 use Rattle.std.specs.Prelude.{nat_lt}
-use Rattle.std.proofs.lemmas.Bool.{cond_both, ltb-true, ltb-false}
+use Rattle.std.proofs.lemmas.Bool.{cond_both, ltb-true, ltb-false, lt-ltb, le-ltb}
 use Rattle.std.proofs.lemmas.List.{append-nil}
 use Rattle.std.proofs.lemmas.List.Concat.{flat_map-append}
 use Rattle.ge_rows.specs.declared.cluster.Cluster.{Cluster}
 use Rattle.ge_rows.specs.declared.jobs.Grant.{Grant}
 use Rattle.ge_rows.specs.declared.scheduling.Booking.{Booking}
 use Rattle.ge_rows.specs.declared.scheduling.Decision.{Decision}
-use Rattle.ge_rows.specs.declared.scheduling.Decision.TheVariants.{Start, Skip}
+use Rattle.ge_rows.specs.declared.scheduling.Decision.TheVariants.{Start, Reserve, Skip}
+use Rattle.ge_rows.specs.declared.scheduling.Start.{Start as Starting}
 use Rattle.ge_rows.specs.declared.tasks.TaskId.{TaskId}
 use Rattle.ge_model_run.specs.Placing.{base_bookings, placement}
 use Rattle.ge_model_run.specs.Running.{last_serial, serial_after, booked_by, bookings_after, decision_with, decision_of, decide, run_of, IsDecided, IsRunAfter, IsRun}
@@ -59,3 +60,40 @@ module _ (c : Cluster) (now : ℕ) where
   pub run_books : (order : List TaskId) → (fold (decide c now) (base_bookings c now, []) order).0 ≡ bookings_after c now (run_of c order now)
   unfolding run_of
   run_books order = books_them (base_bookings c now) [] order (sym (append-nil (base_bookings c now)))
+
+  skipped_is_one : (task : TaskId) (serial : ℕ) (grants : Option (List Grant)) → last_serial < serial → Skip task ≡ decision_with task serial grants
+  skipped_is_one task serial None late = refl
+  skipped_is_one task serial (Some grants) late = rw (lt-ltb last_serial serial late) refl
+
+  abbrev make : TaskId → ℕ → List Grant → Starting
+  make t n g = record { task = t; serial = n; grants = g }
+
+  -- there is one decision that may come after those before
+  decided_is_one : (before : List Decision) (task : TaskId) (d : Decision) → IsDecided c now before task d → d ≡ decision_of c now (bookings_after c now before) before task
+  decided_is_one before task (Start start) is =
+      let started : Start start ≡ decision_with task (serial_after c before) (Some start.grants) =
+      let open_still : nat_lt last_serial (serial_after c before) ≡ false = le-ltb last_serial (serial_after c before) (omega (arith, is.1.in_range, is.1.next)) in
+      rw open_still (ap (λ s. Start s) (ap (λ t. make t start.serial start.grants) is.0 ∙ ap (λ n. make task n start.grants) is.1.next)) in
+      started ∙ ap (λ g. decision_with task (serial_after c before) g) (sym is.1.placed)
+  decided_is_one before task (Reserve kept) is = absurd is.1
+  decided_is_one before task (Skip skipped) is =
+      ap (λ t. Skip t) is.0 ∙ elim is.1 [
+        | inl none ↦ ap (λ g. decision_with task (serial_after c before) g) (sym none)
+        | inr late ↦ skipped_is_one task (serial_after c before) (placement c task (bookings_after c now before) now) late
+      ]
+
+  decides_so : (booked : List Booking) (before : List Decision) (order : List TaskId) (more : List Decision) → booked ≡ bookings_after c now before → IsRunAfter c now before order more
+      → (fold (decide c now) (booked, before) order).1 ≡ before ++ more
+  decides_so booked before [] [] is run = sym (append-nil before)
+  decides_so booked before [] (d ∷ more) is run = absurd run
+  decides_so booked before (task ∷ order) [] is run = absurd run
+  decides_so booked before (task ∷ order) (d ∷ more) is run =
+      let e = decision_of c now booked before task in
+      let same : e ≡ d = ap (λ b. decision_of c now b before task) is ∙ sym (decided_is_one before task d run.0) in
+      let rest = decides_so (booked ++ booked_by c now e) (before ++ e ∷ []) order more (one_more booked before e is) (subst (λ x. IsRunAfter c now (before ++ x ∷ []) order more) (sym same) run.1) in
+      rest ∙ append_assoc before (e ∷ []) more ∙ ap (λ x. before ++ x ∷ more) same
+
+  -- a run is the one of the function
+  pub run_is_run_of : (order : List TaskId) (decisions : List Decision) → IsRun c order now decisions → decisions ≡ run_of c order now
+  unfolding run_of IsRun
+  run_is_run_of order decisions run = sym (decides_so (base_bookings c now) [] order decisions (sym (append-nil (base_bookings c now))) run)

@@ -17,9 +17,9 @@ use Rattle.ge_rows.specs.declared.scheduling.Decision.TheVariants.{Start, Skip}
 use Rattle.ge_rows.specs.declared.tasks.TaskId.{TaskId}
 use Rattle.ge_model_run.specs.Bookings.{same_instance, is_within, taken_by, whole_sum, plain_sum, peak, window_end}
 use Rattle.ge_model_run.specs.Placing.{duration_of, slots_limit, slots_at, instances, base_bookings, booking_of, one_slot, is_admissible, first_admissible, job_placement, placement}
-use Rattle.ge_model_run.specs.Running.{last_serial, serial_after, booking_at, booked_by, decision_with, decision_of, decide, run_of, KeepsSlots}
+use Rattle.ge_model_run.specs.Running.{last_serial, serial_after, booking_at, booked_by, decision_with, decision_of, decide, run_of, IsRun, KeepsSlots}
 use Rattle.ge_model_run.proofs.Peaks.{within_peak}
-use Rattle.ge_model_run.proofs.Decided.{run_books}
+use Rattle.ge_model_run.proofs.Decided.{run_books, run_is_run_of}
 
 -- texts that pass the test are equal
 texts_equal : (a b : List ℕ) → text_eq a b ≡ true → a ≡ b
@@ -139,3 +139,7 @@ pub run_keeps_slots : (c : Cluster) (order : List TaskId) (now : ℕ) → KeepsS
 run_keeps_slots c order now at moment later =
     subst (λ booked. plain_sum booked (slots_limit at) moment ≤ max (slots_at c at) (plain_sum (base_bookings c now) (slots_limit at) moment)) (run_books c now order)
     (decided_sums c at now moment later order (base_bookings c now) [])
+
+-- so does every run
+pub each_run_keeps_slots : (c : Cluster) (order : List TaskId) (now : ℕ) (decisions : List Decision) → IsRun c order now decisions → KeepsSlots c now decisions
+each_run_keeps_slots c order now decisions run = subst (λ ds. KeepsSlots c now ds) (sym (run_is_run_of c now order decisions run)) (run_keeps_slots c order now)
