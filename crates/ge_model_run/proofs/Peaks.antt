@@ -1,12 +1,12 @@
 -- The greatest sum of a window bounds the sum at each of its moments: what holds at a moment holds since the last
 -- moment of the window, up to it, at which a booking begins, or since the window's first.
-use Rattle.std.proofs.Common.{◌≡◌, ℕ, ◌+◌, ◌≤◌, ◌<◌, Bool, true, false, cond, ◌&&◌, max, min, List, [], ◌∷◌, refl, sym, subst, ap, ◌∙◌, inl, inr, arith}
-use Rattle.std.specs.Prelude.{fold, sum_by, nat_lt, nat_le}
+use Rattle.std.proofs.Common.{◌≡◌, ℕ, ◌≤◌, ◌<◌, Bool, true, cond, ◌&&◌, max, List, [], ◌∷◌, sym, subst, inl, inr, arith}
+use Rattle.std.specs.Prelude.{fold, nat_lt, nat_le}
 use Rattle.std.proofs.lemmas.Bool.{cond_both, and_parts, and_cases, and_from, cases_lt, ltb-true, ltb-false, leb-true, leb-false, lt-ltb, le-leb}
 use Rattle.std.proofs.lemmas.List.Sums.{sum_by-cons}
 use Rattle.ge_rows.specs.declared.scheduling.Booking.{Booking}
 use Rattle.ge_rows.specs.declared.scheduling.LimitId.{LimitId}
-use Rattle.ge_model_run.specs.Bookings.{is_within, taken_by, demand_on, whole_sum, plain_sum, greatest_sum, begins_inside, raised, peak}
+use Rattle.ge_model_run.specs.Bookings.{is_within, taken_by, demand_on, whole_sum, plain_sum, begins_inside, raised, peak}
 
 -- whether a booking begins after a moment and by another
 abbrev begins_by : ℕ → ℕ → Booking → Bool
@@ -30,10 +30,10 @@ taken_before : (limit : LimitId) (moment since : ℕ) (b : Booking) → since �
 taken_before limit moment since b h began =
     cond_both (is_within b moment) (demand_on b.demands limit) 0 (λ n. n ≤ taken_by limit since b)
     (λ e. let parts = and_parts _ _ e in
-        let by : b.from ≤ moment = leb-true _ _ parts.0 in
-        let on : moment < b.until = ltb-true _ _ parts.1 in
-        let still : is_within b since ≡ true = and_from _ _ (le-leb _ _ (began by)) (lt-ltb _ _ (omega arith)) in
-        rw still (omega arith))
+    let by : b.from ≤ moment = leb-true _ _ parts.0 in
+    let on : moment < b.until = ltb-true _ _ parts.1 in
+    let still : is_within b since ≡ true = and_from _ _ (le-leb _ _ (began by)) (lt-ltb _ _ (omega arith)) in
+    rw still (omega arith))
     (λ _. omega arith)
 
 latest_rises : (from moment : ℕ) (b : Booking) (bs : List Booking) → latest from moment bs ≤ latest from moment (b ∷ bs)
@@ -68,7 +68,7 @@ peak_rises bookings limit from until most [] = omega arith
 peak_rises bookings limit from until most (b ∷ bs) =
     let rest = peak_rises bookings limit from until (raised bookings limit from until most b) bs in
     let more : most ≤ raised bookings limit from until most b =
-        cond_both (begins_inside from until b) (max most (plain_sum bookings limit b.from)) most (λ n. most ≤ n) (λ _. omega arith) (λ _. omega arith) in
+    cond_both (begins_inside from until b) (max most (plain_sum bookings limit b.from)) most (λ n. most ≤ n) (λ _. omega arith) (λ _. omega arith) in
     omega (arith, rest, more)
 
 max_cases : (P : ℕ → Type 0) (a b : ℕ) → P a → P b → P (max a b)
@@ -84,15 +84,15 @@ peak_at_latest bookings limit from until moment most [] on first = first
 peak_at_latest bookings limit from until moment most (b ∷ bs) on first =
     let P : ℕ → Type 0 = λ s. plain_sum bookings limit s ≤ fold (raised bookings limit from until) (raised bookings limit from until most b) bs in
     let more : most ≤ raised bookings limit from until most b =
-        cond_both (begins_inside from until b) (max most (plain_sum bookings limit b.from)) most (λ n. most ≤ n) (λ _. omega arith) (λ _. omega arith) in
+    cond_both (begins_inside from until b) (max most (plain_sum bookings limit b.from)) most (λ n. most ≤ n) (λ _. omega arith) (λ _. omega arith) in
     let rest : P (latest from moment bs) = peak_at_latest bookings limit from until moment (raised bookings limit from until most b) bs on (omega (arith, more)) in
     cond_both (begins_by from moment b) (max b.from (latest from moment bs)) (latest from moment bs) P
     (λ e. let parts = and_parts (nat_lt from b.from) (nat_le b.from moment) e in
-        let by : b.from ≤ moment = leb-true b.from moment parts.1 in
-        let under : b.from < until = omega arith in
-        let inside : begins_inside from until b ≡ true = and_from (nat_lt from b.from) (nat_lt b.from until) parts.0 (lt-ltb b.from until under) in
-        let here : plain_sum bookings limit b.from ≤ raised bookings limit from until most b = rw inside (omega arith) in
-        max_cases P b.from (latest from moment bs) (omega (arith, here, peak_rises bookings limit from until (raised bookings limit from until most b) bs)) rest)
+    let by : b.from ≤ moment = leb-true b.from moment parts.1 in
+    let under : b.from < until = omega arith in
+    let inside : begins_inside from until b ≡ true = and_from (nat_lt from b.from) (nat_lt b.from until) parts.0 (lt-ltb b.from until under) in
+    let here : plain_sum bookings limit b.from ≤ raised bookings limit from until most b = rw inside (omega arith) in
+    max_cases P b.from (latest from moment bs) (omega (arith, here, peak_rises bookings limit from until (raised bookings limit from until most b) bs)) rest)
     (λ _. rest)
 
 -- the greatest sum of a window bounds the sum at each of its moments

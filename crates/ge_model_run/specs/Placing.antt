@@ -1,5 +1,5 @@
 -- Where a task is placed, and what it books there.
-use Rattle.std.specs.Prelude.{ℕ, ◌+◌, ◌-◌, ◌^◌, ◌==◌, Bool, cond, nat_le, min, max, List, [], ◌∷◌, map, flat_map, find, Option, Some, None, codes}
+use Rattle.std.specs.Prelude.{ℕ, ◌+◌, ◌-◌, ◌^◌, ◌==◌, Bool, false, not, ◌&&◌, cond, nat_le, min, max, List, [], ◌∷◌, map, flat_map, find, Option, Some, None, codes}
 use Rattle.std.specs.List.{list_any}
 use Rattle.std.specs.Map.{keys_of}
 use Rattle.std.specs.Option.{option_map}
@@ -21,9 +21,18 @@ use Rattle.ge_model_run.specs.Bookings.{window_end, peak}
 abbrev pub duration_of : Cluster → Job → ℕ
 duration_of c job = max 1 c.sched.default_duration
 
+-- an entry of a hostlist that begins with @ names a group: hostgroup
+abbrev pub is_group : List ℕ → Bool
+is_group [] = false
+is_group (b ∷ bs) = b == 64
+
+-- whether an entry of a hostlist names a host
+abbrev pub names_host : List ℕ → List ℕ → Bool
+names_host host entry = not (is_group entry) && text_eq entry host
+
 -- whether a queue has a host: queue_conf, hostlist
 abbrev pub has_host : QueueRow → List ℕ → Bool
-has_host q host = list_any (λ name. text_eq name host) q.hosts
+has_host q host = list_any (names_host host) q.hosts
 
 -- the instance of a queue on a host, where the queue has it
 abbrev pub instance_on : List ℕ × QueueRow → List ℕ → List InstanceId

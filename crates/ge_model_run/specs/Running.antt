@@ -1,14 +1,16 @@
 -- A scheduling run: one decision for each task, in the order of the tasks.
-use Rattle.std.specs.Prelude.{◌≡◌, ℕ, ◌+◌, ◌-◌, ◌^◌, ◌≤◌, ◌<◌, ◌⊎◌, Bool, true, false, if◌then◌else◌, nat_lt, List, [], ◌∷◌, ◌++◌, fold, flat_map, count_by, Option, Some, None}
+use Rattle.std.specs.Prelude.{◌≡◌, ℕ, ◌+◌, ◌-◌, ◌^◌, ◌≤◌, ◌<◌, ◌⊎◌, Bool, true, false, if◌then◌else◌, nat_lt, max, List, [], ◌∷◌, ◌++◌, fold, flat_map, count_by, Option, Some, None}
 use Rattle.ge_collections.specs.Keyed.{at_number}
 use Rattle.ge_rows.specs.declared.cluster.Cluster.{Cluster}
+use Rattle.ge_rows.specs.declared.hosts.InstanceId.{InstanceId}
 use Rattle.ge_rows.specs.declared.jobs.Job.{Job}
 use Rattle.ge_rows.specs.declared.jobs.Grant.{Grant}
 use Rattle.ge_rows.specs.declared.scheduling.Booking.{Booking}
 use Rattle.ge_rows.specs.declared.scheduling.Decision.{Decision}
 use Rattle.ge_rows.specs.declared.scheduling.Decision.TheVariants as decision
 use Rattle.ge_rows.specs.declared.tasks.TaskId.{TaskId}
-use Rattle.ge_model_run.specs.Placing.{booking_of, base_bookings, placement}
+use Rattle.ge_model_run.specs.Bookings.{plain_sum}
+use Rattle.ge_model_run.specs.Placing.{slots_limit, slots_at, booking_of, base_bookings, placement}
 
 -- the last number that a dispatch gets
 abbrev pub last_serial : ℕ
@@ -88,3 +90,8 @@ IsRunAfter c now before (task ∷ order) (d ∷ decisions) = IsDecided c now bef
 -- the decisions of a scheduling run at a moment over the tasks in this order
 unfoldable pub IsRun : Cluster → List TaskId → ℕ → List Decision → Type 0
 IsRun c order now decisions = IsRunAfter c now [] order decisions
+
+-- what is booked of an instance's slots after a run: from now on never more than there are, unless more were booked before it
+abbrev pub KeepsSlots : Cluster → ℕ → List Decision → Type 0
+KeepsSlots c now decisions = (at : InstanceId) (moment : ℕ) → now ≤ moment
+    → plain_sum (bookings_after c now decisions) (slots_limit at) moment ≤ max (slots_at c at) (plain_sum (base_bookings c now) (slots_limit at) moment)

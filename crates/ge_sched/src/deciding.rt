@@ -2,7 +2,7 @@
 ghost use Rattle.std.specs.Prelude.{◌≡◌, ◌++◌, IfOk, OnOk};
 ghost use Rattle.ge_rows.specs.Keyed.{at_number};
 ghost use Rattle.ge_model_run.specs.Placing.{instances, job_placement};
-ghost use Rattle.ge_model_run.specs.Running.{is_start, serial_after, booking_at, booked_by, decision_with, decide, run_of, IsRun};
+ghost use Rattle.ge_model_run.specs.Running.{is_start, serial_after, booking_at, booked_by, decision_with, decide, run_of, IsRun, KeepsSlots};
 
 use crate::booking::book;
 use crate::gathering::{find_bookings, find_instances};
@@ -118,17 +118,14 @@ fn decide_task(
     so_far.decisions.push(decision)
 }
 
-/// The decisions of a scheduling run at a moment, one for each task of the order and in its order. A task starts with
-/// the number after that of the start before it, from the cluster's next one on, where it can be placed beside all that
-/// is booked by then; it waits where it can't, or where the last number, 2^48 - 1, was given out.
 #[tactic(auto, unfolding(ge_model_run::specs::Running::run_of))]
-pub fn run(
+fn decide_all(
     alloc: Global,
     c: &Cluster,
     order: &List<TaskId>,
     now: u64,
 ) -> Result<List<Decision>, AllocError>
-    ensures computed { IfOk result (λ decisions. decisions ≡ run_of c.now order.now now) }
+    ensures { IfOk result (λ decisions. decisions ≡ run_of c.now order.now now) }
 {
     let ats = find_instances(alloc, c)?;
     let mut so_far = Progress {
@@ -145,4 +142,22 @@ pub fn run(
         serial: _,
     } = so_far;
     Ok(decisions)
+}
+
+/// The decisions of a scheduling run at a moment, in seconds: one for each task of the order, in its order. A task starts
+/// where it can be placed now beside all that is booked by then; its start has the number after that of the start before
+/// it, the first one the cluster's next number. It is skipped where it can't be placed, where its job isn't there, or
+/// where the last number, 2^48 - 1, was given out. From now on never more of a queue instance's slots is booked than
+/// there are, unless more were booked before the run: see the manual pages sched_conf and queue_conf.
+pub fn run(
+    alloc: Global,
+    c: &Cluster,
+    order: &List<TaskId>,
+    now: u64,
+) -> Result<List<Decision>, AllocError>
+    ensures computed { IfOk result (λ decisions. decisions ≡ run_of c.now order.now now) }
+    ensures run { IfOk result (λ decisions. IsRun c.now order.now now decisions) }
+    ensures slots { IfOk result (λ decisions. KeepsSlots c.now now decisions) }
+{
+    decide_all(alloc, c, order, now)
 }

@@ -1,15 +1,30 @@
 // What is the same for a whole run.
 ghost use Rattle.std.specs.Prelude.{◌≡◌, ◌∷◌, ◌++◌, [], IfOk, OnOk};
-ghost use Rattle.ge_model_run.specs.Placing.{has_host, instance_on, instances_of, instances, next_moment, running_booking, job_bookings, base_bookings};
+ghost use Rattle.ge_model_run.specs.Placing.{is_group, names_host, has_host, instance_on, instances_of, instances, next_moment, running_booking, job_bookings, base_bookings};
 
 use crate::booking::book;
 use ge_rows::{Booking, Cluster, InstanceId, Job, List, QueueRow, Running, TaskId, Text, Twin};
 use std::alloc::{AllocError, Global};
 
+fn is_group_name(entry: &Text) -> bool
+    ensures { result ≡ is_group entry.now }
+{
+    match entry.bytes() {
+        [] => false,
+        [first, ..] => *first == b'@',
+    }
+}
+
+fn is_name_of(entry: &Text, host: &Text) -> bool
+    ensures { result ≡ names_host host.now entry.now }
+{
+    !is_group_name(entry) && entry == host
+}
+
 fn is_listed(row: &QueueRow, host: &Text) -> bool
     ensures { result ≡ has_host row.now host.now }
 {
-    row.hosts.items().contains(host)
+    row.hosts.items().iter().any(|entry| is_name_of(entry, host))
 }
 
 fn add_instance(

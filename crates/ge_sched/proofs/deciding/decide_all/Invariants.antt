@@ -2,7 +2,7 @@ use Rattle.std.proofs.Common.{◌≡◌, [], take}
 use Rattle.std.specs.Prelude.{fold}
 use Rattle.ge_model_run.specs.Placing.{base_bookings}
 use Rattle.ge_model_run.specs.Running.{serial_after, decide}
-use Rattle.ge_sched.proofs.deciding.run.Given as goal
+use Rattle.ge_sched.proofs.deciding.decide_all.Given as goal
 
 abbrev pub invariant-loop-task : goal.invariant-loop-task
 invariant-loop-task l = record {
