@@ -16,3 +16,6 @@ mod listing;
 mod spelling;
 
 pub use listing::list;
+
+#[cfg(test)]
+mod tests;
