@@ -1,0 +1,2 @@
+pub mod SoundnessLists
+pub mod SoundnessJobs
