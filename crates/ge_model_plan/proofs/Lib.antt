@@ -1,2 +1,3 @@
 pub mod SoundnessLists
 pub mod SoundnessJobs
+pub mod SoundnessStarts
