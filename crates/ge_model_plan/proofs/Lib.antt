@@ -1,3 +1,4 @@
 pub mod SoundnessLists
 pub mod SoundnessJobs
 pub mod SoundnessStarts
+pub mod SoundnessSerials
