@@ -2,3 +2,4 @@ pub mod SoundnessLists
 pub mod SoundnessJobs
 pub mod SoundnessStarts
 pub mod SoundnessSerials
+pub mod Soundness

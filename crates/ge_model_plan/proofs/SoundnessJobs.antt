@@ -1,8 +1,8 @@
 -- What the start of a task keeps of its job.
-use Rattle.std.proofs.Common.{◌≡◌, Less, Equal, Greater, ℕ, ◌+◌, ◌-◌, ◌<◌, ◌≤◌, Bool, true, false, cond, List, [], ◌∷◌, ◌++◌, refl, ap, sym, subst, ◌∙◌, arith, true≢false}
-use Rattle.std.specs.Prelude.{◌==◌, ◌%◌, ◌&&◌, ◌||◌, not, nat_eq, nat_lt, nat_le, map, IsTrue}
-use Rattle.std.specs.List.{AllByRecursion, list_any}
-use Rattle.std.specs.Ordering.{nat_cmp, match_ordering}
+use Rattle.std.proofs.Common.{◌≡◌, Less, Equal, Greater, ℕ, ◌-◌, ◌≤◌, Bool, true, false, cond, List, [], ◌∷◌, refl, ap, sym, subst, ◌∙◌, arith, true≢false}
+use Rattle.std.specs.Prelude.{◌==◌, ◌%◌, ◌||◌, nat_lt, map}
+use Rattle.std.specs.List.{list_any}
+use Rattle.std.specs.Ordering.{match_ordering}
 use Rattle.std.proofs.Math.Nat.{zero-mod, sub_self}
 use Rattle.std.proofs.lemmas.Bool.{false≢true, and_parts, and_from, or_left, or_right, eqb-true, eq-eqb, le-leb, cond_both}
 use Rattle.ge_collections.specs.Keyed.{put_number}
@@ -64,6 +64,7 @@ start-HasTask moment start e has = after_start (λ job. HasTask (e.0, job)) mome
   where
     k : ℕ
     k = start.task.task
+
     running : list_any (is_under k) (put_number e.1.running k (running_from moment start)) ≡ true
     running = under_put k k (running_from moment start) e.1.running ∙ or_right _ _ (eq-eqb k k refl)
 
@@ -73,7 +74,7 @@ start-IsSpanned moment start e spanned = after_start (λ job. IsSpanned (e.0, jo
     before : (n : ℕ) → waits start.task.task e.1 ≡ true → has_task n (started_job moment start e.1) ≡ true → has_task n e.1 ≡ true
     before n waiting has =
         stood (waits n e.1) (is_broken n e.1) (runs n e.1) (n == start.task.task) (waited n start.task.task e.1 waiting)
-          (ap (λ r. false || is_broken n e.1 || r) (sym (under_put n start.task.task (running_from moment start) e.1.running)) ∙ has)
+        (ap (λ r. false || is_broken n e.1 || r) (sym (under_put n start.task.task (running_from moment start) e.1.running)) ∙ has)
 
 pub start-IsParted : (moment : ℕ) (start : Start) (e : ℕ × Job) → IsParted e → IsParted (e.0, with_start moment start e.1)
 start-IsParted moment start e places = after_start (λ job. IsParted (e.0, job)) moment start e.1 places after
@@ -89,7 +90,7 @@ start-submitted most moment start e before = after_start (λ job. job.submitted 
 pub start-HasStarted : (moment : ℕ) (start : Start) (e : ℕ × Job) → HasStarted moment e → HasStarted moment (e.0, with_start moment start e.1)
 start-HasStarted moment start e before =
     after_start (λ job. HasStarted moment (e.0, job)) moment start e.1 before
-      (λ waiting. all_put (λ task. task.1.start ≤ moment) start.task.task (running_from moment start) (λ key. omega arith) e.1.running before)
+    (λ waiting. all_put (λ task. task.1.start ≤ moment) start.task.task (running_from moment start) (λ key. omega arith) e.1.running before)
 
 -- a task under a new key adds its serial
 serials_put : (k : ℕ) (r : Running) (tasks : List (ℕ × Running)) → list_any (is_under k) tasks ≡ false → IsJoined r.serial (map serial_of tasks) (map serial_of (put_number tasks k r))
@@ -112,4 +113,4 @@ waits_alone false b true once waiting = absurd (false≢true waiting)
 pub start-job_serials : (moment : ℕ) (start : Start) (e : ℕ × Job) → IsParted e → IsJoined start.serial (job_serials e) (job_serials (e.0, with_start moment start e.1))
 start-job_serials moment start e places =
     after_start (λ job. IsJoined start.serial (job_serials e) (job_serials (e.0, job))) moment start e.1 same
-      (λ waiting. serials_put start.task.task (running_from moment start) e.1.running (waits_alone _ (is_broken start.task.task e.1) _ (places start.task.task) waiting))
+    (λ waiting. serials_put start.task.task (running_from moment start) e.1.running (waits_alone _ (is_broken start.task.task e.1) _ (places start.task.task) waiting))

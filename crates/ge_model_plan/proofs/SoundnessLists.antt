@@ -1,6 +1,6 @@
 -- Facts of each entry of a table, and the numbers of a list that one more number joins.
-use Rattle.std.proofs.Common.{◌≡◌, Less, Equal, Greater, Ordering, ℕ, ◌+◌, ◌<◌, ◌≤◌, Bool, true, false, cond, List, [], ◌∷◌, ◌++◌, refl, ap, sym, ◌∙◌, arith, true≢false, append_assoc}
-use Rattle.std.specs.Prelude.{◌==◌, ◌||◌, nat_eq, nat_lt, map, flat_map}
+use Rattle.std.proofs.Common.{◌≡◌, Less, Equal, Greater, Ordering, ℕ, ◌<◌, Bool, true, false, cond, List, [], ◌∷◌, ◌++◌, refl, ap, sym, ◌∙◌, arith}
+use Rattle.std.specs.Prelude.{◌==◌, ◌||◌, nat_eq, nat_lt}
 use Rattle.std.specs.List.{AllByRecursion, IsDistinct, list_any}
 use Rattle.std.specs.Ordering.{nat_cmp, match_ordering}
 use Rattle.std.proofs.lemmas.Bool.{ne_eqb, eqb-true, le-ltb}

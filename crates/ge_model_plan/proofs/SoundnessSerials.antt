@@ -1,6 +1,6 @@
 -- The serials that a run gives: they follow on the next one of the cluster.
-use Rattle.std.proofs.Common.{◌≡◌, ℕ, ◌+◌, ◌-◌, ◌^◌, ◌<◌, ◌≤◌, Bool, true, false, cond, List, [], ◌∷◌, ◌++◌, Option, Some, None, length, refl, ap, sym, subst, ◌∙◌, arith, length-append}
-use Rattle.std.specs.Prelude.{fold, filter_map, count_by, nat_lt, if◌then◌else◌}
+use Rattle.std.proofs.Common.{◌≡◌, ℕ, ◌+◌, ◌^◌, ◌≤◌, Bool, true, false, cond, List, [], ◌∷◌, ◌++◌, Option, Some, None, length, refl, ap, ◌∙◌, arith, length-append}
+use Rattle.std.specs.Prelude.{fold, count_by, nat_lt, if◌then◌else◌}
 use Rattle.std.proofs.lemmas.Bool.{ltb-false}
 use Rattle.std.proofs.lemmas.List.{append-nil}
 use Rattle.std.proofs.lemmas.List.Elements.{filter_map-append}
@@ -40,7 +40,8 @@ pub record AreNumbered (serial : ℕ) (starts : List Start) : Type 0 where
 numbered_more : (starts : List Start) (serial : ℕ) (start : Start) → AreNumbered serial starts → start.serial ≡ serial + length starts → start.serial ≤ last_serial → AreNumbered serial (starts ++ start ∷ [])
 numbered_more starts serial start numbered next most = record {
   follow = follow_more starts serial start numbered.follow next;
-  in_range = λ some. let more : length (starts ++ start ∷ []) ≡ length starts + 1 = length-append starts (start ∷ []) in omega (arith, more, next, most) }
+  in_range = λ some. let more : length (starts ++ start ∷ []) ≡ length starts + 1 = length-append starts (start ∷ []) in omega (arith, more, next, most);
+}
 
 -- the decision of one more task
 numbered_decision : (c : Cluster) (decisions : List Decision) (task : TaskId) (o : Option (List Grant)) → AreNumbered c.next_serial (starts_of decisions)
@@ -49,12 +50,14 @@ numbered_decision c decisions task o numbered = rw (filter_map-append start_of d
   where
     skipped : AreNumbered c.next_serial (starts_of decisions ++ [])
     skipped = rw (append-nil (starts_of decisions)) numbered
+
     chosen : (grants : List Grant) (b : Bool) → nat_lt last_serial (serial_after c decisions) ≡ b
         → AreNumbered c.next_serial (starts_of decisions ++ starts_of ((if b then decision.Skip task else decision.Start (record { task = task; serial = serial_after c decisions; grants = grants })) ∷ []))
     chosen grants true test = skipped
     chosen grants false test =
         numbered_more (starts_of decisions) c.next_serial (record { task = task; serial = serial_after c decisions; grants = grants }) numbered (ap (λ n. c.next_serial + n) (count_starts decisions))
-          (ltb-false last_serial (serial_after c decisions) test)
+        (ltb-false last_serial (serial_after c decisions) test)
+
     added : (o : Option (List Grant)) → AreNumbered c.next_serial (starts_of decisions ++ starts_of (decision_with task (serial_after c decisions) o ∷ []))
     added None = skipped
     added (Some grants) = chosen grants (nat_lt last_serial (serial_after c decisions)) refl

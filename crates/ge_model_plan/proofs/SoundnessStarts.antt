@@ -1,6 +1,6 @@
 -- The starts of a run, one after the other: what they keep of all jobs.
-use Rattle.std.proofs.Common.{◌≡◌, ℕ, ◌+◌, ◌-◌, ◌^◌, ◌<◌, ◌≤◌, Bool, true, false, cond, List, [], ◌∷◌, ◌++◌, length, refl, ap, sym, subst, ◌∙◌, arith}
-use Rattle.std.specs.Prelude.{nat_eq, min, max, fold}
+use Rattle.std.proofs.Common.{◌≡◌, ℕ, ◌+◌, ◌^◌, ◌<◌, ◌≤◌, Bool, true, false, cond, List, [], ◌∷◌, length, ap, subst, ◌∙◌, arith}
+use Rattle.std.specs.Prelude.{nat_eq, max, fold}
 use Rattle.std.specs.BTreeMap.{is_at}
 use Rattle.std.specs.List.{AllByRecursion, IsDistinct}
 use Rattle.std.specs.Ordering.{nat_cmp}
@@ -10,7 +10,7 @@ use Rattle.ge_rows.specs.declared.scheduling.Start.{Start}
 use Rattle.ge_model_cluster.specs.Applying.{with_start, start_task, greater_serial, serial_past}
 use Rattle.ge_model_cluster.specs.Soundness.{HasTask, IsSpanned, IsParted, HasStarted, job_serials, serials_of}
 use Rattle.ge_model_plan.proofs.SoundnessLists.{IsJoined, joined_all, joined_distinct, joined_after, joined_before, all_changed, all_weaker}
-use Rattle.ge_model_plan.proofs.SoundnessLists.IsJoined.{same, here, behind}
+use Rattle.ge_model_plan.proofs.SoundnessLists.IsJoined.{same}
 use Rattle.ge_model_plan.proofs.SoundnessJobs.{start-HasTask, start-IsSpanned, start-IsParted, start-submitted, start-HasStarted, start-job_serials}
 
 -- jobs of a sound cluster: numbers below one, serials below another, and nothing after a moment
@@ -42,20 +42,23 @@ joined_jobs test moment start (e ∷ es) places = by (test e.0) (joined_jobs tes
 -- a start with the next serial
 started_one : (number moment : ℕ) (start : Start) (jobs : List (ℕ × Job)) → 1 ≤ start.serial → AreSound number moment start.serial jobs → AreSound number moment (start.serial + 1) (start_task moment jobs start)
 started_one number moment start jobs positive sound = record {
-    numbers = all_changed (λ job. job.0 < number) test change (λ e h. h) jobs sound.numbers;
-    tasks = all_changed HasTask test change (start-HasTask moment start) jobs sound.tasks;
-    spans = all_changed IsSpanned test change (start-IsSpanned moment start) jobs sound.spans;
-    places = all_changed IsParted test change (start-IsParted moment start) jobs sound.places;
-    serials = joined_all (λ s. (1 ≤ s) × (s < start.serial + 1)) joined (positive, omega arith)
+  numbers = all_changed (λ job. job.0 < number) test change (λ e h. h) jobs sound.numbers;
+  tasks = all_changed HasTask test change (start-HasTask moment start) jobs sound.tasks;
+  spans = all_changed IsSpanned test change (start-IsSpanned moment start) jobs sound.spans;
+  places = all_changed IsParted test change (start-IsParted moment start) jobs sound.places;
+  serials = joined_all (λ s. (1 ≤ s) × (s < start.serial + 1)) joined (positive, omega arith)
       (all_weaker (λ s. (1 ≤ s) × (s < start.serial)) (λ s. (1 ≤ s) × (s < start.serial + 1)) (λ s h. (h.0, omega (arith, h.1))) (serials_of jobs) sound.serials);
-    different = joined_distinct joined (all_weaker (λ s. (1 ≤ s) × (s < start.serial)) (λ s. s < start.serial) (λ s h. h.1) (serials_of jobs) sound.serials) sound.different;
-    submissions = all_changed (λ job. job.1.submitted ≤ moment) test change (start-submitted moment moment start) jobs sound.submissions;
-    starts = all_changed (HasStarted moment) test change (start-HasStarted moment start) jobs sound.starts }
+  different = joined_distinct joined (all_weaker (λ s. (1 ≤ s) × (s < start.serial)) (λ s. s < start.serial) (λ s h. h.1) (serials_of jobs) sound.serials) sound.different;
+  submissions = all_changed (λ job. job.1.submitted ≤ moment) test change (start-submitted moment moment start) jobs sound.submissions;
+  starts = all_changed (HasStarted moment) test change (start-HasStarted moment start) jobs sound.starts;
+}
   where
     test : ℕ → Bool
     test = is_at (nat_cmp start.task.job)
+
     change : Job → Job
     change = with_start moment start
+
     joined : IsJoined start.serial (serials_of jobs) (serials_of (change_value test change jobs))
     joined = joined_jobs test moment start jobs sound.places
 
