@@ -1,0 +1,5 @@
+pub mod SoundnessLists
+pub mod SoundnessJobs
+pub mod SoundnessStarts
+pub mod SoundnessSerials
+pub mod Soundness
