@@ -3,3 +3,4 @@ pub mod SoundnessJobs
 pub mod SoundnessStarts
 pub mod SoundnessSerials
 pub mod Soundness
+pub mod SoundnessTraces

@@ -123,13 +123,12 @@ run_is_sound c moment starts sound later numbered =
 abbrev KeepsSound : Cluster → Planned → Type 0
 KeepsSound c planned = IfSome planned.entry (λ entry. IsSound (after_entry c entry))
 
-keeps_refused : (c : Cluster) (refusal : Refusal) → KeepsSound c (refused refusal)
-keeps_refused c refusal = tt
-
+-- by the plan that is accepted
 keeps_unless : (c : Cluster) (o : Option Refusal) (planned : Planned) → (o ≡ None → KeepsSound c planned) → KeepsSound c (unless_refused o planned)
 keeps_unless c None planned accepted = accepted refl
 keeps_unless c (Some refusal) planned accepted = tt
 
+-- by the cases of a test
 keeps_if : (c : Cluster) (b : Bool) (first second : Planned) → KeepsSound c first → (b ≡ false → KeepsSound c second) → KeepsSound c (if b then first else second)
 keeps_if c true first second one other = one
 keeps_if c false first second one other = other refl
@@ -140,6 +139,7 @@ second_unmet true true r s more h = cc
 second_unmet false true r s more h = cc
 second_unmet a false r s more h = refl
 
+-- a submission
 keeps_submit : (c : Cluster) (e : Event) (options : Options) (words : List (List ℕ)) → IsSound c → c.last ≤ e.moment → KeepsSound c (submit_plan c e options words)
 unfolding submit_plan
 keeps_submit c e options words sound later = keeps_unless c (submit_refusal c words) _ accepted
@@ -149,16 +149,19 @@ keeps_submit c e options words sound later = keeps_unless c (submit_refusal c wo
         let fits : nat_lt 4294967294 c.next_job ≡ false = second_unmet (nat_le 100000 (length c.jobs)) _ Limit Limit ((nat_lt 1024 (length words), Limit) ∷ []) unmet in
         submission_is_sound c e options.items words sound later (ltb-false 4294967294 c.next_job fits)
 
+-- a scheduling run
 keeps_sched : (c : Cluster) (e : Event) → IsSound c → c.last ≤ e.moment → KeepsSound c (sched_plan c e)
 unfolding sched_plan
 keeps_sched c e sound later = keeps_unless c (sched_refusal c e) _ (λ unmet. run_is_sound c e.moment (starts_of (run_of c (dispatch_order c) e.moment)) sound later (run_numbered c (dispatch_order c) e.moment))
 
+-- each command; the others have no entry
 keeps_command : (c : Cluster) (e : Event) (asked : Command) → IsSound c → c.last ≤ e.moment → KeepsSound c (command_plan c e asked)
 keeps_command c e (command.Submit options words script) sound later = keeps_submit c e options words sound later
 keeps_command c e command.Sched sound later = keeps_sched c e sound later
 keeps_command c e (command.Show what) sound later = tt
 keeps_command c e other sound later = tt
 
+-- a command that isn't before the last entry
 keeps_timely : (c : Cluster) (e : Event) (asked : Option Command) → IsSound c → KeepsSound c (timely_plan c e asked)
 keeps_timely c e None sound = tt
 keeps_timely c e (Some asked) sound = keeps_if c (nat_lt e.moment c.last) (refused TimeBack) (command_plan c e asked) tt (λ test. keeps_command c e asked sound (ltb-false e.moment c.last test))

@@ -36,7 +36,7 @@ pub after_start : (P : Job → Type 0) (moment : ℕ) (start : Start) (job : Job
 after_start P moment start job before after =
     cond_both (is_alone start.task.task job.queued) (started_job moment start job) job P (λ alone. after (alone_waits start.task.task job.queued alone)) (λ alone. before)
 
--- a number that waits, is in error or runs, by those of before
+-- a number stands in one place at most: none waits, and one more runs that waited
 parted : (a b r k : Bool) → (k ≡ true → a ≡ true) → at_most_one a b r ≡ true → at_most_one false b (r || k) ≡ true
 parted true true r k was once = absurd (false≢true once)
 parted true false true k was once = absurd (false≢true once)
@@ -48,6 +48,7 @@ parted false true false false was once = refl
 parted false false true false was once = refl
 parted false false false false was once = refl
 
+-- a number that stands after the start stood before it
 stood : (a b r k : Bool) → (k ≡ true → a ≡ true) → (false || b || (r || k)) ≡ true → (a || b || r) ≡ true
 stood true b r k was stands = refl
 stood false true r k was stands = refl
@@ -59,6 +60,7 @@ stood false false false false was stands = stands
 waited : (n k : ℕ) (job : Job) → waits k job ≡ true → (n == k) ≡ true → waits n job ≡ true
 waited n k job waiting equal = subst (λ m. waits m job ≡ true) (sym (eqb-true n k equal)) waiting
 
+-- the job has a task: the one that starts, where one does
 pub start-HasTask : (moment : ℕ) (start : Start) (e : ℕ × Job) → HasTask e → HasTask (e.0, with_start moment start e.1)
 start-HasTask moment start e has = after_start (λ job. HasTask (e.0, job)) moment start e.1 has (λ waiting. (k, or_right (false || is_broken k e.1) _ running))
   where
@@ -68,6 +70,7 @@ start-HasTask moment start e has = after_start (λ job. HasTask (e.0, job)) mome
     running : list_any (is_under k) (put_number e.1.running k (running_from moment start)) ≡ true
     running = under_put k k (running_from moment start) e.1.running ∙ or_right _ _ (eq-eqb k k refl)
 
+-- its tasks are those of before
 pub start-IsSpanned : (moment : ℕ) (start : Start) (e : ℕ × Job) → IsSpanned e → IsSpanned (e.0, with_start moment start e.1)
 start-IsSpanned moment start e spanned = after_start (λ job. IsSpanned (e.0, job)) moment start e.1 spanned (λ waiting n has. spanned n (before n waiting has))
   where
@@ -76,6 +79,7 @@ start-IsSpanned moment start e spanned = after_start (λ job. IsSpanned (e.0, jo
         stood (waits n e.1) (is_broken n e.1) (runs n e.1) (n == start.task.task) (waited n start.task.task e.1 waiting)
         (ap (λ r. false || is_broken n e.1 || r) (sym (under_put n start.task.task (running_from moment start) e.1.running)) ∙ has)
 
+-- each stands in one place
 pub start-IsParted : (moment : ℕ) (start : Start) (e : ℕ × Job) → IsParted e → IsParted (e.0, with_start moment start e.1)
 start-IsParted moment start e places = after_start (λ job. IsParted (e.0, job)) moment start e.1 places after
   where
@@ -84,9 +88,11 @@ start-IsParted moment start e places = after_start (λ job. IsParted (e.0, job))
         ap (λ r. at_most_one false (is_broken n e.1) r) (under_put n start.task.task (running_from moment start) e.1.running)
         ∙ parted (waits n e.1) (is_broken n e.1) (runs n e.1) (n == start.task.task) (waited n start.task.task e.1 waiting) (places n)
 
+-- the submission stays
 pub start-submitted : (most moment : ℕ) (start : Start) (e : ℕ × Job) → e.1.submitted ≤ most → (with_start moment start e.1).submitted ≤ most
 start-submitted most moment start e before = after_start (λ job. job.submitted ≤ most) moment start e.1 before (λ waiting. before)
 
+-- the start is at the moment
 pub start-HasStarted : (moment : ℕ) (start : Start) (e : ℕ × Job) → HasStarted moment e → HasStarted moment (e.0, with_start moment start e.1)
 start-HasStarted moment start e before =
     after_start (λ job. HasStarted moment (e.0, job)) moment start e.1 before
@@ -110,6 +116,7 @@ waits_alone true true true once waiting = absurd (false≢true once)
 waits_alone true false true once waiting = absurd (false≢true once)
 waits_alone false b true once waiting = absurd (false≢true waiting)
 
+-- the serials of the job, with that of the start where it starts a task
 pub start-job_serials : (moment : ℕ) (start : Start) (e : ℕ × Job) → IsParted e → IsJoined start.serial (job_serials e) (job_serials (e.0, with_start moment start e.1))
 start-job_serials moment start e places =
     after_start (λ job. IsJoined start.serial (job_serials e) (job_serials (e.0, job))) moment start e.1 same

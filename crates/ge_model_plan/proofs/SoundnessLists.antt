@@ -39,16 +39,19 @@ module _ {X : Type 0} (P : ℕ × X → Type 0) where
       by Equal rest = (fact e.0, a.1)
       by Greater rest = (a.0, rest)
 
+-- `||` of three, by where the brackets stand
 or_moved : (a b c : Bool) → (a || (b || c)) ≡ ((a || b) || c)
 or_moved true b c = refl
 or_moved false b c = refl
 
+-- `||` the other way round
 or_turned : (a b : Bool) → (a || b) ≡ (b || a)
 or_turned true true = refl
 or_turned true false = refl
 or_turned false true = refl
 or_turned false false = refl
 
+-- what holds already may be said once more
 or_twice : (a b c : Bool) → a ≡ c → (a || b) ≡ ((a || b) || c)
 or_twice true b c e = refl
 or_twice false true c e = refl

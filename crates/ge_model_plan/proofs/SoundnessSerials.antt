@@ -24,6 +24,7 @@ count_from (decision.Start start ∷ more) n = count_from more (n + 1) ∙ omega
 count_from (decision.Reserve kept ∷ more) n = count_from more (n + 0) ∙ omega arith
 count_from (decision.Skip task ∷ more) n = count_from more (n + 0) ∙ omega arith
 
+-- the same, from nothing
 count_starts : (decisions : List Decision) → count_by is_start decisions ≡ length (starts_of decisions)
 count_starts decisions = count_from decisions 0 ∙ omega arith
 
@@ -37,6 +38,7 @@ pub record AreNumbered (serial : ℕ) (starts : List Start) : Type 0 where
   pub follow : FollowOn serial starts
   pub in_range : 1 ≤ length starts → serial + length starts ≤ 2 ^ 48
 
+-- with one more start
 numbered_more : (starts : List Start) (serial : ℕ) (start : Start) → AreNumbered serial starts → start.serial ≡ serial + length starts → start.serial ≤ last_serial → AreNumbered serial (starts ++ start ∷ [])
 numbered_more starts serial start numbered next most = record {
   follow = follow_more starts serial start numbered.follow next;
