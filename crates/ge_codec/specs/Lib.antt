@@ -6,4 +6,5 @@ pub mod Numbers
 pub mod Parts
 pub mod Passing
 pub mod Places
+pub mod Taking
 pub mod Variants

@@ -6,8 +6,10 @@
 #![tactic(auto)]
 
 mod canon;
+mod lists;
 mod numbers;
 mod pairs;
+mod tables;
 mod texts;
 
 pub use canon::Canon;
