@@ -1,5 +1,6 @@
 // Tables.
 ghost use Rattle.std.specs.Prelude.{◌≡◌, ◌++◌, ◌∷◌, [], ◌≤◌, length, flat_map, IfOk, OnOk, OnErr, IsTrue};
+ghost use Rattle.std.specs.Option.{option_copied};
 ghost use Rattle.ge_model_codec.specs.Reading.{Reads};
 ghost use Rattle.ge_model_codec.specs.Code.{is_next, entry_at, entries_at, pair_code};
 ghost use Rattle.ge_codec.specs.Fronts.{IsFront};
@@ -11,12 +12,22 @@ use ge_model_codec::TakeFault;
 use ge_rows::{Table, Text};
 use std::alloc::{AllocError, Global};
 
+// The last key of a table.
+fn last_key<K: Ord, V>(table: &Table<K, V>) -> Option<&K>
+    ensures { option_copied result ≡ last_key table.now }
+{
+    match table.keys().next_back() {
+        Some(last) => Some(last),
+        None => None,
+    }
+}
+
 // Whether a key stands above all keys of a table.
 fn is_next<K: Ord, V>(table: &Table<K, V>, key: &K) -> bool
     ensures { result ≡ is_next K.cmp (last_key table.now) key.now }
 {
-    match table.keys().next_back() {
-        Some(last) => *last < *key,
+    match last_key(table) {
+        Some(last) => last.cmp(key).is_lt(),
         None => true,
     }
 }
