@@ -9,6 +9,7 @@ mod canon;
 mod lists;
 mod numbers;
 mod pairs;
+mod rows;
 mod tables;
 mod texts;
 

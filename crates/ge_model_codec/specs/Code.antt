@@ -143,6 +143,24 @@ module _ {X Y : Type 0} (first : Code X) (rest : Code Y) where
     read = λ bytes at. after_it (first.read bytes at) (λ x mid. after_it (rest.read bytes mid) (λ y end. Ok ((x, y), end)));
   }
 
+-- the same, between the two
+infixr 40 ◌⊗◌
+abbrev pub ◌⊗◌ : {X Y : Type 0} → Code X → Code Y → Code (X × Y)
+◌⊗◌ first rest = pair_code first rest
+
+-- the numbers by their widths
+abbrev pub u8_code : Code ℕ
+u8_code = number_code 1
+
+abbrev pub u32_code : Code ℕ
+u32_code = number_code 4
+
+abbrev pub u64_code : Code ℕ
+u64_code = number_code 8
+
+abbrev pub u128_code : Code ℕ
+u128_code = number_code 16
+
 module _ {K : Type 0} (cmp : K → K → Ordering) where
   -- whether a key stands above the one before it, if there is one
   abbrev pub is_next : Option K → K → Bool
