@@ -12,7 +12,7 @@ use std::alloc::{AllocError, Global};
 
 // The items' bytes.
 #[tactic(auto, using(crate::specs::Fronts::front_is))]
-fn put_items<T: Canon>(items: &[T], out: &mut Text) -> Result<(), AllocError>
+pub(crate) fn put_items<T: Canon>(items: &[T], out: &mut Text) -> Result<(), AllocError>
     ensures ok { OnOk result (out.new ≡ out.old ++ flat_map T.code.write items.now) }
     ensures err { OnErr result (IsFront out.old out.new) }
 {

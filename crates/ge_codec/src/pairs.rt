@@ -45,11 +45,7 @@ impl<A: Fields, B: Fields> Fields for (A, B) {
 }
 
 // A tag byte and the fields of a variant.
-pub(crate) fn put_variant<F: Fields>(
-    tag: u8,
-    fields: &F,
-    out: &mut Text,
-) -> Result<(), AllocError>
+pub(crate) fn put_variant<F: Fields>(tag: u8, fields: &F, out: &mut Text) -> Result<(), AllocError>
     ensures ok { OnOk result (out.new ≡ out.old ++ (tag ∷ F.written fields.now)) }
     ensures err { OnErr result (IsFront out.old out.new) }
 {

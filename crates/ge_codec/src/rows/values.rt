@@ -170,7 +170,10 @@ impl Canon for Consumable {
     }
 }
 
-type ComplexDefParts = (Text, (Kind, (Relop, (Requestable, (Consumable, (Value, u64))))));
+type ComplexDefParts = (
+    Text,
+    (Kind, (Relop, (Requestable, (Consumable, (Value, u64))))),
+);
 
 impl Canon for ComplexDef {
     ghost use Rattle.ge_model_codec.specs.Configured.{complex_def_code};
@@ -181,13 +184,37 @@ impl Canon for ComplexDef {
     ghost canonical = { complex_def_canonical };
 
     fn put(&self, out: &mut Text) -> Result<(), AllocError> {
-        (&self.shortcut, (&self.kind, (&self.relop, (&self.requestable, (&self.consumable, (&self.fallback, &self.urgency)))))).put_all(out)
+        (
+            &self.shortcut,
+            (
+                &self.kind,
+                (
+                    &self.relop,
+                    (
+                        &self.requestable,
+                        (&self.consumable, (&self.fallback, &self.urgency)),
+                    ),
+                ),
+            ),
+        )
+            .put_all(out)
     }
 
     #[tactic(auto, using(crate::specs::Passing::fault_passes_made))]
     fn take(alloc: Global, bytes: &[u8], at: usize) -> Result<(ComplexDef, usize), TakeFault> {
-        let (parts, end) = ComplexDefParts::take(alloc, bytes, at)?;
+        let (parts, past) = ComplexDefParts::take(alloc, bytes, at)?;
         let (shortcut, (kind, (relop, (requestable, (consumable, (fallback, urgency)))))) = parts;
-        Ok((ComplexDef { shortcut, kind, relop, requestable, consumable, fallback, urgency }, end))
+        Ok((
+            ComplexDef {
+                shortcut,
+                kind,
+                relop,
+                requestable,
+                consumable,
+                fallback,
+                urgency,
+            },
+            past,
+        ))
     }
 }
