@@ -30,7 +30,7 @@ use Rattle.ge_rows.specs.declared.values.Consumable.TheVariants as consumable
 use Rattle.ge_rows.specs.declared.queues.Allocation.TheVariants as allocation
 use Rattle.ge_rows.specs.declared.queues.UrgencySlots.TheVariants as urgency_slots
 use Rattle.ge_rows.specs.declared.settings.SortMethod.TheVariants as sort_method
-use Rattle.ge_model_codec.specs.Code.{Code, u8_code, u32_code, u64_code, u128_code, signed_code, bool_code, text_code, list_code, option_code, table_code, pair_code, ◌⊗◌}
+use Rattle.ge_model_codec.specs.Code.{Code, u8_code, u32_code, u64_code, u128_code, signed_code, bool_code, text_code, list_code, option_code, table_code, pair_code, triple_code, ◌⊗◌}
 use Rattle.ge_model_codec.specs.Canonical.{IsCanonical}
 use Rattle.ge_model_codec.specs.Configured.{value_code, value_parts, value_of, kind_code, kind_parts, kind_of, relop_code, relop_parts, relop_of, requestable_code, requestable_parts, requestable_of, consumable_code, consumable_parts, consumable_of, complex_def_code, host_row_code, attr_code, queue_row_code, allocation_code, allocation_parts, allocation_of, urgency_slots_code, urgency_slots_parts, urgency_slots_of, pe_row_code, filter_code, rule_code, quota_row_code, user_row_code, project_row_code, share_node_code, sort_method_code, sort_method_parts, sort_method_of, sched_code}
 use Rattle.ge_codec.specs.Numbers.{u8_canonical, u32_canonical, u64_canonical, u128_canonical}

@@ -24,7 +24,7 @@ use Rattle.ge_rows.specs.declared.values.Value.{Value}
 use Rattle.ge_rows.specs.declared.entries.Item.TheVariants as item
 use Rattle.ge_rows.specs.declared.entries.ObjectKind.TheVariants as object_kind
 use Rattle.ge_rows.specs.declared.entries.Change.TheVariants as change
-use Rattle.ge_model_codec.specs.Code.{Code, u8_code, u32_code, u64_code, u128_code, signed_code, bool_code, text_code, list_code, option_code, table_code, pair_code, ◌⊗◌}
+use Rattle.ge_model_codec.specs.Code.{Code, u8_code, u32_code, u64_code, u128_code, signed_code, bool_code, text_code, list_code, option_code, table_code, pair_code, triple_code, ◌⊗◌}
 use Rattle.ge_model_codec.specs.Canonical.{IsCanonical}
 use Rattle.ge_model_codec.specs.Entries.{pick_code, patch_code, item_code, item_parts, item_of, object_kind_code, object_kind_parts, object_kind_of, key_code, change_code, change_parts, change_of, entry_code}
 use Rattle.ge_model_codec.specs.Configured.{complex_def_code, pe_row_code, project_row_code, queue_row_code, quota_row_code, sched_code, share_node_code, user_row_code, value_code}

@@ -14,7 +14,7 @@ use Rattle.ge_rows.specs.declared.tasks.TaskId.{TaskId}
 use Rattle.ge_rows.specs.declared.tasks.TaskSpan.{TaskSpan}
 use Rattle.ge_rows.specs.declared.values.Value.{Value}
 use Rattle.ge_rows.specs.TaskSet.{is_form}
-use Rattle.ge_model_codec.specs.Code.{Code, u8_code, u32_code, u64_code, u128_code, signed_code, bool_code, text_code, list_code, option_code, table_code, pair_code, ◌⊗◌}
+use Rattle.ge_model_codec.specs.Code.{Code, u8_code, u32_code, u64_code, u128_code, signed_code, bool_code, text_code, list_code, option_code, table_code, pair_code, triple_code, ◌⊗◌}
 use Rattle.ge_model_codec.specs.Canonical.{IsCanonical}
 use Rattle.ge_model_codec.specs.Jobs.{instance_id_code, grant_code, task_id_code, task_span_code, task_set_code, running_code, pe_request_code, request_code, job_code, line_code, start_code}
 use Rattle.ge_model_codec.specs.Configured.{value_code}

@@ -90,6 +90,26 @@ impl<A: Canon + Drop, B: Canon> Canon for (A, B) {
     }
 }
 
+impl<A: Canon + Drop, B: Canon + Drop, C: Canon> Canon for (A, B, C) {
+    ghost use Rattle.ge_model_codec.specs.Code.{triple_code};
+    ghost use Rattle.ge_codec.specs.Laws.{triple_canonical};
+
+    ghost code = { triple_code A.code B.code C.code };
+
+    ghost canonical = { triple_canonical A.canonical B.canonical C.canonical };
+
+    fn put(&self, out: &mut Text) -> Result<(), AllocError> {
+        (&self.0, (&self.1, &self.2)).put_all(out)
+    }
+
+    #[tactic(auto, using(crate::specs::Passing::fault_passes_made))]
+    fn take(alloc: Global, bytes: &[u8], at: usize) -> Result<((A, B, C), usize), TakeFault> {
+        let (parts, end) = <(A, (B, C))>::take(alloc, bytes, at)?;
+        let (first, (second, third)) = parts;
+        Ok(((first, second, third), end))
+    }
+}
+
 impl<T: Canon> Canon for Option<T> {
     ghost use Rattle.ge_model_codec.specs.Code.{option_code};
     ghost use Rattle.ge_codec.specs.Parts.{option_canonical};

@@ -1,4 +1,5 @@
 // The rows: each a struct of its fields in order, or a tag and the variant's fields.
+mod cluster;
 mod entries;
 mod jobs;
 mod queues;

@@ -16,17 +16,13 @@ use Rattle.ge_rows.specs.declared.quotas.QuotaRow.{QuotaRow}
 use Rattle.ge_rows.specs.declared.settings.Sched.{Sched}
 use Rattle.ge_rows.specs.declared.people.ShareNode.{ShareNode}
 use Rattle.ge_rows.specs.declared.people.UserRow.{UserRow}
-use Rattle.ge_model_codec.specs.Code.{Code, Cases, u8_code, u32_code, u64_code, u128_code, signed_code, bool_code, text_code, list_code, option_code, table_code, pair_code, ◌⊗◌, row_code, empty_code, formed_code, last_case, case_or, cases_code}
+use Rattle.ge_model_codec.specs.Code.{Code, Cases, u8_code, u32_code, u64_code, u128_code, signed_code, bool_code, text_code, list_code, option_code, table_code, pair_code, triple_code, ◌⊗◌, row_code, empty_code, formed_code, last_case, case_or, cases_code}
 use Rattle.ge_model_codec.specs.Configured.{complex_def_code, host_row_code, pe_row_code, project_row_code, queue_row_code, quota_row_code, sched_code, share_node_code, user_row_code}
 use Rattle.ge_model_codec.specs.Jobs.{job_code, line_code}
 
 -- the order of usage keys: by first difference
 abbrev pub usage_cmp : (List ℕ × List ℕ × ℕ) → (List ℕ × List ℕ × ℕ) → Ordering
 usage_cmp x y = ordering_then (ordering_then (text_cmp x.0 y.0) (text_cmp x.1 y.1)) (nat_cmp x.2 y.2)
-
--- three values, one behind the other
-abbrev pub triple_code : {X Y Z : Type 0} → Code X → Code Y → Code Z → Code (X × Y × Z)
-triple_code a b c = row_code (a ⊗ b ⊗ c) (λ t. (t.0, (t.1, t.2))) (λ p. (p.0, p.1.0, p.1.1))
 
 -- the cluster
 abbrev pub cluster_code : Code Cluster

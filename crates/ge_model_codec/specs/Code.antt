@@ -148,6 +148,10 @@ infixr 40 ◌⊗◌
 abbrev pub ◌⊗◌ : {X Y : Type 0} → Code X → Code Y → Code (X × Y)
 ◌⊗◌ first rest = pair_code first rest
 
+-- three values, one behind the other
+abbrev pub triple_code : {X Y Z : Type 0} → Code X → Code Y → Code Z → Code (X × Y × Z)
+triple_code a b c = row_code (a ⊗ b ⊗ c) (λ t. (t.0, (t.1, t.2))) (λ p. (p.0, p.1.0, p.1.1))
+
 -- the numbers by their widths
 abbrev pub u8_code : Code ℕ
 u8_code = number_code 1
@@ -246,3 +250,7 @@ module _ {X Y : Type 0} (code : Code X) (others : Cases Y) where
 -- a tag byte and the variant's fields
 abbrev pub cases_code : {X : Type 0} → Cases X → Code X
 cases_code cases = led_code (bounded_code cases.count Tag) cases.tag cases.fits cases.fields cases.read_as
+
+-- the value that all bytes are; bytes that are left over are out of range
+abbrev pub whole : {X : Type 0} → Code X → List ℕ → Reading X
+whole code bytes = after_it (code.read bytes 0) (λ x end. if end == length bytes then Ok (x, end) else Err (Range end))

@@ -32,7 +32,7 @@ use Rattle.ge_rows.specs.declared.values.Consumable.TheVariants as consumable
 use Rattle.ge_rows.specs.declared.queues.Allocation.TheVariants as allocation
 use Rattle.ge_rows.specs.declared.queues.UrgencySlots.TheVariants as urgency_slots
 use Rattle.ge_rows.specs.declared.settings.SortMethod.TheVariants as sort_method
-use Rattle.ge_model_codec.specs.Code.{Code, Cases, u8_code, u32_code, u64_code, u128_code, signed_code, bool_code, text_code, list_code, option_code, table_code, pair_code, ◌⊗◌, row_code, empty_code, formed_code, last_case, case_or, cases_code}
+use Rattle.ge_model_codec.specs.Code.{Code, Cases, u8_code, u32_code, u64_code, u128_code, signed_code, bool_code, text_code, list_code, option_code, table_code, pair_code, triple_code, ◌⊗◌, row_code, empty_code, formed_code, last_case, case_or, cases_code}
 
 -- a value
 abbrev pub value_parts : Value → ℕ ⊎ (Bool ⊎ (List ℕ))

@@ -26,7 +26,7 @@ use Rattle.ge_rows.specs.declared.values.Value.{Value}
 use Rattle.ge_rows.specs.declared.entries.Item.TheVariants as item
 use Rattle.ge_rows.specs.declared.entries.ObjectKind.TheVariants as object_kind
 use Rattle.ge_rows.specs.declared.entries.Change.TheVariants as change
-use Rattle.ge_model_codec.specs.Code.{Code, Cases, u8_code, u32_code, u64_code, u128_code, signed_code, bool_code, text_code, list_code, option_code, table_code, pair_code, ◌⊗◌, row_code, empty_code, formed_code, last_case, case_or, cases_code}
+use Rattle.ge_model_codec.specs.Code.{Code, Cases, u8_code, u32_code, u64_code, u128_code, signed_code, bool_code, text_code, list_code, option_code, table_code, pair_code, triple_code, ◌⊗◌, row_code, empty_code, formed_code, last_case, case_or, cases_code}
 use Rattle.ge_model_codec.specs.Configured.{complex_def_code, pe_row_code, project_row_code, queue_row_code, quota_row_code, sched_code, share_node_code, user_row_code, value_code}
 use Rattle.ge_model_codec.specs.Jobs.{job_code, request_code, start_code, task_set_code}
 

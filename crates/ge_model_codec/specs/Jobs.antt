@@ -16,7 +16,7 @@ use Rattle.ge_rows.specs.declared.tasks.TaskId.{TaskId}
 use Rattle.ge_rows.specs.declared.tasks.TaskSpan.{TaskSpan}
 use Rattle.ge_rows.specs.declared.values.Value.{Value}
 use Rattle.ge_rows.specs.TaskSet.{is_form}
-use Rattle.ge_model_codec.specs.Code.{Code, Cases, u8_code, u32_code, u64_code, u128_code, signed_code, bool_code, text_code, list_code, option_code, table_code, pair_code, ◌⊗◌, row_code, empty_code, formed_code, last_case, case_or, cases_code}
+use Rattle.ge_model_codec.specs.Code.{Code, Cases, u8_code, u32_code, u64_code, u128_code, signed_code, bool_code, text_code, list_code, option_code, table_code, pair_code, triple_code, ◌⊗◌, row_code, empty_code, formed_code, last_case, case_or, cases_code}
 use Rattle.ge_model_codec.specs.Configured.{value_code}
 
 -- a queue instance

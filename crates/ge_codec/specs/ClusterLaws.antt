@@ -14,9 +14,9 @@ use Rattle.ge_rows.specs.declared.quotas.QuotaRow.{QuotaRow}
 use Rattle.ge_rows.specs.declared.settings.Sched.{Sched}
 use Rattle.ge_rows.specs.declared.people.ShareNode.{ShareNode}
 use Rattle.ge_rows.specs.declared.people.UserRow.{UserRow}
-use Rattle.ge_model_codec.specs.Code.{Code, u8_code, u32_code, u64_code, u128_code, signed_code, bool_code, text_code, list_code, option_code, table_code, pair_code, ◌⊗◌}
+use Rattle.ge_model_codec.specs.Code.{Code, u8_code, u32_code, u64_code, u128_code, signed_code, bool_code, text_code, list_code, option_code, table_code, pair_code, triple_code, ◌⊗◌}
 use Rattle.ge_model_codec.specs.Canonical.{IsCanonical}
-use Rattle.ge_model_codec.specs.Cluster.{cluster_code, usage_cmp, triple_code}
+use Rattle.ge_model_codec.specs.Cluster.{cluster_code, usage_cmp}
 use Rattle.ge_model_codec.specs.Configured.{complex_def_code, host_row_code, pe_row_code, project_row_code, queue_row_code, quota_row_code, sched_code, share_node_code, user_row_code}
 use Rattle.ge_codec.specs.ConfiguredLaws.{complex_def_canonical, host_row_canonical, pe_row_canonical, project_row_canonical, queue_row_canonical, quota_row_canonical, sched_canonical, share_node_canonical, user_row_canonical}
 use Rattle.ge_model_codec.specs.Jobs.{job_code, line_code}
