@@ -96,3 +96,8 @@ module _ {X : Type 0} {item : Code X} (c : IsCanonical item) (has_form : X → B
         let one = c.writes_back bytes at x end are in_range (outer.1 ∙ same) in
         record { fits = and_of _ _ one.fits (subst (λ y. IsTrue (has_form y)) x_is kept.0); bytes_are = one.bytes_are; ends = one.ends; within = one.within };
   }
+
+-- three values are canonical where each is
+pub triple_canonical : {X Y Z : Type 0} {a : Code X} {b : Code Y} {c : Code Z} → IsCanonical a → IsCanonical b → IsCanonical c
+    → IsCanonical (row_code (pair_code a (pair_code b c)) (λ (t : X × Y × Z). (t.0, (t.1, t.2))) (λ p. (p.0, p.1.0, p.1.1)))
+triple_canonical {X} {Y} {Z} p q r = row_canonical (pair_canonical p (pair_canonical q r)) (λ (t : X × Y × Z). (t.0, (t.1, t.2))) (λ (p : X × (Y × Z)). (p.0, p.1.0, p.1.1)) (λ t. refl) (λ p. refl)

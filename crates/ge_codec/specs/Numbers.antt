@@ -107,3 +107,15 @@ number_canonical width some = record {
         within = omega arith;
       };
 }
+
+pub u8_canonical : IsCanonical (number_code 1)
+u8_canonical = number_canonical 1 (lit< tt)
+
+pub u32_canonical : IsCanonical (number_code 4)
+u32_canonical = number_canonical 4 (lit< tt)
+
+pub u64_canonical : IsCanonical (number_code 8)
+u64_canonical = number_canonical 8 (lit< tt)
+
+pub u128_canonical : IsCanonical (number_code 16)
+u128_canonical = number_canonical 16 (lit< tt)

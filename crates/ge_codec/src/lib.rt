@@ -6,8 +6,11 @@
 #![tactic(auto)]
 
 mod canon;
+mod lists;
 mod numbers;
 mod pairs;
+mod rows;
+mod tables;
 mod texts;
 
 pub use canon::Canon;

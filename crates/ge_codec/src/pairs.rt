@@ -45,11 +45,7 @@ impl<A: Fields, B: Fields> Fields for (A, B) {
 }
 
 // A tag byte and the fields of a variant.
-pub(crate) fn put_variant<F: Fields>(
-    tag: u8,
-    fields: &F,
-    out: &mut Text,
-) -> Result<(), AllocError>
+pub(crate) fn put_variant<F: Fields>(tag: u8, fields: &F, out: &mut Text) -> Result<(), AllocError>
     ensures ok { OnOk result (out.new ≡ out.old ++ (tag ∷ F.written fields.now)) }
     ensures err { OnErr result (IsFront out.old out.new) }
 {
@@ -91,6 +87,26 @@ impl<A: Canon + Drop, B: Canon> Canon for (A, B) {
         let (first, mid) = A::take(alloc, bytes, at)?;
         let (second, end) = B::take(alloc, bytes, mid)?;
         Ok(((first, second), end))
+    }
+}
+
+impl<A: Canon + Drop, B: Canon + Drop, C: Canon> Canon for (A, B, C) {
+    ghost use Rattle.ge_model_codec.specs.Code.{triple_code};
+    ghost use Rattle.ge_codec.specs.Laws.{triple_canonical};
+
+    ghost code = { triple_code A.code B.code C.code };
+
+    ghost canonical = { triple_canonical A.canonical B.canonical C.canonical };
+
+    fn put(&self, out: &mut Text) -> Result<(), AllocError> {
+        (&self.0, (&self.1, &self.2)).put_all(out)
+    }
+
+    #[tactic(auto, using(crate::specs::Passing::fault_passes_made))]
+    fn take(alloc: Global, bytes: &[u8], at: usize) -> Result<((A, B, C), usize), TakeFault> {
+        let (parts, end) = <(A, (B, C))>::take(alloc, bytes, at)?;
+        let (first, (second, third)) = parts;
+        Ok(((first, second, third), end))
     }
 }
 

@@ -143,6 +143,28 @@ module _ {X Y : Type 0} (first : Code X) (rest : Code Y) where
     read = λ bytes at. after_it (first.read bytes at) (λ x mid. after_it (rest.read bytes mid) (λ y end. Ok ((x, y), end)));
   }
 
+-- the same, between the two
+infixr 40 ◌⊗◌
+abbrev pub ◌⊗◌ : {X Y : Type 0} → Code X → Code Y → Code (X × Y)
+◌⊗◌ first rest = pair_code first rest
+
+-- three values, one behind the other
+abbrev pub triple_code : {X Y Z : Type 0} → Code X → Code Y → Code Z → Code (X × Y × Z)
+triple_code a b c = row_code (a ⊗ b ⊗ c) (λ t. (t.0, (t.1, t.2))) (λ p. (p.0, p.1.0, p.1.1))
+
+-- the numbers by their widths
+abbrev pub u8_code : Code ℕ
+u8_code = number_code 1
+
+abbrev pub u32_code : Code ℕ
+u32_code = number_code 4
+
+abbrev pub u64_code : Code ℕ
+u64_code = number_code 8
+
+abbrev pub u128_code : Code ℕ
+u128_code = number_code 16
+
 module _ {K : Type 0} (cmp : K → K → Ordering) where
   -- whether a key stands above the one before it, if there is one
   abbrev pub is_next : Option K → K → Bool
@@ -228,3 +250,7 @@ module _ {X Y : Type 0} (code : Code X) (others : Cases Y) where
 -- a tag byte and the variant's fields
 abbrev pub cases_code : {X : Type 0} → Cases X → Code X
 cases_code cases = led_code (bounded_code cases.count Tag) cases.tag cases.fits cases.fields cases.read_as
+
+-- the value that all bytes are; bytes that are left over are out of range
+abbrev pub whole : {X : Type 0} → Code X → List ℕ → Reading X
+whole code bytes = after_it (code.read bytes 0) (λ x end. if end == length bytes then Ok (x, end) else Err (Range end))

@@ -23,3 +23,8 @@ Reads (Err Short) want = want ≡ Err Short
 Reads (Err (Tag place)) want = want ≡ Err (Tag place)
 Reads (Err (Range place)) want = want ≡ Err (Range place)
 Reads (Err Memory) want = Unit {0}
+
+-- the same, of a call that doesn't tell where the value ends
+abbrev pub ReadsWhole : {X : Type 0} → Result X TakeFault → Reading X → Type 0
+ReadsWhole (Ok x) want = (end : ℕ) × (want ≡ Ok (x, end))
+ReadsWhole (Err fault) want = Reads (Err fault) want
