@@ -1,5 +1,5 @@
 -- Jobs that are submitted, and requests that are refused.
-use Rattle.std.specs.Prelude.{◌≡◌, ℕ, Bool, true, List, [], ◌∷◌, ◌++◌, replicate, length, codes, refl}
+use Rattle.std.specs.Prelude.{◌≡◌, ℕ, true, List, [], replicate, length, codes, refl}
 use Rattle.std.specs.Fmt.{digits}
 use Rattle.ge_rows.specs.Opening.{opening_cluster, default_queue, default_sched}
 use Rattle.ge_model_script.specs.Events.{events_of}

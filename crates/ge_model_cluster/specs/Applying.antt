@@ -35,8 +35,8 @@ running_from moment start = record { serial = start.serial; start = moment; gran
 abbrev pub with_start : ℕ → Start → Job → Job
 with_start moment start job =
     cond (is_alone start.task.task job.queued)
-      (record job { queued = []; running = put_number job.running start.task.task (running_from moment start) })
-      job
+    (record job { queued = []; running = put_number job.running start.task.task (running_from moment start) })
+    job
 
 -- one task of a run starts; a job that isn't there starts nothing
 abbrev pub start_task : ℕ → List (ℕ × Job) → Start → List (ℕ × Job)

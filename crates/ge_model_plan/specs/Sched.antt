@@ -1,5 +1,5 @@
 -- The plan of a scheduling run.
-use Rattle.std.specs.Prelude.{ℕ, Bool, false, not, List, [], ◌∷◌, ◌++◌, map, flat_map, filter_map, Option, Some, None, codes, decimal}
+use Rattle.std.specs.Prelude.{ℕ, false, not, List, [], ◌∷◌, ◌++◌, map, flat_map, filter_map, Option, Some, codes, decimal}
 use Rattle.ge_base.specs.declared.refusal.Refusal.{Refusal}
 use Rattle.ge_base.specs.declared.refusal.Refusal.TheVariants.{NotPermitted}
 use Rattle.ge_rows.specs.Parts.{start_of}
@@ -11,7 +11,6 @@ use Rattle.ge_rows.specs.declared.tasks.TaskId.{TaskId}
 use Rattle.ge_rows.specs.declared.tasks.TaskSpan.{TaskSpan}
 use Rattle.ge_rows.specs.declared.scheduling.Start.{Start}
 use Rattle.ge_rows.specs.declared.scheduling.Decision.{Decision}
-use Rattle.ge_rows.specs.declared.scheduling.Decision.TheVariants as decision
 use Rattle.ge_rows.specs.declared.entries.Change.TheVariants.{Run}
 use Rattle.ge_rows.specs.declared.planned.Planned.{Planned}
 use Rattle.ge_model_run.specs.Running.{run_of}
@@ -53,7 +52,8 @@ abbrev pub started : Event → List Start → Planned
 started e starts = record {
   entry = Some (record { moment = e.moment; change = Run starts });
   reply = record { code = 0; lines = map start_line starts };
-  stop = false }
+  stop = false;
+}
 
 -- only a manager may make a run
 abbrev pub sched_refusal : Cluster → Event → Option Refusal

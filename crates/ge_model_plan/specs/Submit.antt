@@ -1,6 +1,5 @@
 -- The plan of qsub.
-use Rattle.std.specs.Prelude.{ℕ, ◌+◌, ◌^◌, Bool, true, false, nat_lt, nat_le, List, [], ◌∷◌, ◌++◌, length, Option, Some, None, codes, decimal, pos}
-use Rattle.std.specs.Str.{bytes_eq}
+use Rattle.std.specs.Prelude.{ℕ, false, nat_lt, nat_le, List, [], ◌∷◌, ◌++◌, length, Option, Some, None, codes, decimal, pos}
 use Rattle.ge_base.specs.declared.refusal.Refusal.{Refusal}
 use Rattle.ge_base.specs.declared.refusal.Refusal.TheVariants.{Limit}
 use Rattle.ge_rows.specs.declared.cluster.Cluster.{Cluster}
@@ -33,10 +32,31 @@ one_task = record { first = 1; last = 1; step = 1 }
 -- the job that a user submits
 unfoldable pub job_of : Cluster → Event → List (List ℕ × List (List ℕ)) → List (List ℕ) → Job
 job_of c e options words = record {
-  number = c.next_job; name = job_name options; owner = e.user; group = e.group; account = codes "sge"; submitted = e.moment;
-  priority = pos 0; share = 0; project = []; reserve = false; not_before = 0; deadline = 0; request = no_request;
-  array = false; span = one_task; queued = one_task ∷ []; broken = []; running = []; hold = 0; after = []; after_each = [];
-  oticket = 0; words = words; script = [] }
+  number = c.next_job;
+  name = job_name options;
+  owner = e.user;
+  group = e.group;
+  account = codes "sge";
+  submitted = e.moment;
+  priority = pos 0;
+  share = 0;
+  project = [];
+  reserve = false;
+  not_before = 0;
+  deadline = 0;
+  request = no_request;
+  array = false;
+  span = one_task;
+  queued = one_task ∷ [];
+  broken = [];
+  running = [];
+  hold = 0;
+  after = [];
+  after_each = [];
+  oticket = 0;
+  words = words;
+  script = [];
+}
 
 -- 100,000 jobs may live, job numbers end at 4,294,967,294, and a command may have 1,024 words
 abbrev pub submit_refusal : Cluster → List (List ℕ) → Option Refusal
@@ -49,4 +69,5 @@ unfoldable pub submit_plan : Cluster → Event → Options → List (List ℕ) �
 submit_plan c e options words = unless_refused (submit_refusal c words) (record {
   entry = Some (record { moment = e.moment; change = Submit (job_of c e options.items words) });
   reply = record { code = 0; lines = submitted_line c.next_job (job_name options.items) ∷ [] };
-  stop = false })
+  stop = false;
+})

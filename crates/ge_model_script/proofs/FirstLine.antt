@@ -1,10 +1,8 @@
 -- The first line of a text.
-use Rattle.std.proofs.Common.{◌≡◌, ℕ, zero, suc, ◌+◌, ◌-◌, ◌<◌, ◌≤◌, Bool, true, false, cond, List, [], ◌∷◌, ◌++◌, take, drop, length, min, refl, ap, ◌∙◌, sym, append_assoc, arith}
-use Rattle.std.proofs.lemmas.List.{drop-drop}
-use Rattle.std.proofs.Math.Seq.{take-add}
+use Rattle.std.proofs.Common.{◌≡◌, ℕ, suc, ◌+◌, ◌<◌, true, false, cond, List, [], ◌∷◌, take, drop, length, min, refl, ap, ◌∙◌, sym, arith}
 use Rattle.std.proofs.lemmas.Grind.{common_steps}
 use Rattle.std.specs.List.{position_or_len, onto_first}
-use Rattle.ge_model_script.specs.Lines.{is_line_feed, put_byte, lines_of, is_header, put_line, cut, requests_in, requests_of}
+use Rattle.ge_model_script.specs.Lines.{is_line_feed, put_byte, lines_of, is_header}
 
 -- how many bytes the first line takes, with its line feed
 abbrev pub first_len : List ℕ → ℕ

@@ -1,5 +1,5 @@
-use Rattle.std.specs.Prelude.{◌≡◌, ℕ, List, [], ◌∷◌, codes, refl, Option, Some, None}
-use Rattle.ge_model_script.specs.Lines.{lines_of, requests_of}
+use Rattle.std.specs.Prelude.{◌≡◌, [], ◌∷◌, codes, refl, Some, None}
+use Rattle.ge_model_script.specs.Lines.{requests_of}
 use Rattle.ge_model_script.specs.Header.{header_of}
 
 two : requests_of (codes "@10 ann staff\nqsub\n@@x\n@9 b c\n") ≡ codes "@10 ann staff\nqsub\n@@x\n" ∷ codes "@9 b c\n" ∷ []

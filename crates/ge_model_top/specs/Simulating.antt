@@ -1,5 +1,5 @@
 -- A run of `simulate`, from the bytes that come in to the bytes that go out.
-use Rattle.std.specs.Prelude.{◌≡◌, ◌≢◌, ℕ, ◌<◌, ◌≤◌, ◌^◌, ◌==◌, ◌⊎◌, List, [], ◌∷◌, length, Option, Some, None, IfSome, IsTrue}
+use Rattle.std.specs.Prelude.{◌≡◌, ◌≢◌, ℕ, ◌<◌, ◌≤◌, ◌^◌, ◌==◌, ◌⊎◌, List, [], ◌∷◌, length, Option, IfSome, IsTrue}
 use Rattle.std.specs.List.{list_any}
 use Rattle.ge_outside.specs.Faults.{Rose}
 use Rattle.ge_rows.specs.Opening.{opening_cluster}

@@ -40,8 +40,8 @@ pub use ge_collections::{Edit, List, Table, Text, TryEdit, Twin, twins2, twins3,
 pub use hosts::{Groups, HostRow, InstanceId};
 pub use jobs::{Grant, Job, PeRequest, Request, Running};
 pub use opening_rows::{default_queue, default_sched, opening};
-pub use planned::Planned;
 pub use people::{ProjectRow, ShareNode, UserRow};
+pub use planned::Planned;
 pub use queues::{Allocation, Attr, PeRow, QueueRow, UrgencySlots};
 pub use quotas::{Filter, QuotaRow, Rule};
 pub use scheduling::{Booking, Decision, Demand, LimitId, Prio, QuotaKey, Reservation, Start};

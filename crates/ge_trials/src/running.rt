@@ -104,11 +104,19 @@ fn byte_by_byte(rt: HostRuntime) -> Result<(), Fail> {
 #[test]
 fn starts_and_lists(rt: HostRuntime) -> Result<(), Fail> {
     let alloc = rt.alloc();
-    let outcome = run(alloc, b"@10 ann staff\nqsub -N a x\n@10 ann staff\nqsub -N b x\n@10 ann staff\nqsub -N c x\n@20 ann staff\nsched\n@20 root root\nsched\n@20 ann staff\nqstat\n@19 root root\nsched\n@21 root root\nsched\n")?;
+    let outcome = run(
+        alloc,
+        b"@10 ann staff\nqsub -N a x\n@10 ann staff\nqsub -N b x\n@10 ann staff\nqsub -N c x\n@20 ann staff\nsched\n@20 root root\nsched\n@20 ann staff\nqstat\n@19 root root\nsched\n@21 root root\nsched\n",
+    )?;
     assert_eq!(rt; outcome.status, 0);
     assert!(rt; outcome.written.len() > 120);
     let (front, back) = outcome.written.as_slice().split_at(120);
-    assert!(rt; front == b"0 1\nYour job 1 (\"a\") has been submitted\n0 1\nYour job 2 (\"b\") has been submitted\n0 1\nYour job 3 (\"c\") has been submitted\n".as_slice());
-    assert!(rt; back == b"15 1\nnot permitted\n0 2\nstart 1 1.1 all.q@local=1\nstart 2 2.1 all.q@local=1\n0 3\n1 a ann r 20 all.q@local 1 -\n2 b ann r 20 all.q@local 1 -\n3 c ann qw 10 - 1 -\n13 1\nmoment before the last one\n0 0\n".as_slice());
+    assert!(rt;
+        front
+            == b"0 1\nYour job 1 (\"a\") has been submitted\n0 1\nYour job 2 (\"b\") has been submitted\n0 1\nYour job 3 (\"c\") has been submitted\n".as_slice()
+    );
+    assert!(rt;
+        back == b"15 1\nnot permitted\n0 2\nstart 1 1.1 all.q@local=1\nstart 2 2.1 all.q@local=1\n0 3\n1 a ann r 20 all.q@local 1 -\n2 b ann r 20 all.q@local 1 -\n3 c ann qw 10 - 1 -\n13 1\nmoment before the last one\n0 0\n".as_slice()
+    );
     Ok(())
 }
