@@ -1,26 +1,13 @@
 -- The rows are canonical.
 use Rattle.std.proofs.Common.{◌≡◌, ℕ, Bool, List, refl, arith, inl, inr, ◌⊎◌}
-use Rattle.std.specs.Ordering.{nat_cmp}
 use Rattle.ge_rows.specs.Keyed.{text_cmp}
 use Rattle.ge_rows.specs.declared.queues.Allocation.{Allocation}
-use Rattle.ge_rows.specs.declared.queues.Attr.{Attr}
-use Rattle.ge_rows.specs.declared.values.ComplexDef.{ComplexDef}
 use Rattle.ge_rows.specs.declared.values.Consumable.{Consumable}
-use Rattle.ge_rows.specs.declared.quotas.Filter.{Filter}
-use Rattle.ge_rows.specs.declared.hosts.HostRow.{HostRow}
 use Rattle.ge_rows.specs.declared.values.Kind.{Kind}
-use Rattle.ge_rows.specs.declared.queues.PeRow.{PeRow}
-use Rattle.ge_rows.specs.declared.people.ProjectRow.{ProjectRow}
-use Rattle.ge_rows.specs.declared.queues.QueueRow.{QueueRow}
-use Rattle.ge_rows.specs.declared.quotas.QuotaRow.{QuotaRow}
 use Rattle.ge_rows.specs.declared.values.Relop.{Relop}
 use Rattle.ge_rows.specs.declared.values.Requestable.{Requestable}
-use Rattle.ge_rows.specs.declared.quotas.Rule.{Rule}
-use Rattle.ge_rows.specs.declared.settings.Sched.{Sched}
-use Rattle.ge_rows.specs.declared.people.ShareNode.{ShareNode}
 use Rattle.ge_rows.specs.declared.settings.SortMethod.{SortMethod}
 use Rattle.ge_rows.specs.declared.queues.UrgencySlots.{UrgencySlots}
-use Rattle.ge_rows.specs.declared.people.UserRow.{UserRow}
 use Rattle.ge_rows.specs.declared.values.Value.{Value}
 use Rattle.ge_rows.specs.declared.values.Value.TheVariants as value
 use Rattle.ge_rows.specs.declared.values.Kind.TheVariants as kind
@@ -30,14 +17,14 @@ use Rattle.ge_rows.specs.declared.values.Consumable.TheVariants as consumable
 use Rattle.ge_rows.specs.declared.queues.Allocation.TheVariants as allocation
 use Rattle.ge_rows.specs.declared.queues.UrgencySlots.TheVariants as urgency_slots
 use Rattle.ge_rows.specs.declared.settings.SortMethod.TheVariants as sort_method
-use Rattle.ge_model_codec.specs.Code.{Code, u8_code, u32_code, u64_code, u128_code, signed_code, bool_code, text_code, list_code, option_code, table_code, pair_code, triple_code, ◌⊗◌}
+use Rattle.ge_model_codec.specs.Code.{Code, u32_code, u64_code, text_code, list_code, table_code, ◌⊗◌}
 use Rattle.ge_model_codec.specs.Canonical.{IsCanonical}
 use Rattle.ge_model_codec.specs.Configured.{value_code, value_parts, value_of, kind_code, kind_parts, kind_of, relop_code, relop_parts, relop_of, requestable_code, requestable_parts, requestable_of, consumable_code, consumable_parts, consumable_of, complex_def_code, host_row_code, attr_code, queue_row_code, allocation_code, allocation_parts, allocation_of, urgency_slots_code, urgency_slots_parts, urgency_slots_of, pe_row_code, filter_code, rule_code, quota_row_code, user_row_code, project_row_code, share_node_code, sort_method_code, sort_method_parts, sort_method_of, sched_code}
-use Rattle.ge_codec.specs.Numbers.{u8_canonical, u32_canonical, u64_canonical, u128_canonical}
+use Rattle.ge_codec.specs.Numbers.{u32_canonical, u64_canonical}
 use Rattle.ge_codec.specs.Parts.{bool_canonical, text_canonical, list_canonical, option_canonical}
 use Rattle.ge_codec.specs.Entries.{table_canonical}
-use Rattle.ge_codec.specs.Variants.{last_are, or_are, cases_canonical, signed_canonical}
-use Rattle.ge_codec.specs.Laws.{pair_canonical, empty_canonical, row_canonical, formed_canonical}
+use Rattle.ge_codec.specs.Variants.{last_are, or_are, cases_canonical}
+use Rattle.ge_codec.specs.Laws.{pair_canonical, empty_canonical, row_canonical}
 
 value_back : (r : Value) → value_of (value_parts r) ≡ r
 value_back (value.Amount a) = refl

@@ -4,7 +4,6 @@ use Rattle.std.specs.Ordering.{nat_cmp}
 use Rattle.ge_rows.specs.Keyed.{text_cmp}
 use Rattle.ge_rows.specs.declared.entries.Change.{Change}
 use Rattle.ge_rows.specs.declared.values.ComplexDef.{ComplexDef}
-use Rattle.ge_rows.specs.declared.entries.Entry.{Entry}
 use Rattle.ge_rows.specs.declared.entries.Item.{Item}
 use Rattle.ge_rows.specs.declared.jobs.Job.{Job}
 use Rattle.ge_rows.specs.declared.entries.Key.{Key}
@@ -15,7 +14,6 @@ use Rattle.ge_rows.specs.declared.entries.Pick.{Pick}
 use Rattle.ge_rows.specs.declared.people.ProjectRow.{ProjectRow}
 use Rattle.ge_rows.specs.declared.queues.QueueRow.{QueueRow}
 use Rattle.ge_rows.specs.declared.quotas.QuotaRow.{QuotaRow}
-use Rattle.ge_rows.specs.declared.jobs.Request.{Request}
 use Rattle.ge_rows.specs.declared.settings.Sched.{Sched}
 use Rattle.ge_rows.specs.declared.people.ShareNode.{ShareNode}
 use Rattle.ge_rows.specs.declared.scheduling.Start.{Start}
@@ -24,18 +22,18 @@ use Rattle.ge_rows.specs.declared.values.Value.{Value}
 use Rattle.ge_rows.specs.declared.entries.Item.TheVariants as item
 use Rattle.ge_rows.specs.declared.entries.ObjectKind.TheVariants as object_kind
 use Rattle.ge_rows.specs.declared.entries.Change.TheVariants as change
-use Rattle.ge_model_codec.specs.Code.{Code, u8_code, u32_code, u64_code, u128_code, signed_code, bool_code, text_code, list_code, option_code, table_code, pair_code, triple_code, ◌⊗◌}
+use Rattle.ge_model_codec.specs.Code.{u32_code, u64_code, signed_code, bool_code, text_code, list_code, pair_code}
 use Rattle.ge_model_codec.specs.Canonical.{IsCanonical}
 use Rattle.ge_model_codec.specs.Entries.{pick_code, patch_code, item_code, item_parts, item_of, object_kind_code, object_kind_parts, object_kind_of, key_code, change_code, change_parts, change_of, entry_code}
-use Rattle.ge_model_codec.specs.Configured.{complex_def_code, pe_row_code, project_row_code, queue_row_code, quota_row_code, sched_code, share_node_code, user_row_code, value_code}
+use Rattle.ge_model_codec.specs.Configured.{complex_def_code, share_node_code, value_code}
 use Rattle.ge_codec.specs.ConfiguredLaws.{complex_def_canonical, pe_row_canonical, project_row_canonical, queue_row_canonical, quota_row_canonical, sched_canonical, share_node_canonical, user_row_canonical, value_canonical}
-use Rattle.ge_model_codec.specs.Jobs.{job_code, request_code, start_code, task_set_code}
+use Rattle.ge_model_codec.specs.Jobs.{request_code, start_code, task_set_code}
 use Rattle.ge_codec.specs.JobLaws.{job_canonical, request_canonical, start_canonical, task_set_canonical}
-use Rattle.ge_codec.specs.Numbers.{u8_canonical, u32_canonical, u64_canonical, u128_canonical}
+use Rattle.ge_codec.specs.Numbers.{u8_canonical, u32_canonical, u64_canonical}
 use Rattle.ge_codec.specs.Parts.{bool_canonical, text_canonical, list_canonical, option_canonical}
 use Rattle.ge_codec.specs.Entries.{table_canonical}
 use Rattle.ge_codec.specs.Variants.{last_are, or_are, cases_canonical, signed_canonical}
-use Rattle.ge_codec.specs.Laws.{pair_canonical, empty_canonical, row_canonical, formed_canonical}
+use Rattle.ge_codec.specs.Laws.{pair_canonical, empty_canonical, row_canonical}
 
 pub pick_canonical : IsCanonical pick_code
 pick_canonical = row_canonical (pair_canonical u32_canonical (option_canonical task_set_code task_set_canonical)) _ _ (λ r. refl) (λ p. refl)

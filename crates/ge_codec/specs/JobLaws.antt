@@ -1,29 +1,18 @@
 -- The rows are canonical.
-use Rattle.std.proofs.Common.{◌≡◌, ℕ, Bool, List, refl, arith, inl, inr, ◌⊎◌}
+use Rattle.std.proofs.Common.{refl}
 use Rattle.std.specs.Ordering.{nat_cmp}
 use Rattle.ge_rows.specs.Keyed.{text_cmp}
-use Rattle.ge_rows.specs.declared.jobs.Grant.{Grant}
-use Rattle.ge_rows.specs.declared.hosts.InstanceId.{InstanceId}
-use Rattle.ge_rows.specs.declared.jobs.Job.{Job}
-use Rattle.ge_rows.specs.declared.accounts.Line.{Line}
-use Rattle.ge_rows.specs.declared.jobs.PeRequest.{PeRequest}
-use Rattle.ge_rows.specs.declared.jobs.Request.{Request}
-use Rattle.ge_rows.specs.declared.jobs.Running.{Running}
-use Rattle.ge_rows.specs.declared.scheduling.Start.{Start}
-use Rattle.ge_rows.specs.declared.tasks.TaskId.{TaskId}
-use Rattle.ge_rows.specs.declared.tasks.TaskSpan.{TaskSpan}
-use Rattle.ge_rows.specs.declared.values.Value.{Value}
 use Rattle.ge_rows.specs.TaskSet.{is_form}
-use Rattle.ge_model_codec.specs.Code.{Code, u8_code, u32_code, u64_code, u128_code, signed_code, bool_code, text_code, list_code, option_code, table_code, pair_code, triple_code, ◌⊗◌}
+use Rattle.ge_model_codec.specs.Code.{u32_code, text_code}
 use Rattle.ge_model_codec.specs.Canonical.{IsCanonical}
 use Rattle.ge_model_codec.specs.Jobs.{instance_id_code, grant_code, task_id_code, task_span_code, task_set_code, running_code, pe_request_code, request_code, job_code, line_code, start_code}
 use Rattle.ge_model_codec.specs.Configured.{value_code}
 use Rattle.ge_codec.specs.ConfiguredLaws.{value_canonical}
-use Rattle.ge_codec.specs.Numbers.{u8_canonical, u32_canonical, u64_canonical, u128_canonical}
+use Rattle.ge_codec.specs.Numbers.{u8_canonical, u32_canonical, u64_canonical}
 use Rattle.ge_codec.specs.Parts.{bool_canonical, text_canonical, list_canonical, option_canonical}
 use Rattle.ge_codec.specs.Entries.{table_canonical}
-use Rattle.ge_codec.specs.Variants.{last_are, or_are, cases_canonical, signed_canonical}
-use Rattle.ge_codec.specs.Laws.{pair_canonical, empty_canonical, row_canonical, formed_canonical}
+use Rattle.ge_codec.specs.Variants.{signed_canonical}
+use Rattle.ge_codec.specs.Laws.{pair_canonical, row_canonical, formed_canonical}
 
 pub instance_id_canonical : IsCanonical instance_id_code
 instance_id_canonical = row_canonical (pair_canonical text_canonical text_canonical) _ _ (λ r. refl) (λ p. refl)

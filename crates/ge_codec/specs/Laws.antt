@@ -1,18 +1,11 @@
 -- The combined codes are canonical where their parts are.
-use Rattle.std.proofs.Common.{◌≡◌, ℕ, zero, suc, ◌+◌, ◌-◌, ◌^◌, ◌<◌, ◌≤◌, Bool, true, false, List, [], ◌∷◌, ◌++◌, length, take, drop, nat_le, nat_lt, Result, Ok, Err, refl, sym, ap, subst, ◌∙◌, arith, inl, inr, ◌⊎◌, append_assoc, length-append, lit<}
-use Rattle.std.specs.Prelude.{IsTrue, if◌then◌else◌, ◌&&◌, ◌==◌, Option, Some, None, flat_map, ℤ}
-use Rattle.std.specs.List.{list_all}
-use Rattle.std.proofs.Math.Seq.{take-append_seam}
-use Rattle.std.proofs.lemmas.List.{take-append-drop, length-drop, length-take-le}
-use Rattle.std.proofs.lemmas.List.Concat.{flat_map-cons}
-use Rattle.std.proofs.lemmas.Bool.{ltb-true, lt-ltb, leb-true, le-leb}
+use Rattle.std.proofs.Common.{◌≡◌, ℕ, ◌+◌, Bool, ◌++◌, length, drop, Ok, Err, refl, sym, ap, subst, ◌∙◌, arith, append_assoc, length-append}
+use Rattle.std.specs.Prelude.{IsTrue, if◌then◌else◌}
 use Rattle.ge_model_codec.specs.Reading.{Reading, after_it, made}
-use Rattle.ge_model_codec.specs.declared.TakeFault.TheVariants.{Short, Tag, Range}
-use Rattle.ge_model_codec.specs.Code
-use Rattle.ge_model_codec.specs.Code.{Code, number_code, bytes_at, counted_code, text_code, items_at, list_code, row_code, pair_code, empty_code, formed_code}
-use Rattle.ge_model_codec.specs.Canonical.{AreBytes, IsCanonical, StandsAt}
-use Rattle.ge_codec.specs.Places.{drop-past, drop-add, ends_within, ends_behind, after_it-ok, made-ok, both, and_of, if_true, if_ok}
-use Rattle.ge_codec.specs.Numbers.{number_canonical, drop_bytes, take_bytes}
+use Rattle.ge_model_codec.specs.declared.TakeFault.TheVariants.{Range}
+use Rattle.ge_model_codec.specs.Code.{Code, row_code, pair_code, empty_code, formed_code}
+use Rattle.ge_model_codec.specs.Canonical.{IsCanonical}
+use Rattle.ge_codec.specs.Places.{drop-past, after_it-ok, made-ok, both, and_of, if_true, if_ok}
 
 -- ---- nothing, two values, rows
 

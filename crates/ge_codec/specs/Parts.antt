@@ -1,17 +1,16 @@
 -- What stands behind a flag, a count or a tag is written and read one way.
-use Rattle.std.proofs.Common.{◌≡◌, ℕ, zero, suc, ◌+◌, ◌-◌, ◌<◌, ◌≤◌, Bool, true, false, List, [], ◌∷◌, ◌++◌, length, take, drop, nat_le, nat_lt, Result, Ok, Err, refl, sym, ap, subst, ◌∙◌, arith, append_assoc, length-append, lit<, inl, inr, ◌⊎◌}
-use Rattle.std.specs.Prelude.{IsTrue, if◌then◌else◌, ◌&&◌, Option, Some, None, flat_map}
+use Rattle.std.proofs.Common.{◌≡◌, ℕ, zero, suc, ◌+◌, ◌<◌, ◌≤◌, Bool, true, false, List, [], ◌∷◌, ◌++◌, length, take, drop, nat_le, nat_lt, Ok, Err, refl, sym, ap, subst, ◌∙◌, arith, append_assoc, length-append, lit<}
+use Rattle.std.specs.Prelude.{IsTrue, Option, Some, None, flat_map}
 use Rattle.std.specs.List.{list_all}
 use Rattle.std.proofs.Math.Seq.{take-append_seam}
 use Rattle.std.proofs.lemmas.List.{take-append-drop, length-drop, length-take-le}
 use Rattle.std.proofs.lemmas.List.Concat.{flat_map-cons}
 use Rattle.std.proofs.lemmas.Bool.{ltb-true, lt-ltb, leb-true, le-leb}
-use Rattle.ge_model_codec.specs.Reading.{Reading, after_it, made}
-use Rattle.ge_model_codec.specs.declared.TakeFault.{TakeFault}
-use Rattle.ge_model_codec.specs.declared.TakeFault.TheVariants.{Short, Tag, Range}
-use Rattle.ge_model_codec.specs.Code.{Code, number_code, bounded_code, led_code, flag_of, bool_of, bool_code, bytes_at, text_code, items_at, list_code, option_flag, option_fits, option_parts, option_of, option_code}
-use Rattle.ge_model_codec.specs.Canonical.{AreBytes, IsCanonical, StandsAt}
-use Rattle.ge_codec.specs.Places.{drop-past, drop-add, ends_behind, after_it-ok, made-ok, both, and_of, if_true, if_ok}
+use Rattle.ge_model_codec.specs.Reading.{Reading, made}
+use Rattle.ge_model_codec.specs.declared.TakeFault.TheVariants.{Short, Range}
+use Rattle.ge_model_codec.specs.Code.{Code, number_code, bounded_code, flag_of, bool_of, bool_code, bytes_at, text_code, items_at, list_code, option_flag, option_fits, option_parts, option_of, option_code}
+use Rattle.ge_model_codec.specs.Canonical.{AreBytes, IsCanonical}
+use Rattle.ge_codec.specs.Places.{drop-past, drop-add, ends_behind, made-ok, both, and_of, if_true, if_ok}
 use Rattle.ge_codec.specs.Numbers.{number_canonical, drop_bytes, take_bytes}
 use Rattle.ge_codec.specs.Led.{AreParts, PartsStand, bounded_canonical, bounded_some, number_some, led_canonical}
 

@@ -1,5 +1,5 @@
 -- A fault of a part is the fault of the whole, and what was appended stays behind what stood.
-use Rattle.std.proofs.Common.{◌≡◌, ℕ, ◌+◌, ◌≤◌, List, ◌++◌, length, take, Ok, Err, Result, refl, sym, ap, ◌∙◌, arith, length-append, append_assoc}
+use Rattle.std.proofs.Common.{ℕ, Err, ap}
 use Rattle.ge_model_codec.specs.Reading.{Reading, Reads, after_it, made}
 use Rattle.ge_model_codec.specs.declared.TakeFault.{TakeFault}
 use Rattle.ge_model_codec.specs.declared.TakeFault.TheVariants.{Short, Tag, Range, Memory}

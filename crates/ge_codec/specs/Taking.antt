@@ -1,9 +1,9 @@
 -- Items and pairs that are read one by one, behind those that were read.
-use Rattle.std.proofs.Common.{◌≡◌, ℕ, zero, suc, ◌+◌, ◌-◌, ◌<◌, ◌≤◌, Bool, true, false, List, [], ◌∷◌, ◌++◌, length, Result, Ok, Err, refl, sym, ap, subst, ◌∙◌, arith, append_assoc, inl, inr}
+use Rattle.std.proofs.Common.{◌≡◌, ℕ, suc, ◌+◌, ◌-◌, ◌<◌, ◌≤◌, List, [], ◌∷◌, ◌++◌, Result, Ok, Err, refl, sym, ap, ◌∙◌, arith, append_assoc}
 use Rattle.std.specs.Prelude.{Option, Some, None}
 use Rattle.std.specs.declared.cmp.Ordering.{Ordering}
 use Rattle.std.proofs.lemmas.List.{append-nil}
-use Rattle.ge_model_codec.specs.Reading.{Reading, Reads, after_it, made}
+use Rattle.ge_model_codec.specs.Reading.{Reading, Reads, made}
 use Rattle.ge_model_codec.specs.declared.TakeFault.{TakeFault}
 use Rattle.ge_model_codec.specs.declared.TakeFault.TheVariants.{Short, Tag, Range, Memory}
 use Rattle.ge_model_codec.specs.Code.{Code, items_at, entry_at, entries_at}

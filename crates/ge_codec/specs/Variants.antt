@@ -1,15 +1,15 @@
 -- Enums and signed numbers are canonical.
-use Rattle.std.proofs.Common.{◌≡◌, ℕ, zero, suc, ◌+◌, ◌-◌, ◌<◌, ◌≤◌, Bool, true, false, List, [], ◌∷◌, ◌++◌, length, drop, Result, Ok, Err, refl, sym, ap, subst, ◌∙◌, arith, inl, inr, ◌⊎◌, lit<}
-use Rattle.std.specs.Prelude.{IsTrue, ◌&&◌, ℤ}
+use Rattle.std.proofs.Common.{◌≡◌, ℕ, zero, suc, ◌+◌, ◌<◌, ◌≤◌, List, ◌++◌, length, drop, Ok, sym, ap, subst, ◌∙◌, arith, inl, inr, ◌⊎◌, lit<}
+use Rattle.std.specs.Prelude.{IsTrue}
 use Rattle.std.specs.Int.{w32, cast_signed, cast_unsigned}
 use Rattle.std.specs.Ordering.{int_eq}
-use Rattle.std.proofs.lemmas.Bool.{ltb-true, lt-ltb}
+use Rattle.std.proofs.lemmas.Bool.{ltb-true}
 use Rattle.std.proofs.lemmas.Bool.Decides.{Decides-int_eq}
 use Rattle.std.proofs.lemmas.Int.{of_z-to_z}
-use Rattle.ge_model_codec.specs.Reading.{Reading, made}
+use Rattle.ge_model_codec.specs.Reading.{made}
 use Rattle.ge_model_codec.specs.declared.TakeFault.TheVariants.{Tag}
 use Rattle.ge_model_codec.specs.Code.{Code, Cases, number_code, signed_code, bounded_code, last_case, case_or, cases_code}
-use Rattle.ge_model_codec.specs.Canonical.{AreBytes, IsCanonical, StandsAt}
+use Rattle.ge_model_codec.specs.Canonical.{AreBytes, IsCanonical}
 use Rattle.ge_codec.specs.Places.{made-ok, both, and_of}
 use Rattle.ge_codec.specs.Numbers.{number_canonical}
 use Rattle.ge_codec.specs.Led.{AreParts, PartsStand, bounded_canonical, bounded_some, led_canonical}

@@ -1,8 +1,6 @@
 -- The codes of values and of what is configured.
 use Rattle.std.specs.Prelude.{ℕ, Bool, List, ◌⊎◌}
-use Rattle.std.specs.Ordering.{nat_cmp, ordering_then}
 use Rattle.std.proofs.Common.{inl, inr}
-use Rattle.std.specs.declared.cmp.Ordering.{Ordering}
 use Rattle.ge_rows.specs.Keyed.{text_cmp}
 use Rattle.ge_rows.specs.declared.queues.Allocation.{Allocation}
 use Rattle.ge_rows.specs.declared.queues.Attr.{Attr}
@@ -32,7 +30,7 @@ use Rattle.ge_rows.specs.declared.values.Consumable.TheVariants as consumable
 use Rattle.ge_rows.specs.declared.queues.Allocation.TheVariants as allocation
 use Rattle.ge_rows.specs.declared.queues.UrgencySlots.TheVariants as urgency_slots
 use Rattle.ge_rows.specs.declared.settings.SortMethod.TheVariants as sort_method
-use Rattle.ge_model_codec.specs.Code.{Code, Cases, u8_code, u32_code, u64_code, u128_code, signed_code, bool_code, text_code, list_code, option_code, table_code, pair_code, triple_code, ◌⊗◌, row_code, empty_code, formed_code, last_case, case_or, cases_code}
+use Rattle.ge_model_codec.specs.Code.{Code, Cases, u32_code, u64_code, bool_code, text_code, list_code, option_code, table_code, ◌⊗◌, row_code, empty_code, last_case, case_or, cases_code}
 
 -- a value
 abbrev pub value_parts : Value → ℕ ⊎ (Bool ⊎ (List ℕ))
@@ -159,11 +157,11 @@ attr_code value = row_code (value ⊗ (list_code (text_code ⊗ value)))
 abbrev pub queue_row_code : Code QueueRow
 queue_row_code = row_code
     ((list_code text_code) ⊗ (attr_code u64_code) ⊗
-      (attr_code (table_code text_cmp text_code value_code)) ⊗ (attr_code (list_code text_code)) ⊗
-      (attr_code (list_code text_code)) ⊗ (attr_code (list_code text_code)) ⊗
-      (attr_code (list_code text_code)) ⊗ (attr_code (list_code text_code)) ⊗
-      (attr_code (table_code text_cmp text_code value_code)) ⊗ (attr_code u64_code) ⊗
-      (table_code text_cmp text_code (attr_code u64_code)))
+    (attr_code (table_code text_cmp text_code value_code)) ⊗ (attr_code (list_code text_code)) ⊗
+    (attr_code (list_code text_code)) ⊗ (attr_code (list_code text_code)) ⊗
+    (attr_code (list_code text_code)) ⊗ (attr_code (list_code text_code)) ⊗
+    (attr_code (table_code text_cmp text_code value_code)) ⊗ (attr_code u64_code) ⊗
+    (table_code text_cmp text_code (attr_code u64_code)))
     (λ r. (r.hosts, (r.seq_no, (r.thresholds, (r.pes, (r.users, (r.xusers, (r.projects, (r.xprojects, (r.values, (r.slots, r.limits)))))))))))
     (λ p. record { hosts = p.0; seq_no = p.1.0; thresholds = p.1.1.0; pes = p.1.1.1.0; users = p.1.1.1.1.0; xusers = p.1.1.1.1.1.0; projects = p.1.1.1.1.1.1.0; xprojects = p.1.1.1.1.1.1.1.0; values = p.1.1.1.1.1.1.1.1.0; slots = p.1.1.1.1.1.1.1.1.1.0; limits = p.1.1.1.1.1.1.1.1.1.1 })
 
@@ -223,7 +221,7 @@ filter_code = row_code
 abbrev pub rule_code : Code Rule
 rule_code = row_code
     (text_code ⊗ (option_code filter_code) ⊗ (option_code filter_code) ⊗ (option_code filter_code) ⊗
-      (option_code filter_code) ⊗ (option_code filter_code) ⊗ (table_code text_cmp text_code u64_code))
+    (option_code filter_code) ⊗ (option_code filter_code) ⊗ (table_code text_cmp text_code u64_code))
     (λ r. (r.name, (r.users, (r.projects, (r.pes, (r.queues, (r.hosts, r.limits)))))))
     (λ p. record { name = p.0; users = p.1.0; projects = p.1.1.0; pes = p.1.1.1.0; queues = p.1.1.1.1.0; hosts = p.1.1.1.1.1.0; limits = p.1.1.1.1.1.1 })
 
@@ -274,7 +272,7 @@ sort_method_code = row_code (cases_code sort_method_cases) sort_method_parts sor
 abbrev pub sched_code : Code Sched
 sched_code = row_code
     (u64_code ⊗ u64_code ⊗ sort_method_code ⊗ text_code ⊗ u64_code ⊗ u64_code ⊗ u64_code ⊗ u64_code ⊗
-      u64_code ⊗ u64_code ⊗ u64_code ⊗ u64_code ⊗ u64_code ⊗ u64_code ⊗ u64_code ⊗ u64_code ⊗
-      u64_code ⊗ u64_code ⊗ u64_code ⊗ u64_code ⊗ u64_code)
+    u64_code ⊗ u64_code ⊗ u64_code ⊗ u64_code ⊗ u64_code ⊗ u64_code ⊗ u64_code ⊗ u64_code ⊗
+    u64_code ⊗ u64_code ⊗ u64_code ⊗ u64_code ⊗ u64_code)
     (λ r. (r.interval, (r.maxujobs, (r.sort, (r.load_formula, (r.w_priority, (r.w_urgency, (r.w_ticket, (r.w_waiting, (r.w_deadline, (r.functional, (r.share, (r.w_user, (r.w_project, (r.w_job, (r.halftime, (r.max_reservation, (r.default_duration, (r.u_cpu, (r.u_mem, (r.u_io, r.max_pending)))))))))))))))))))))
     (λ p. record { interval = p.0; maxujobs = p.1.0; sort = p.1.1.0; load_formula = p.1.1.1.0; w_priority = p.1.1.1.1.0; w_urgency = p.1.1.1.1.1.0; w_ticket = p.1.1.1.1.1.1.0; w_waiting = p.1.1.1.1.1.1.1.0; w_deadline = p.1.1.1.1.1.1.1.1.0; functional = p.1.1.1.1.1.1.1.1.1.0; share = p.1.1.1.1.1.1.1.1.1.1.0; w_user = p.1.1.1.1.1.1.1.1.1.1.1.0; w_project = p.1.1.1.1.1.1.1.1.1.1.1.1.0; w_job = p.1.1.1.1.1.1.1.1.1.1.1.1.1.0; halftime = p.1.1.1.1.1.1.1.1.1.1.1.1.1.1.0; max_reservation = p.1.1.1.1.1.1.1.1.1.1.1.1.1.1.1.0; default_duration = p.1.1.1.1.1.1.1.1.1.1.1.1.1.1.1.1.0; u_cpu = p.1.1.1.1.1.1.1.1.1.1.1.1.1.1.1.1.1.0; u_mem = p.1.1.1.1.1.1.1.1.1.1.1.1.1.1.1.1.1.1.0; u_io = p.1.1.1.1.1.1.1.1.1.1.1.1.1.1.1.1.1.1.1.0; max_pending = p.1.1.1.1.1.1.1.1.1.1.1.1.1.1.1.1.1.1.1.1 })

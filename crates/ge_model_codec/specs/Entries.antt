@@ -1,8 +1,7 @@
 -- The codes of entries and what they change.
 use Rattle.std.specs.Prelude.{ℕ, Bool, List, ◌⊎◌}
-use Rattle.std.specs.Ordering.{nat_cmp, ordering_then}
+use Rattle.std.specs.Ordering.{nat_cmp}
 use Rattle.std.proofs.Common.{inl, inr}
-use Rattle.std.specs.declared.cmp.Ordering.{Ordering}
 use Rattle.ge_rows.specs.Keyed.{text_cmp}
 use Rattle.ge_rows.specs.declared.entries.Change.{Change}
 use Rattle.ge_rows.specs.declared.values.ComplexDef.{ComplexDef}
@@ -17,7 +16,6 @@ use Rattle.ge_rows.specs.declared.entries.Pick.{Pick}
 use Rattle.ge_rows.specs.declared.people.ProjectRow.{ProjectRow}
 use Rattle.ge_rows.specs.declared.queues.QueueRow.{QueueRow}
 use Rattle.ge_rows.specs.declared.quotas.QuotaRow.{QuotaRow}
-use Rattle.ge_rows.specs.declared.jobs.Request.{Request}
 use Rattle.ge_rows.specs.declared.settings.Sched.{Sched}
 use Rattle.ge_rows.specs.declared.people.ShareNode.{ShareNode}
 use Rattle.ge_rows.specs.declared.scheduling.Start.{Start}
@@ -26,7 +24,7 @@ use Rattle.ge_rows.specs.declared.values.Value.{Value}
 use Rattle.ge_rows.specs.declared.entries.Item.TheVariants as item
 use Rattle.ge_rows.specs.declared.entries.ObjectKind.TheVariants as object_kind
 use Rattle.ge_rows.specs.declared.entries.Change.TheVariants as change
-use Rattle.ge_model_codec.specs.Code.{Code, Cases, u8_code, u32_code, u64_code, u128_code, signed_code, bool_code, text_code, list_code, option_code, table_code, pair_code, triple_code, ◌⊗◌, row_code, empty_code, formed_code, last_case, case_or, cases_code}
+use Rattle.ge_model_codec.specs.Code.{Code, Cases, u8_code, u32_code, u64_code, signed_code, bool_code, text_code, list_code, option_code, table_code, pair_code, ◌⊗◌, row_code, empty_code, last_case, case_or, cases_code}
 use Rattle.ge_model_codec.specs.Configured.{complex_def_code, pe_row_code, project_row_code, queue_row_code, quota_row_code, sched_code, share_node_code, user_row_code, value_code}
 use Rattle.ge_model_codec.specs.Jobs.{job_code, request_code, start_code, task_set_code}
 
@@ -41,9 +39,9 @@ pick_code = row_code
 abbrev pub patch_code : Code Patch
 patch_code = row_code
     ((option_code text_code) ⊗ (option_code request_code) ⊗ (option_code signed_code) ⊗
-      (option_code u64_code) ⊗ (option_code text_code) ⊗ (option_code bool_code) ⊗
-      (option_code u64_code) ⊗ (option_code u64_code) ⊗ (option_code text_code) ⊗
-      (option_code (list_code u32_code)) ⊗ (option_code (list_code u32_code)) ⊗ (option_code u64_code))
+    (option_code u64_code) ⊗ (option_code text_code) ⊗ (option_code bool_code) ⊗
+    (option_code u64_code) ⊗ (option_code u64_code) ⊗ (option_code text_code) ⊗
+    (option_code (list_code u32_code)) ⊗ (option_code (list_code u32_code)) ⊗ (option_code u64_code))
     (λ r. (r.name, (r.request, (r.priority, (r.share, (r.project, (r.reserve, (r.not_before, (r.deadline, (r.account, (r.after, (r.after_each, r.oticket))))))))))))
     (λ p. record { name = p.0; request = p.1.0; priority = p.1.1.0; share = p.1.1.1.0; project = p.1.1.1.1.0; reserve = p.1.1.1.1.1.0; not_before = p.1.1.1.1.1.1.0; deadline = p.1.1.1.1.1.1.1.0; account = p.1.1.1.1.1.1.1.1.0; after = p.1.1.1.1.1.1.1.1.1.0; after_each = p.1.1.1.1.1.1.1.1.1.1.0; oticket = p.1.1.1.1.1.1.1.1.1.1.1 })
 

@@ -1,8 +1,6 @@
 -- The codes of jobs, their tasks, accounting lines and starts.
-use Rattle.std.specs.Prelude.{ℕ, Bool, List, ◌⊎◌}
-use Rattle.std.specs.Ordering.{nat_cmp, ordering_then}
-use Rattle.std.proofs.Common.{inl, inr}
-use Rattle.std.specs.declared.cmp.Ordering.{Ordering}
+use Rattle.std.specs.Prelude.{List}
+use Rattle.std.specs.Ordering.{nat_cmp}
 use Rattle.ge_rows.specs.Keyed.{text_cmp}
 use Rattle.ge_rows.specs.declared.jobs.Grant.{Grant}
 use Rattle.ge_rows.specs.declared.hosts.InstanceId.{InstanceId}
@@ -14,9 +12,8 @@ use Rattle.ge_rows.specs.declared.jobs.Running.{Running}
 use Rattle.ge_rows.specs.declared.scheduling.Start.{Start}
 use Rattle.ge_rows.specs.declared.tasks.TaskId.{TaskId}
 use Rattle.ge_rows.specs.declared.tasks.TaskSpan.{TaskSpan}
-use Rattle.ge_rows.specs.declared.values.Value.{Value}
 use Rattle.ge_rows.specs.TaskSet.{is_form}
-use Rattle.ge_model_codec.specs.Code.{Code, Cases, u8_code, u32_code, u64_code, u128_code, signed_code, bool_code, text_code, list_code, option_code, table_code, pair_code, triple_code, ◌⊗◌, row_code, empty_code, formed_code, last_case, case_or, cases_code}
+use Rattle.ge_model_codec.specs.Code.{Code, u8_code, u32_code, u64_code, signed_code, bool_code, text_code, list_code, option_code, table_code, ◌⊗◌, row_code, formed_code}
 use Rattle.ge_model_codec.specs.Configured.{value_code}
 
 -- a queue instance
@@ -69,7 +66,7 @@ pe_request_code = row_code
 abbrev pub request_code : Code Request
 request_code = row_code
     ((table_code text_cmp text_code value_code) ⊗ (list_code text_code) ⊗
-      (option_code pe_request_code))
+    (option_code pe_request_code))
     (λ r. (r.asked, (r.queues, r.pe)))
     (λ p. record { asked = p.0; queues = p.1.0; pe = p.1.1 })
 
@@ -77,9 +74,9 @@ request_code = row_code
 abbrev pub job_code : Code Job
 job_code = row_code
     (u32_code ⊗ text_code ⊗ text_code ⊗ text_code ⊗ text_code ⊗ u64_code ⊗ signed_code ⊗ u64_code ⊗
-      text_code ⊗ bool_code ⊗ u64_code ⊗ u64_code ⊗ request_code ⊗ bool_code ⊗ task_span_code ⊗
-      task_set_code ⊗ task_set_code ⊗ (table_code nat_cmp u32_code running_code) ⊗ u8_code ⊗
-      (list_code u32_code) ⊗ (list_code u32_code) ⊗ u64_code ⊗ (list_code text_code) ⊗ text_code)
+    text_code ⊗ bool_code ⊗ u64_code ⊗ u64_code ⊗ request_code ⊗ bool_code ⊗ task_span_code ⊗
+    task_set_code ⊗ task_set_code ⊗ (table_code nat_cmp u32_code running_code) ⊗ u8_code ⊗
+    (list_code u32_code) ⊗ (list_code u32_code) ⊗ u64_code ⊗ (list_code text_code) ⊗ text_code)
     (λ r. (r.number, (r.name, (r.owner, (r.group, (r.account, (r.submitted, (r.priority, (r.share, (r.project, (r.reserve, (r.not_before, (r.deadline, (r.request, (r.array, (r.span, (r.queued, (r.broken, (r.running, (r.hold, (r.after, (r.after_each, (r.oticket, (r.words, r.script))))))))))))))))))))))))
     (λ p. record { number = p.0; name = p.1.0; owner = p.1.1.0; group = p.1.1.1.0; account = p.1.1.1.1.0; submitted = p.1.1.1.1.1.0; priority = p.1.1.1.1.1.1.0; share = p.1.1.1.1.1.1.1.0; project = p.1.1.1.1.1.1.1.1.0; reserve = p.1.1.1.1.1.1.1.1.1.0; not_before = p.1.1.1.1.1.1.1.1.1.1.0; deadline = p.1.1.1.1.1.1.1.1.1.1.1.0; request = p.1.1.1.1.1.1.1.1.1.1.1.1.0; array = p.1.1.1.1.1.1.1.1.1.1.1.1.1.0; span = p.1.1.1.1.1.1.1.1.1.1.1.1.1.1.0; queued = p.1.1.1.1.1.1.1.1.1.1.1.1.1.1.1.0; broken = p.1.1.1.1.1.1.1.1.1.1.1.1.1.1.1.1.0; running = p.1.1.1.1.1.1.1.1.1.1.1.1.1.1.1.1.1.0; hold = p.1.1.1.1.1.1.1.1.1.1.1.1.1.1.1.1.1.1.0; after = p.1.1.1.1.1.1.1.1.1.1.1.1.1.1.1.1.1.1.1.0; after_each = p.1.1.1.1.1.1.1.1.1.1.1.1.1.1.1.1.1.1.1.1.0; oticket = p.1.1.1.1.1.1.1.1.1.1.1.1.1.1.1.1.1.1.1.1.1.0; words = p.1.1.1.1.1.1.1.1.1.1.1.1.1.1.1.1.1.1.1.1.1.1.0; script = p.1.1.1.1.1.1.1.1.1.1.1.1.1.1.1.1.1.1.1.1.1.1.1 })
 
@@ -87,8 +84,8 @@ job_code = row_code
 abbrev pub line_code : Code Line
 line_code = row_code
     (text_code ⊗ text_code ⊗ text_code ⊗ text_code ⊗ text_code ⊗ u32_code ⊗ text_code ⊗ signed_code ⊗
-      u64_code ⊗ u64_code ⊗ u64_code ⊗ u32_code ⊗ u32_code ⊗ text_code ⊗ text_code ⊗ u32_code ⊗
-      u32_code ⊗ u64_code ⊗ u64_code ⊗ u64_code)
+    u64_code ⊗ u64_code ⊗ u64_code ⊗ u32_code ⊗ u32_code ⊗ text_code ⊗ text_code ⊗ u32_code ⊗
+    u32_code ⊗ u64_code ⊗ u64_code ⊗ u64_code)
     (λ r. (r.queue, (r.host, (r.group, (r.owner, (r.name, (r.job, (r.account, (r.priority, (r.submitted, (r.start, (r.end, (r.failed, (r.exit, (r.project, (r.pe, (r.slots, (r.task, (r.cpu, (r.mem, r.io))))))))))))))))))))
     (λ p. record { queue = p.0; host = p.1.0; group = p.1.1.0; owner = p.1.1.1.0; name = p.1.1.1.1.0; job = p.1.1.1.1.1.0; account = p.1.1.1.1.1.1.0; priority = p.1.1.1.1.1.1.1.0; submitted = p.1.1.1.1.1.1.1.1.0; start = p.1.1.1.1.1.1.1.1.1.0; end = p.1.1.1.1.1.1.1.1.1.1.0; failed = p.1.1.1.1.1.1.1.1.1.1.1.0; exit = p.1.1.1.1.1.1.1.1.1.1.1.1.0; project = p.1.1.1.1.1.1.1.1.1.1.1.1.1.0; pe = p.1.1.1.1.1.1.1.1.1.1.1.1.1.1.0; slots = p.1.1.1.1.1.1.1.1.1.1.1.1.1.1.1.0; task = p.1.1.1.1.1.1.1.1.1.1.1.1.1.1.1.1.0; cpu = p.1.1.1.1.1.1.1.1.1.1.1.1.1.1.1.1.1.0; mem = p.1.1.1.1.1.1.1.1.1.1.1.1.1.1.1.1.1.1.0; io = p.1.1.1.1.1.1.1.1.1.1.1.1.1.1.1.1.1.1.1 })
 

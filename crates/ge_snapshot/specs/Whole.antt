@@ -1,9 +1,9 @@
 -- All bytes as one value.
-use Rattle.std.proofs.Common.{◌≡◌, ℕ, ◌≤◌, List, [], ◌++◌, length, drop, Bool, true, false, Result, Ok, Err, refl, sym, ap, ◌∙◌, arith, eq-eqb}
+use Rattle.std.proofs.Common.{◌≡◌, ℕ, List, ◌++◌, length, drop, Ok, Err, ap, ◌∙◌, arith, eq-eqb}
 use Rattle.std.specs.Prelude.{if◌then◌else◌, ◌==◌}
 use Rattle.std.proofs.Math.Seq.{drop-length}
 use Rattle.std.proofs.lemmas.List.{append-nil}
-use Rattle.ge_model_codec.specs.Reading.{Reading, Reads, ReadsWhole, after_it}
+use Rattle.ge_model_codec.specs.Reading.{Reads, after_it}
 use Rattle.ge_model_codec.specs.declared.TakeFault.{TakeFault}
 use Rattle.ge_model_codec.specs.declared.TakeFault.TheVariants.{Short, Tag, Range, Memory}
 use Rattle.ge_model_codec.specs.Code.{Code, whole}
