@@ -2,3 +2,5 @@ pub mod Parts
 pub mod Reading
 pub mod Tearing
 pub mod Meanings
+pub mod Filling
+pub mod Moving

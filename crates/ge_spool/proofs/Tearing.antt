@@ -10,7 +10,8 @@ use Rattle.ge_model_journal.specs.declared.Head.TheVariants.{Closed, Faulty, Sou
 use Rattle.ge_spool.specs.Moments.{Torn}
 use Rattle.ge_spool.specs.Steps.{IsBehindImage, opened_behind}
 use Rattle.ge_spool.proofs.Parts.{Block, IsBlocks, IsTop, IsArea}
-use Rattle.ge_spool.proofs.Reading.{either}
+use Rattle.ge_spool.proofs.Reading.{either, number4-append}
+use Rattle.ge_spool.specs.Pieces.{IsRecordPiece}
 
 -- how far an area goes
 pub length-area : (bytes : List ℕ) (generation : ℕ) (snapshot : List ℕ) (records : List (List ℕ)) (end : ℕ) → IsArea bytes generation snapshot records end
@@ -69,7 +70,7 @@ blocks-append (first ∷ records) front body field is_front width number some =
      blocks-append records is_front.0 body field is_front.2 width number some)
 
 -- the gate of a torn write of one byte: everything else is as it was
-torn-gate : (bytes image : List ℕ) (at : ℕ) → at < length bytes → Torn at 1 bytes image
+pub torn-gate : (bytes image : List ℕ) (at : ℕ) → at < length bytes → Torn at 1 bytes image
     → image ≡ take at bytes ++ (slice_index image at ∷ drop (at + 1) bytes)
 torn-gate bytes image at within torn =
     let long : at < length image = omega (arith, torn.no_shorter) in
@@ -139,18 +140,15 @@ torn-whole bytes image gate piece within torn =
     ∙ ap (λ xs. xs ++ (slice_index image gate ∷ drop (gate + 1) (overwritten bytes (gate + 1) piece))) front
     ∙ ap (λ xs. take gate bytes ++ (slice_index image gate ∷ xs)) behind
 
--- a piece that holds one record: its length field, its body, and a closed gate
-pub record IsRecordPiece (piece body : List ℕ) : Type 0 where
-  pub field : List ℕ
-  pub whole : piece ≡ field ++ (body ++ (0 ∷ []))
-  pub width : length field ≡ 4
-  pub number : number4 field 0 ≡ length body
-  pub some : 0 < length body
+-- its length field
+piece-number : (piece body : List ℕ) → IsRecordPiece piece body → number4 (take 4 piece) 0 ≡ length body
+piece-number piece body is_piece =
+    sym (number4-append (take 4 piece) (drop 4 piece) is_piece.width) ∙ ap (λ xs. number4 xs 0) (take-append-drop 4 piece) ∙ is_piece.number
 
 -- with what stands behind it
-piece-before : (piece body tail : List ℕ) (is_piece : IsRecordPiece piece body) → piece ++ tail ≡ is_piece.field ++ (body ++ (0 ∷ tail))
+piece-before : (piece body tail : List ℕ) → IsRecordPiece piece body → piece ++ tail ≡ take 4 piece ++ (body ++ (0 ∷ tail))
 piece-before piece body tail is_piece =
-    ap (λ xs. xs ++ tail) is_piece.whole ∙ append_assoc is_piece.field (body ++ (0 ∷ [])) tail ∙ ap (λ xs. is_piece.field ++ xs) (append_assoc body (0 ∷ []) tail)
+    ap (λ xs. xs ++ tail) is_piece.whole ∙ append_assoc (take 4 piece) (body ++ (0 ∷ [])) tail ∙ ap (λ xs. (take 4 piece) ++ xs) (append_assoc body (0 ∷ []) tail)
 
 -- At each moment of writing a record behind an area's last gate: the area stands, or has the record more.
 pub behind-area : (bytes image : List ℕ) (generation : ℕ) (snapshot : List ℕ) (records : List (List ℕ)) (end : ℕ) (piece body : List ℕ)
@@ -161,8 +159,8 @@ behind-area bytes image generation snapshot records end piece body area is_piece
 behind-area bytes image generation snapshot records end piece body area is_piece (inr torn) =
     let within = length-area bytes generation snapshot records end area in
     let gate : ℕ = slice_index image end in
-    let cases = gated-area bytes image generation snapshot records end (slice_index image end) is_piece.field body (drop (end + 1 + length piece) bytes)
-          area is_piece.width is_piece.number is_piece.some
+    let cases = gated-area bytes image generation snapshot records end (slice_index image end) (take 4 piece) body (drop (end + 1 + length piece) bytes)
+          area is_piece.width (piece-number piece body is_piece) is_piece.some
           (torn-whole bytes image end piece within torn
            ∙ ap (λ xs. take end bytes ++ (slice_index image end ∷ xs)) (piece-before piece body (drop (end + 1 + length piece) bytes) is_piece)) in
     ⊎_elim (λ opened. inr (cases.0 opened)) (λ closed. inl (cases.1 closed)) (either (slice_index image end == 1))
@@ -173,7 +171,7 @@ pub behind-done : (bytes : List ℕ) (generation : ℕ) (snapshot : List ℕ) (r
     → IsArea (opened_behind end piece bytes) generation snapshot (records ++ body ∷ []) (end + 5 + length body)
 behind-done bytes generation snapshot records end piece body area is_piece =
     let within = length-area bytes generation snapshot records end area in
-    let cases = gated-area bytes (opened_behind end piece bytes) generation snapshot records end 1 is_piece.field body (drop (end + 1 + length piece) bytes)
-          area is_piece.width is_piece.number is_piece.some
+    let cases = gated-area bytes (opened_behind end piece bytes) generation snapshot records end 1 (take 4 piece) body (drop (end + 1 + length piece) bytes)
+          area is_piece.width (piece-number piece body is_piece) is_piece.some
           (opened-whole bytes end piece within ∙ ap (λ xs. take end bytes ++ (1 ∷ xs)) (piece-before piece body (drop (end + 1 + length piece) bytes) is_piece)) in
     cases.0 refl

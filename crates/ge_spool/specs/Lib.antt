@@ -1,2 +1,4 @@
 pub mod Moments
 pub mod Steps
+pub mod Pieces
+pub mod Bytes
