@@ -42,7 +42,7 @@ fresh-area piece snapshot tail generation is_piece field above =
       gate = 0;
       rest = tail;
       whole = ap (λ xs. 1 ∷ xs)
-        (ap (λ xs. xs ++ tail) is_piece.whole ∙ append_assoc (take 17 piece) (snapshot ++ 0 ∷ []) tail
+        (ap (λ xs. xs ++ tail) (sym (take-append-drop 17 piece) ∙ ap (λ xs. take 17 piece ++ xs) is_piece.behind) ∙ append_assoc (take 17 piece) (snapshot ++ 0 ∷ []) tail
           ∙ ap (λ xs. take 17 piece ++ xs) (append_assoc snapshot (0 ∷ []) tail) ∙ sym (append_assoc (take 17 piece) snapshot (0 ∷ tail)));
       is_top = record {
         size = omega (arith, length-append (take 17 piece) snapshot, is_piece.width);

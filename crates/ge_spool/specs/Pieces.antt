@@ -11,7 +11,7 @@ pub record IsRecordPiece (piece body : List ℕ) : Type 0 where
 
 -- the format, a generation, the size of a snapshot, the snapshot, and a closed gate
 pub record IsSnapshotPiece (piece snapshot : List ℕ) : Type 0 where
-  pub whole : piece ≡ take 17 piece ++ (snapshot ++ 0 ∷ [])
+  pub behind : drop 17 piece ≡ snapshot ++ 0 ∷ []
   pub width : length (take 17 piece) ≡ 17
   pub format : slice_index piece 0 ≡ 1
   pub size_field : number8 piece 9 ≡ length snapshot

@@ -51,3 +51,61 @@ fn piece_of(alloc: Global, body: &[u8]) -> Result<Vec<u8>, AllocError>
     piece.push(0)?;
     Ok(piece)
 }
+
+/// A snapshot, ready to fill an area: the header, the snapshot and a closed gate, as one piece.
+#[derive(Drop)]
+pub struct SnapshotBytes {
+    piece: Vec<u8>,
+    ghost is_piece: { IsSnapshotPiece piece.items (snapshot_in piece.items) },
+}
+
+impl SnapshotBytes {
+    ghost use Rattle.ge_spool.specs.Bytes.{snapshot_of, snapshot_piece};
+
+    pub fn new(alloc: Global, snapshot: &Text) -> Result<SnapshotBytes, AllocError>
+        ensures { IfOk result (λ snapshot_bytes. snapshot_of snapshot_bytes ≡ snapshot.now) }
+    {
+        let piece = snapshot_piece_of(alloc, snapshot.bytes())?;
+        Ok(SnapshotBytes { piece })
+    }
+
+    // Sets the generation in the header.
+    pub(crate) fn set_generation(&mut self, generation: u64)
+        ensures snapshot { snapshot_of self.new ≡ snapshot_of self.old }
+        ensures generation { number8 (snapshot_piece self.new) 1 ≡ generation }
+    {
+        let size = self.piece.len() - 18;
+        put_header(self.piece.as_mut_slice(), generation, size as u64);
+    }
+
+    // What is written.
+    pub(crate) fn piece(&self) -> &[u8]
+        ensures value { result.now ≡ snapshot_piece self.now }
+        ensures is_piece { IsSnapshotPiece result.now (snapshot_of self.now) }
+        ensures long { length result.now ≡ 18 + length (snapshot_of self.now) }
+    {
+        self.piece.as_slice()
+    }
+}
+
+// Writes the format, a generation and the size of a snapshot.
+fn put_header(piece: &mut [u8], generation: u64, size: u64)
+    requires { 17 ≤ length piece.old }
+    ensures { piece.new ≡ (1 ∷ (big_bytes 8 generation ++ big_bytes 8 size)) ++ drop 17 piece.old }
+{
+    piece[0] = 1;
+    BigEndian::write_u64(&mut piece[1..], generation);
+    BigEndian::write_u64(&mut piece[9..], size);
+}
+
+// The piece of a snapshot, in generation 1.
+fn snapshot_piece_of(alloc: Global, snapshot: &[u8]) -> Result<Vec<u8>, AllocError>
+    ensures is_piece { IfOk result (λ piece. IsSnapshotPiece piece.items snapshot.now) }
+    ensures snapshot { IfOk result (λ piece. snapshot_in piece.items ≡ snapshot.now) }
+{
+    let mut piece = Vec::from_slice(alloc, &[0; 17])?;
+    piece.extend_from_slice(snapshot)?;
+    piece.push(0)?;
+    put_header(piece.as_mut_slice(), 1, snapshot.len() as u64);
+    Ok(piece)
+}
