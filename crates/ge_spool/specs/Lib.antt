@@ -2,3 +2,4 @@ pub mod Moments
 pub mod Steps
 pub mod Pieces
 pub mod Bytes
+pub mod Settled

@@ -1,5 +1,12 @@
 //! A journal for any bodies, in two areas of disks.
 #![tactic(auto)]
 
+mod choosing;
+mod faults;
 mod laying;
 mod pieces;
+mod spool;
+
+pub use faults::{AppendFault, OpenFault};
+pub use pieces::{RecordBytes, SnapshotBytes};
+pub use spool::Spool;
