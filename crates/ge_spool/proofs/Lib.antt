@@ -4,3 +4,4 @@ pub mod Tearing
 pub mod Meanings
 pub mod Filling
 pub mod Moving
+pub mod Settling

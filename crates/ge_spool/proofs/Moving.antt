@@ -18,7 +18,7 @@ torn-same : (at size : ℕ) (bytes : List ℕ) → Torn at size bytes bytes
 torn-same at size bytes = record { no_shorter = omega arith; no_longer = omega arith; front = refl; back = refl }
 
 -- a disk on which nothing happened has one image
-still-image : (old new : List Content) (bytes image : List ℕ) → IsQuiet old bytes → new ≡ old → IsImageSince (length old) new image → image ≡ bytes
+pub still-image : (old new : List Content) (bytes image : List ℕ) → IsQuiet old bytes → new ≡ old → IsImageSince (length old) new image → image ≡ bytes
 still-image old new bytes image quiet same left =
     since_quiet old old bytes (λ xs. xs ≡ bytes) quiet (since_none old (λ xs. xs ≡ bytes)) refl image (subst (λ told. IsImageSince (length old) told image) same left)
 

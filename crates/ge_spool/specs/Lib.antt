@@ -3,3 +3,4 @@ pub mod Steps
 pub mod Pieces
 pub mod Bytes
 pub mod Settled
+pub mod Answers

@@ -1,5 +1,5 @@
 -- A journal that is at rest on its two areas.
-use Rattle.std.specs.Prelude.{◌≡◌, ◌⊎◌, ℕ, ◌+◌, ◌<◌, ◌≤◌, Bool, true, false, ◌==◌, List, length, take, drop, slice_index, Result, Ok, IsErr}
+use Rattle.std.specs.Prelude.{◌≡◌, ◌⊎◌, ℕ, ◌+◌, ◌<◌, ◌≤◌, Bool, true, false, not, ◌==◌, List, length, take, drop, slice_index, Result, Ok, IsErr}
 use Rattle.ge_model_disk.specs.Disk.{Content, IsWithin, read_bytes}
 use Rattle.ge_model_journal.specs.Area.{head, records_of}
 use Rattle.ge_model_journal.specs.Journal.{State, choice, picked}
@@ -56,3 +56,17 @@ pub record HasCauseOfTwo {T E : Type 0} (before_a now_a before_b now_b : ℕ) (r
   pub later_a : before_a ≤ now_a
   pub later_b : before_b ≤ now_b
   pub failed : IsErr result → Rose before_a now_a ⊎ Rose before_b now_b
+
+-- a journal with one record of so many bytes more
+pub record IsAppended (old new : Spool) (size : ℕ) : Type 0 where
+  pub second : new.second ≡ old.second
+  pub generation : new.generation ≡ old.generation
+  pub count : new.records ≡ old.records + 1
+  pub end : new.end ≡ old.end + 5 + size
+
+-- a journal in its next generation, with a snapshot of so many bytes and no records
+pub record IsCompacted (old new : Spool) (size : ℕ) : Type 0 where
+  pub second : new.second ≡ not old.second
+  pub generation : new.generation ≡ old.generation + 1
+  pub count : new.records ≡ 0
+  pub end : new.end ≡ 18 + size

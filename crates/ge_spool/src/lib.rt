@@ -1,6 +1,7 @@
 //! A journal for any bodies, in two areas of disks.
 #![tactic(auto)]
 
+mod appending;
 mod choosing;
 mod faults;
 mod laying;
