@@ -1,6 +1,7 @@
 -- From a journal at rest to the parts of its areas, and back.
-use Rattle.std.specs.Prelude.{◌≡◌, ◌⊎◌, ℕ, ◌+◌, ◌<◌, ◌≤◌, Bool, true, false, ◌==◌, List, [], ◌∷◌, length, take, drop, slice_index, Result, Ok, Err, OnOk, is_err, refl}
-use Rattle.std.proofs.Common.{arith, ◌∙◌, sym, ap, subst}
+use Rattle.std.specs.Prelude.{◌≡◌, ◌⊎◌, ℕ, ◌+◌, ◌<◌, ◌≤◌, Bool, true, false, not, ◌==◌, ◌++◌, List, [], ◌∷◌, length, take, drop, slice_index, Result, Ok, Err, OnOk, is_err, refl}
+use Rattle.std.proofs.Common.{arith, ◌∙◌, sym, ap, subst, eq-eqb}
+use Rattle.std.proofs.lemmas.List.{get_or_append_left}
 use Rattle.ge_model_disk.specs.Disk.{Content, IsImageSince, read_bytes}
 use Rattle.ge_model_journal.specs.Area.{head, records_of}
 use Rattle.ge_model_journal.specs.Journal.{State, choice, picked, meaning}
@@ -107,3 +108,17 @@ still-moments s a b state settled c d of_c of_d =
     let is_d : d ≡ read_bytes b = still-image b b (read_bytes b) d settled.quiet_b refl of_d in
     rw (is_c, is_d) (meaning-area s.second (read_bytes a) (read_bytes b) state.generation state.snapshot state.records s.end
       (settled-area s a b state settled) (settled-lower s a b state settled))
+
+-- the gate of an open area
+pub gate-area : (bytes : List ℕ) (generation : ℕ) (snapshot : List ℕ) (records : List (List ℕ)) (end : ℕ) → IsArea bytes generation snapshot records end
+    → true ≡ (slice_index bytes 0 == 1)
+gate-area bytes generation snapshot records end area =
+    let first : slice_index (area.top ++ (area.front ++ (area.gate ∷ area.rest))) 0 ≡ slice_index area.top 0 =
+        get_or_append_left area.top (area.front ++ (area.gate ∷ area.rest)) 0 0 (omega (arith, area.is_top.size)) in
+    let opened : slice_index bytes 0 ≡ 1 = ap (λ xs. slice_index xs 0) area.whole ∙ first ∙ area.is_top.gate in
+    sym (eq-eqb (slice_index bytes 0) 1 opened)
+
+-- the other one of two
+pub picked-not : {T : Type 0} (second : Bool) (a b : T) → picked (not second) a b ≡ picked second b a
+picked-not false a b = refl
+picked-not true a b = refl
