@@ -5,3 +5,4 @@ pub mod Meanings
 pub mod Filling
 pub mod Moving
 pub mod Settling
+pub mod Looking

@@ -4,3 +4,4 @@ pub mod Pieces
 pub mod Bytes
 pub mod Settled
 pub mod Answers
+pub mod Reads

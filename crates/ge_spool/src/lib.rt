@@ -6,7 +6,9 @@ mod choosing;
 mod faults;
 mod laying;
 mod pieces;
+
 mod spool;
+mod surveying;
 
 pub use faults::{AppendFault, OpenFault};
 pub use pieces::{RecordBytes, SnapshotBytes};
