@@ -5,3 +5,4 @@ pub mod Bytes
 pub mod Settled
 pub mod Answers
 pub mod Reads
+pub mod Opening

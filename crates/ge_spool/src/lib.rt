@@ -4,9 +4,11 @@
 mod appending;
 mod choosing;
 mod faults;
+mod finding;
 mod laying;
 mod pieces;
 
+mod searching;
 mod spool;
 mod surveying;
 
