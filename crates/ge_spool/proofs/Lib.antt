@@ -6,3 +6,4 @@ pub mod Filling
 pub mod Moving
 pub mod Settling
 pub mod Looking
+pub mod ShortAreas

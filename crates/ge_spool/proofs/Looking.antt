@@ -10,7 +10,7 @@ use Rattle.ge_model_journal.specs.declared.Head.TheVariants.{Closed, Faulty, Sou
 use Rattle.ge_spool.specs.Reads.{and_records, IsHeadOf}
 use Rattle.ge_spool.proofs.Reading.{number8-append, records_from-step, records_from-gate}
 
-head-short : (bytes : List ℕ) → length bytes < 19 → head bytes ≡ Closed
+pub head-short : (bytes : List ℕ) → length bytes < 19 → head bytes ≡ Closed
 unfolding head
 head-short bytes short = rw (lt-ltb (length bytes) 19 short) refl
 

@@ -1,8 +1,12 @@
 -- What opening a journal reads and leaves.
 use Rattle.std.specs.Prelude.{◌≡◌, ◌⊎◌, ℕ, ◌+◌, ◌<◌, ◌≤◌, Bool, true, false, nat_lt, if◌then◌else◌, List, [], ◌∷◌, length, take, drop, Result, Ok, Err}
 use Rattle.ge_model_disk.specs.Disk.{Content, overwritten, read_bytes}
-use Rattle.ge_model_journal.specs.Area.{records_from, records_of}
-use Rattle.ge_model_journal.specs.Journal.{State, meaning}
+use Rattle.ge_model_journal.specs.Area.{head, records_from, records_of}
+use Rattle.ge_model_journal.specs.Journal.{State, meaning, area_number}
+use Rattle.ge_model_journal.specs.declared.Head.TheVariants.{Closed, Sound}
+use Rattle.ge_spool.specs.Settled.{IsSettled}
+use Rattle.ge_spool.specs.declared.spool.Spool.{Spool}
+use Rattle.ge_spool.specs.declared.raw.Raw.{Raw}
 use Rattle.ge_spool.specs.declared.faults.OpenFault.{OpenFault}
 use Rattle.ge_spool.specs.declared.faults.OpenFault.TheVariants.{Disk, Frame, Bad, Memory}
 use Rattle.ge_spool.specs.declared.finding.Found.{Found}
@@ -55,3 +59,29 @@ IsNoFrame (Err Disk) = Unit {0}
 IsNoFrame (Err (Frame area place)) = ⊥
 IsNoFrame (Err (Bad area place)) = ⊥
 IsNoFrame (Err Memory) = Unit {0}
+
+-- an area below 19 bytes gets a closed gate
+abbrev pub padded : List ℕ → List ℕ
+padded bytes = if nat_lt (length bytes) 19 then overwritten bytes 0 (0 ∷ []) else bytes
+
+-- and while it does, it is what it was, or short still
+abbrev pub IsPadImage : List ℕ → List ℕ → Type 0
+IsPadImage bytes image = (image ≡ bytes) ⊎ ((length bytes < 19) × (length image < 19))
+
+-- what an area may hold that is made the first one: it isn't open, or it is open with nothing in it
+abbrev pub IsFreshImage : List ℕ → Type 0
+IsFreshImage image = (head image ≡ Closed) ⊎ ((head image ≡ Sound 1 0) × (records_of 0 image ≡ Ok ([], 18)))
+
+-- the state that was read
+abbrev pub raw_state : Raw → State
+raw_state raw = record { generation = raw.generation; snapshot = raw.snapshot; records = raw.records }
+
+-- What opening answers where the areas read as these bytes: a settled journal with what they stand for, and the area that counts; or
+-- the place of the first field that is wrong.
+abbrev pub Opens : Result (Spool × Raw) OpenFault → List ℕ → List ℕ → List Content → List Content → Type 0
+Opens (Ok opened) read_a read_b a b =
+  IsSettled opened.0 a b (raw_state opened.1) × (meaning read_a read_b ≡ Ok (raw_state opened.1)) × (opened.1.area ≡ area_number opened.0.second)
+Opens (Err Disk) read_a read_b a b = Unit {0}
+Opens (Err (Frame area place)) read_a read_b a b = meaning read_a read_b ≡ Err (area, place)
+Opens (Err (Bad area place)) read_a read_b a b = ⊥
+Opens (Err Memory) read_a read_b a b = Unit {0}

@@ -6,12 +6,16 @@ mod choosing;
 mod faults;
 mod finding;
 mod laying;
+mod opening;
+mod padding;
 mod pieces;
+mod raw;
 
 mod searching;
 mod spool;
 mod surveying;
 
 pub use faults::{AppendFault, OpenFault};
+pub use raw::Raw;
 pub use pieces::{RecordBytes, SnapshotBytes};
 pub use spool::Spool;
