@@ -57,7 +57,7 @@ fresh-area piece snapshot tail generation is_piece field above =
       place = omega (arith, length-append (take 17 piece) snapshot, is_piece.width) }
 
 -- each moment of opening an area that was closed
-behind-closed : (bytes image piece snapshot : List ℕ) (generation below : ℕ) → 0 < length bytes → (slice_index bytes 0 == 1) ≡ false
+pub behind-closed : (bytes image piece snapshot : List ℕ) (generation below : ℕ) → 0 < length bytes → (slice_index bytes 0 == 1) ≡ false
     → IsSnapshotPiece piece snapshot → number8 piece 1 ≡ generation → 0 < generation → IsBehindImage 0 piece bytes image
     → IsLower (head image) below ⊎ IsArea image generation snapshot [] (18 + length snapshot)
 behind-closed bytes image piece snapshot generation below some closed is_piece field above (inl torn) =

@@ -1,24 +1,53 @@
 // Opening a journal.
-ghost use Rattle.std.specs.Prelude.{◌≡◌, ◌⊎◌, ◌+◌, ◌^◌, ◌<◌, ◌≤◌, ℕ, List, length, IfOk};
+ghost use Rattle.std.specs.Prelude.{◌≡◌, ◌⊎◌, ◌+◌, ◌-◌, ◌^◌, ◌<◌, ◌≤◌, ℕ, false, List, [], length, IfOk, OnOk};
 ghost use Rattle.ge_model_disk.specs.Disk.{HasLength, IsWithin, IsImageSince, read_bytes};
-ghost use Rattle.ge_model_journal.specs.Journal.{State, first_state, choice, meaning};
-ghost use Rattle.ge_model_journal.specs.declared.Head.TheVariants.{Closed};
+ghost use Rattle.ge_model_journal.specs.Area.{number8};
+ghost use Rattle.ge_model_journal.specs.Journal.{State, first_state, picked, area_number, meaning};
+ghost use Rattle.ge_model_journal.specs.declared.Head.TheVariants.{Closed, Sound};
 ghost use Rattle.ge_model_journal.specs.declared.Choice.TheVariants.{Chosen};
 ghost use Rattle.ge_outside.specs.Faults.{Rose};
 ghost use Rattle.ge_spool.specs.Moments.{IsQuiet, Since};
-ghost use Rattle.ge_spool.specs.Opening.{Tells, Opens, Blames, IsNoFrame, IsPadImage, IsFreshImage, raw_state};
+ghost use Rattle.ge_spool.specs.Opening.{Tells, Opens, Blames, IsNoFrame, IsPadImage, IsFreshImage, FindsIn, FitsFound, IsBelow, is_sound, padded, raw_state};
 ghost use Rattle.ge_spool.specs.Reads.{IsHeadOf, FitsHead};
-ghost use Rattle.ge_spool.specs.Settled.{IsSettled, HasRoom};
+ghost use Rattle.ge_spool.specs.Settled.{IsSettled, HasRoom, HasCauseOfTwo};
+ghost use Rattle.ge_spool.specs.Pieces.{IsSnapshotPiece};
+ghost use Rattle.ge_spool.specs.Steps.{refilled};
 
-use crate::laying::refill;
+use crate::finding::Found;
+use crate::laying::write_behind;
 use crate::padding::pad;
 use crate::searching::find;
 use crate::surveying::{choose, look};
 use crate::{OpenFault, Raw, SnapshotBytes, Spool};
-use ge_collections::{List, Text};
+use ge_collections::Text;
 use ge_model_journal::{Choice, Head};
 use ge_outside::{Disk, Failed};
 use std::alloc::Global;
+
+// Pads both areas and fills the first, where none is open.
+fn make_first<D: Disk>(a: &mut D, b: &mut D, size_a: u64, size_b: u64, piece: &[u8]) -> Result<(), Failed>
+    requires closed_a { IsHeadOf (D.told a.old) size_a Closed }
+    requires closed_b { IsHeadOf (D.told b.old) size_b Closed }
+    requires is_piece { IsSnapshotPiece piece.now [] }
+    requires generation { number8 piece.now 1 ≡ 1 }
+    requires short { length piece.now ≡ 18 }
+    ensures since_a { (bytes : List ℕ) → IsQuiet (D.told a.old) bytes → Since (D.told a.old) (D.told a.new) IsFreshImage }
+    ensures since_b { (bytes : List ℕ) → IsQuiet (D.told b.old) bytes → Since (D.told b.old) (D.told b.new) (IsPadImage bytes) }
+    ensures quiet_a { OnOk result ((bytes : List ℕ) → IsQuiet (D.told a.old) bytes → IsQuiet (D.told a.new) (refilled false piece.now (padded bytes))) }
+    ensures quiet_b { OnOk result ((bytes : List ℕ) → IsQuiet (D.told b.old) bytes → IsQuiet (D.told b.new) (padded bytes)) }
+    ensures some_a { OnOk result (IsWithin (D.told a.new) 1) }
+    ensures reaches_a { OnOk result (IsWithin (D.told a.new) 19) }
+    ensures some_b { OnOk result (IsWithin (D.told b.new) 1) }
+    ensures syncs { D.syncs a.new + D.syncs b.new ≤ D.syncs a.old + D.syncs b.old + 4 }
+    ensures syncs_a { D.syncs a.old ≤ D.syncs a.new }
+    ensures syncs_b { D.syncs b.old ≤ D.syncs b.new }
+    ensures cause { HasCauseOfTwo (D.disk_faults a.old) (D.disk_faults a.new) (D.disk_faults b.old) (D.disk_faults b.new) result }
+{
+    pad(a, size_a)?;
+    pad(b, size_b)?;
+    write_behind(a, 0, piece)?;
+    Ok(())
+}
 
 // Makes the first area the one that counts, where none is open.
 fn open_fresh<D: Disk>(alloc: Global, a: &mut D, b: &mut D, size_a: u64, size_b: u64) -> Result<(Spool, Raw), OpenFault>
@@ -38,9 +67,9 @@ fn open_fresh<D: Disk>(alloc: Global, a: &mut D, b: &mut D, size_a: u64, size_b:
     ensures blames { Blames result (Rose (D.disk_faults a.old) (D.disk_faults a.new) ⊎ Rose (D.disk_faults b.old) (D.disk_faults b.new)) }
     ensures no_frame { IsNoFrame result }
 {
-    let snapshot = Text::new(alloc);
-    let piece = SnapshotBytes::new(alloc, &snapshot)?;
-    if pad(a, size_a).is_err() || pad(b, size_b).is_err() || refill(a, false, piece.piece()).is_err() {
+    let mut first = SnapshotBytes::new(alloc, &Text::new(alloc))?;
+    first.set_generation(1);
+    if make_first(a, b, size_a, size_b, first.piece()).is_err() {
         return Err(OpenFault::Disk);
     }
     let spool = Spool {
@@ -51,11 +80,122 @@ fn open_fresh<D: Disk>(alloc: Global, a: &mut D, b: &mut D, size_a: u64, size_b:
         other_open: false,
         dead: false,
     };
+    Ok((spool, Raw::first(alloc)))
+}
+
+// Pads both areas.
+fn pad_both<D: Disk>(a: &mut D, b: &mut D, size_a: u64, size_b: u64) -> Result<(), Failed>
+    requires whole_a { HasLength (D.told a.old) size_a }
+    requires whole_b { HasLength (D.told b.old) size_b }
+    ensures since_a { (bytes : List ℕ) → IsQuiet (D.told a.old) bytes → Since (D.told a.old) (D.told a.new) (IsPadImage bytes) }
+    ensures since_b { (bytes : List ℕ) → IsQuiet (D.told b.old) bytes → Since (D.told b.old) (D.told b.new) (IsPadImage bytes) }
+    ensures quiet_a { OnOk result ((bytes : List ℕ) → IsQuiet (D.told a.old) bytes → IsQuiet (D.told a.new) (padded bytes)) }
+    ensures quiet_b { OnOk result ((bytes : List ℕ) → IsQuiet (D.told b.old) bytes → IsQuiet (D.told b.new) (padded bytes)) }
+    ensures some_a { OnOk result (IsWithin (D.told a.new) 1) }
+    ensures some_b { OnOk result (IsWithin (D.told b.new) 1) }
+    ensures stays_a { (place : ℕ) → IsWithin (D.told a.old) place → IsWithin (D.told a.new) place }
+    ensures stays_b { (place : ℕ) → IsWithin (D.told b.old) place → IsWithin (D.told b.new) place }
+    ensures syncs { D.syncs a.new + D.syncs b.new ≤ D.syncs a.old + D.syncs b.old + 2 }
+    ensures syncs_a { D.syncs a.old ≤ D.syncs a.new }
+    ensures syncs_b { D.syncs b.old ≤ D.syncs b.new }
+    ensures cause { HasCauseOfTwo (D.disk_faults a.old) (D.disk_faults a.new) (D.disk_faults b.old) (D.disk_faults b.new) result }
+{
+    pad(a, size_a)?;
+    pad(b, size_b)?;
+    Ok(())
+}
+
+// Finds what the second area or the first holds.
+fn find_chosen<D: Disk>(
+    alloc: Global,
+    second: bool,
+    a: &mut D,
+    b: &mut D,
+    size: u64,
+    snapshot_size: u64,
+) -> Result<Found, OpenFault>
+    requires long { 19 ≤ size }
+    requires bound { size ≤ 2 ^ 63 }
+    requires fits { snapshot_size ≤ size - 18 }
+    requires whole { HasLength (picked second (D.told a.old) (D.told b.old)) size }
+    ensures found { FindsIn result (area_number second) snapshot_size (picked second (D.told a.old) (D.told b.old)) }
+    ensures within { IfOk result (λ found. FitsFound found size) }
+    ensures told_a { D.told a.new ≡ D.told a.old }
+    ensures told_b { D.told b.new ≡ D.told b.old }
+    ensures syncs_a { D.syncs a.new ≡ D.syncs a.old }
+    ensures syncs_b { D.syncs b.new ≡ D.syncs b.old }
+    ensures faults_a { D.disk_faults a.old ≤ D.disk_faults a.new }
+    ensures faults_b { D.disk_faults b.old ≤ D.disk_faults b.new }
+    ensures blames { Blames result (Rose (D.disk_faults a.old) (D.disk_faults a.new) ⊎ Rose (D.disk_faults b.old) (D.disk_faults b.new)) }
+{
+    if second {
+        find(alloc, b, 1, size, snapshot_size)
+    } else {
+        find(alloc, a, 0, size, snapshot_size)
+    }
+}
+
+// Whether a header is that of an open area.
+fn is_open(head: Head) -> bool
+    ensures { result ≡ is_sound head }
+{
+    match head {
+        Head::Sound(_, _) => true,
+        _ => false,
+    }
+}
+
+// Reads the area that counts, and pads both.
+fn open_chosen<D: Disk>(
+    alloc: Global,
+    a: &mut D,
+    b: &mut D,
+    look_a: (u64, Head),
+    look_b: (u64, Head),
+    choice: (bool, u64, u64),
+) -> Result<(Spool, Raw), OpenFault>
+    requires head_a { IsHeadOf (D.told a.old) look_a.0 look_a.1 }
+    requires head_b { IsHeadOf (D.told b.old) look_b.0 look_b.1 }
+    requires fits_a { FitsHead look_a.0 look_a.1 }
+    requires fits_b { FitsHead look_b.0 look_b.1 }
+    requires bound_a { look_a.0 ≤ 2 ^ 63 }
+    requires bound_b { look_b.0 ≤ 2 ^ 63 }
+    requires chosen { picked choice.0 look_a.1 look_b.1 ≡ Sound choice.1 choice.2 }
+    requires lower { IsBelow (picked choice.0 look_b.1 look_a.1) choice.1 }
+    ensures since_a { (bytes : List ℕ) → IsQuiet (D.told a.old) bytes → Since (D.told a.old) (D.told a.new) (IsPadImage bytes) }
+    ensures since_b { (bytes : List ℕ) → IsQuiet (D.told b.old) bytes → Since (D.told b.old) (D.told b.new) (IsPadImage bytes) }
+    ensures opened { (bytes_a bytes_b : List ℕ) → IsQuiet (D.told a.old) bytes_a → IsQuiet (D.told b.old) bytes_b
+        → Opens result bytes_a bytes_b (D.told a.new) (D.told b.new) }
+    ensures room { IfOk result (λ opened. HasRoom opened.0 (D.told a.new) (D.told b.new)) }
+    ensures syncs { D.syncs a.new + D.syncs b.new ≤ D.syncs a.old + D.syncs b.old + 2 }
+    ensures syncs_a { D.syncs a.old ≤ D.syncs a.new }
+    ensures syncs_b { D.syncs b.old ≤ D.syncs b.new }
+    ensures faults_a { D.disk_faults a.old ≤ D.disk_faults a.new }
+    ensures faults_b { D.disk_faults b.old ≤ D.disk_faults b.new }
+    ensures blames { Blames result (Rose (D.disk_faults a.old) (D.disk_faults a.new) ⊎ Rose (D.disk_faults b.old) (D.disk_faults b.new)) }
+{
+    let (second, generation, snapshot_size) = choice;
+    let (size_a, head_a) = look_a;
+    let (size_b, head_b) = look_b;
+    let size = if second { size_b } else { size_a };
+    let other_open = is_open(if second { head_a } else { head_b });
+    let found = find_chosen(alloc, second, a, b, size, snapshot_size)?;
+    if pad_both(a, b, size_a, size_b).is_err() {
+        return Err(OpenFault::Disk);
+    }
+    let spool = Spool {
+        second,
+        generation,
+        records: found.records.len() as u64,
+        end: found.end,
+        other_open,
+        dead: false,
+    };
     let raw = Raw {
-        generation: 1,
-        area: 0,
-        snapshot,
-        records: List::new(alloc),
+        generation,
+        area: if second { 1 } else { 0 },
+        snapshot: found.snapshot,
+        records: found.records,
     };
     Ok((spool, raw))
 }
