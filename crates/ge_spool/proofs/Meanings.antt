@@ -8,14 +8,9 @@ use Rattle.ge_model_journal.specs.declared.Head.{Head}
 use Rattle.ge_model_journal.specs.declared.Head.TheVariants.{Closed, Faulty, Sound}
 use Rattle.ge_model_journal.specs.declared.Choice.{Choice}
 use Rattle.ge_model_journal.specs.declared.Choice.TheVariants.{Neither, Chosen, Wrong}
+pub use Rattle.ge_spool.specs.Heads.{IsLower}
 use Rattle.ge_spool.proofs.Parts.{IsArea}
 use Rattle.ge_spool.proofs.Reading.{head-area, snapshot-area, records_of-area}
-
--- the header of an area that doesn't count beside this generation
-abbrev pub IsLower : Head → ℕ → Type 0
-IsLower Closed generation = Unit {0}
-IsLower (Faulty place) generation = ⊥
-IsLower (Sound other size) generation = other < generation
 
 -- the one of greater generation counts
 pub choice-lower : (second : Bool) (a b : Head) (generation size : ℕ) → picked second a b ≡ Sound generation size → IsLower (picked second b a) generation

@@ -1,24 +1,31 @@
 -- What padding leaves: what two areas stand for.
 use Rattle.std.specs.Prelude.{◌≡◌, ◌⊎◌, ℕ, ◌+◌, ◌-◌, ◌<◌, ◌≤◌, max, Bool, true, false, not, ◌==◌, ◌||◌, if◌then◌else◌, nat_lt, List, [], ◌∷◌, ◌++◌, length, take, drop, slice_index, Result, Ok, Err, refl}
-use Rattle.std.proofs.Common.{arith, ◌∙◌, sym, ap, subst, inl, inr, ⊎_elim}
+use Rattle.std.proofs.Common.{arith, ◌∙◌, sym, ap, subst, inl, inr, ⊎_elim, eq-eqb}
 use Rattle.std.proofs.lemmas.Bool.{lt-ltb, le-ltb, cases_lt}
 use Rattle.ge_model_disk.specs.Disk.{Content, HasLength, overwritten}
-use Rattle.ge_model_journal.specs.Area.{number8, head, head_of, records_of}
+use Rattle.ge_model_journal.specs.Area.{number8, head, head_of, records_from, records_of}
 use Rattle.ge_model_journal.specs.Journal.{State, meaning, meaning_by, choice, picked, state_of, area_number, first_state}
 use Rattle.ge_model_journal.specs.declared.Head.{Head}
 use Rattle.ge_model_journal.specs.declared.Head.TheVariants.{Closed, Faulty, Sound}
 use Rattle.ge_model_journal.specs.declared.Choice.{Choice}
 use Rattle.ge_model_journal.specs.declared.Choice.TheVariants.{Neither, Chosen, Wrong}
 use Rattle.ge_spool.specs.Moments.{IsQuiet, Torn, Since, since_none, since_same, since_weaker}
-use Rattle.ge_spool.specs.Opening.{padded, IsPadImage, IsFreshImage}
+use Rattle.ge_spool.specs.Opening.{padded, IsPadImage, IsFreshImage, FindsIn, FindsInRest, Opens}
 use Rattle.ge_spool.specs.Pieces.{IsSnapshotPiece}
 use Rattle.ge_spool.specs.Reads.{IsHeadOf}
 use Rattle.ge_spool.specs.Steps.{IsRefillImage}
 use Rattle.ge_spool.proofs.Parts.{IsArea}
 use Rattle.ge_spool.proofs.Filling.{behind-closed}
 use Rattle.ge_spool.proofs.Looking.{head-short}
-use Rattle.ge_spool.proofs.Reading.{header-sound, head-area, records_of-area}
-use Rattle.ge_spool.proofs.Meanings.{IsLower, choice-back}
+use Rattle.ge_spool.proofs.Reading.{header-sound, head-area, records_of-area, area-back}
+use Rattle.ge_spool.proofs.Meanings.{choice-back, choice-lower}
+use Rattle.ge_spool.proofs.Settling.{AtRest, at-rest, quiet-picked}
+use Rattle.ge_spool.specs.Heads.{IsLower, is_sound}
+use Rattle.ge_spool.specs.declared.finding.Found.{Found}
+use Rattle.ge_spool.specs.declared.faults.OpenFault.{OpenFault}
+use Rattle.ge_spool.specs.declared.faults.OpenFault.TheVariants.{Disk, Frame, Bad, Memory}
+use Rattle.ge_outside.specs.Images.{length-overwritten-le}
+use Rattle.std.proofs.lemmas.List.{drop-drop}
 
 -- how long a quiet disk is
 pub quiet-length : (told : List Content) (bytes : List ℕ) (size : ℕ) → IsQuiet told bytes → HasLength told size → size ≡ length bytes
@@ -128,3 +135,81 @@ fresh-fill bytes image piece closed is_piece generation left =
     ⊎_elim (λ lower. inl (lower-zero (head image) lower))
       (λ area. inr (head-area image 1 [] [] 18 area, records_of-area image 1 [] [] 18 area))
       (behind-closed (padded bytes) image piece [] 1 0 (padded-some bytes) (padded-closed bytes closed) is_piece generation (omega arith) left)
+
+-- the same, by the flag
+padded-picked : (second : Bool) (a b : List ℕ) → picked second (padded a) (padded b) ≡ padded (picked second a b)
+padded-picked false a b = refl
+padded-picked true a b = refl
+
+head-picked : (second : Bool) (a b : List ℕ) → picked second (head a) (head b) ≡ head (picked second a b)
+head-picked false a b = refl
+head-picked true a b = refl
+
+-- an open area is not short
+sound-long : (bytes : List ℕ) (generation n : ℕ) → head bytes ≡ Sound generation n → 19 ≤ length bytes
+unfolding head
+sound-long bytes generation n sound = (header-sound (length bytes) bytes generation n sound).long
+
+sound-gate : (bytes : List ℕ) (generation n : ℕ) → head bytes ≡ Sound generation n → slice_index bytes 0 ≡ 1
+unfolding head
+sound-gate bytes generation n sound = (header-sound (length bytes) bytes generation n sound).gate
+
+head-padded : (bytes : List ℕ) → head (padded bytes) ≡ head bytes
+head-padded bytes =
+    ⊎_elim (λ (short : length bytes < 19). head-short (padded bytes) (rw (padded-short bytes short) (omega (arith, length-overwritten-le bytes 0 (0 ∷ [])))) ∙ sym (head-short bytes short))
+      (λ (long : 19 ≤ length bytes). ap head (padded-long bytes long)) (cases_lt (length bytes) 19)
+
+-- whether the gate of the area that doesn't count is open
+padded-flag : (bytes : List ℕ) (h : Head) (generation : ℕ) → head bytes ≡ h → IsLower h generation → is_sound h ≡ (slice_index (padded bytes) 0 == 1)
+padded-flag bytes Closed generation is_head lower = sym (padded-closed bytes is_head)
+padded-flag bytes (Faulty place) generation is_head lower = absurd lower
+padded-flag bytes (Sound other n) generation is_head lower =
+    rw (padded-long bytes (sound-long bytes other n is_head)) (sym (eq-eqb (slice_index bytes 0) 1 (sound-gate bytes other n is_head)))
+
+-- what two areas stand for, by the one that counts
+pub meaning-chosen : (second : Bool) (a b : List ℕ) (generation n : ℕ) → picked second (head a) (head b) ≡ Sound generation n
+    → IsLower (picked second (head b) (head a)) generation
+    → meaning a b ≡ state_of (area_number second) generation (take n (drop 18 (picked second a b))) (records_of n (picked second a b))
+unfolding meaning
+meaning-chosen second a b generation n sound lower = rw (choice-lower second (head a) (head b) generation n sound lower) refl
+
+-- two areas at rest after opening
+pub opened-at-rest : (second : Bool) (told_a told_b : List Content) (a b : List ℕ) (generation n : ℕ) (snapshot : List ℕ) (records : List (List ℕ)) (end : ℕ)
+    → IsQuiet told_a (padded a) → IsQuiet told_b (padded b) → picked second (head a) (head b) ≡ Sound generation n → IsLower (picked second (head b) (head a)) generation
+    → records_of n (picked second a b) ≡ Ok (records, end) → snapshot ≡ take n (drop 18 (picked second a b))
+    → AtRest second told_a told_b (record { generation = generation; snapshot = snapshot; records = records }) end (is_sound (picked second (head b) (head a)))
+opened-at-rest second told_a told_b a b generation n snapshot records end quiet_a quiet_b sound lower listed is_snapshot =
+    let chosen : List ℕ = picked second a b in
+    let other : List ℕ = picked second b a in
+    let is_head : head (picked second a b) ≡ Sound generation n = sym (head-picked second a b) ∙ sound in
+    let whole : padded (picked second a b) ≡ picked second a b = padded-long (picked second a b) (sound-long (picked second a b) generation n is_head) in
+    let quiet = subst (λ xs. IsQuiet (picked second told_a told_b) xs) (padded-picked second a b ∙ whole) (quiet-picked second told_a told_b (padded a) (padded b) quiet_a quiet_b) in
+    let still = subst (λ xs. IsQuiet (picked second told_b told_a) xs) (padded-picked second b a) (quiet-picked second told_b told_a (padded b) (padded a) quiet_b quiet_a) in
+    let area = subst (λ xs. IsArea (picked second a b) generation xs records end) (sym is_snapshot) (area-back (picked second a b) generation n records end is_head listed) in
+    let other_head : head (padded (picked second b a)) ≡ picked second (head b) (head a) = head-padded (picked second b a) ∙ sym (head-picked second b a) in
+    at-rest second told_a told_b (picked second a b) (padded (picked second b a)) (record { generation = generation; snapshot = snapshot; records = records }) end
+      (is_sound (picked second (head b) (head a))) quiet still area (subst (λ h. IsLower h generation) (sym other_head) lower) (padded-some (picked second b a))
+      (padded-flag (picked second b a) (picked second (head b) (head a)) generation (sym (head-picked second b a)) lower)
+
+-- the records behind a header
+pub records_of-rest : (n : ℕ) (bytes : List ℕ)
+    → records_from (length (drop n (drop 18 bytes))) (18 + n) (drop n (drop 18 bytes)) ≡ records_of n bytes
+records_of-rest n bytes = ap (λ xs. records_from (length xs) (18 + n) xs) (drop-drop n 18 bytes)
+
+-- what was found in a quiet disk
+pub finds-quiet : (result : Result Found OpenFault) (area n : ℕ) (told : List Content) (bytes : List ℕ) → IsQuiet told bytes → FindsIn result area n told
+    → FindsInRest result area n (drop 18 bytes)
+finds-quiet result area n [] bytes quiet found = absurd quiet
+finds-quiet result area n (now ∷ earlier) bytes quiet found = subst (λ c. FindsInRest result area n (drop 18 c.bytes)) quiet found
+
+-- a fault that was found
+pub opens-fault : (fault : OpenFault) (second : Bool) (a b : List ℕ) (told_a told_b : List Content) (generation n : ℕ)
+    → picked second (head a) (head b) ≡ Sound generation n → IsLower (picked second (head b) (head a)) generation
+    → FindsInRest (Err fault) (area_number second) n (drop 18 (picked second a b)) → Opens (Err fault) a b told_a told_b
+opens-fault Disk second a b told_a told_b generation n sound lower found = tt
+opens-fault (Frame number place) second a b told_a told_b generation n sound lower found =
+    meaning-chosen second a b generation n sound lower
+    ∙ ap (λ r. state_of (area_number second) generation (take n (drop 18 (picked second a b))) r) (sym (records_of-rest n (picked second a b)) ∙ found.1)
+    ∙ ap (λ k. Err (k, place)) (sym found.0)
+opens-fault (Bad number place) second a b told_a told_b generation n sound lower found = found
+opens-fault Memory second a b told_a told_b generation n sound lower found = tt

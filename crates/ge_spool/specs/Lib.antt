@@ -6,3 +6,4 @@ pub mod Settled
 pub mod Answers
 pub mod Reads
 pub mod Opening
+pub mod Heads

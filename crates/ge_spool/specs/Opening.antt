@@ -3,8 +3,7 @@ use Rattle.std.specs.Prelude.{◌≡◌, ◌⊎◌, ℕ, ◌+◌, ◌<◌, ◌�
 use Rattle.ge_model_disk.specs.Disk.{Content, overwritten, read_bytes}
 use Rattle.ge_model_journal.specs.Area.{head, records_from, records_of}
 use Rattle.ge_model_journal.specs.Journal.{State, meaning, area_number}
-use Rattle.ge_model_journal.specs.declared.Head.TheVariants.{Closed, Faulty, Sound}
-use Rattle.ge_model_journal.specs.declared.Head.{Head}
+use Rattle.ge_model_journal.specs.declared.Head.TheVariants.{Closed, Sound}
 use Rattle.ge_spool.specs.Settled.{IsSettled}
 use Rattle.ge_spool.specs.declared.spool.Spool.{Spool}
 use Rattle.ge_spool.specs.declared.raw.Raw.{Raw}
@@ -86,15 +85,3 @@ Opens (Err Disk) read_a read_b a b = Unit {0}
 Opens (Err (Frame area place)) read_a read_b a b = meaning read_a read_b ≡ Err (area, place)
 Opens (Err (Bad area place)) read_a read_b a b = ⊥
 Opens (Err Memory) read_a read_b a b = Unit {0}
-
--- a header is that of an open area
-abbrev pub is_sound : Head → Bool
-is_sound Closed = false
-is_sound (Faulty place) = false
-is_sound (Sound generation size) = true
-
--- a header doesn't count beside a generation
-abbrev pub IsBelow : Head → ℕ → Type 0
-IsBelow Closed generation = Unit {0}
-IsBelow (Faulty place) generation = ⊥
-IsBelow (Sound other size) generation = other < generation

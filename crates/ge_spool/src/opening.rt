@@ -6,8 +6,9 @@ ghost use Rattle.ge_model_journal.specs.Journal.{State, first_state, picked, are
 ghost use Rattle.ge_model_journal.specs.declared.Head.TheVariants.{Closed, Sound};
 ghost use Rattle.ge_model_journal.specs.declared.Choice.TheVariants.{Chosen};
 ghost use Rattle.ge_outside.specs.Faults.{Rose};
+ghost use Rattle.ge_spool.specs.Heads.{IsLower, is_sound};
 ghost use Rattle.ge_spool.specs.Moments.{IsQuiet, Since};
-ghost use Rattle.ge_spool.specs.Opening.{Tells, Opens, Blames, IsNoFrame, IsPadImage, IsFreshImage, FindsIn, FitsFound, IsBelow, is_sound, padded, raw_state};
+ghost use Rattle.ge_spool.specs.Opening.{Tells, Opens, Blames, IsNoFrame, IsPadImage, IsFreshImage, FindsIn, FitsFound, padded, raw_state};
 ghost use Rattle.ge_spool.specs.Reads.{IsHeadOf, FitsHead};
 ghost use Rattle.ge_spool.specs.Settled.{IsSettled, HasRoom, HasCauseOfTwo};
 ghost use Rattle.ge_spool.specs.Pieces.{IsSnapshotPiece};
@@ -135,6 +136,20 @@ fn find_chosen<D: Disk>(
     }
 }
 
+// The second of two or the first.
+fn pick<T: Copy>(second: bool, a: T, b: T) -> T
+    ensures { result ≡ picked second a b }
+{
+    if second { b } else { a }
+}
+
+// The number of the second area or the first.
+fn number_of(second: bool) -> u8
+    ensures { result ≡ area_number second }
+{
+    if second { 1 } else { 0 }
+}
+
 // Whether a header is that of an open area.
 fn is_open(head: Head) -> bool
     ensures { result ≡ is_sound head }
@@ -161,7 +176,7 @@ fn open_chosen<D: Disk>(
     requires bound_a { look_a.0 ≤ 2 ^ 63 }
     requires bound_b { look_b.0 ≤ 2 ^ 63 }
     requires chosen { picked choice.0 look_a.1 look_b.1 ≡ Sound choice.1 choice.2 }
-    requires lower { IsBelow (picked choice.0 look_b.1 look_a.1) choice.1 }
+    requires lower { IsLower (picked choice.0 look_b.1 look_a.1) choice.1 }
     ensures since_a { (bytes : List ℕ) → IsQuiet (D.told a.old) bytes → Since (D.told a.old) (D.told a.new) (IsPadImage bytes) }
     ensures since_b { (bytes : List ℕ) → IsQuiet (D.told b.old) bytes → Since (D.told b.old) (D.told b.new) (IsPadImage bytes) }
     ensures opened { (bytes_a bytes_b : List ℕ) → IsQuiet (D.told a.old) bytes_a → IsQuiet (D.told b.old) bytes_b
@@ -177,9 +192,12 @@ fn open_chosen<D: Disk>(
     let (second, generation, snapshot_size) = choice;
     let (size_a, head_a) = look_a;
     let (size_b, head_b) = look_b;
-    let size = if second { size_b } else { size_a };
-    let other_open = is_open(if second { head_a } else { head_b });
-    let found = find_chosen(alloc, second, a, b, size, snapshot_size)?;
+    let size = pick(second, size_a, size_b);
+    let other_open = is_open(pick(second, head_b, head_a));
+    let found = match find_chosen(alloc, second, a, b, size, snapshot_size) {
+        Ok(found) => found,
+        Err(fault) => return Err(fault),
+    };
     if pad_both(a, b, size_a, size_b).is_err() {
         return Err(OpenFault::Disk);
     }
@@ -193,7 +211,7 @@ fn open_chosen<D: Disk>(
     };
     let raw = Raw {
         generation,
-        area: if second { 1 } else { 0 },
+        area: number_of(second),
         snapshot: found.snapshot,
         records: found.records,
     };
