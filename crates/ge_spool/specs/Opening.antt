@@ -85,3 +85,11 @@ Opens (Err Disk) read_a read_b a b = Unit {0}
 Opens (Err (Frame area place)) read_a read_b a b = meaning read_a read_b ≡ Err (area, place)
 Opens (Err (Bad area place)) read_a read_b a b = ⊥
 Opens (Err Memory) read_a read_b a b = Unit {0}
+
+-- a fact where a frame is blamed
+abbrev pub OnFrame : {T : Type 0} → Result T OpenFault → Type 0 → Type 0
+OnFrame (Ok x) P = Unit {0}
+OnFrame (Err Disk) P = Unit {0}
+OnFrame (Err (Frame area place)) P = P
+OnFrame (Err (Bad area place)) P = Unit {0}
+OnFrame (Err Memory) P = Unit {0}

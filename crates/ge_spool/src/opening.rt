@@ -1,6 +1,6 @@
 // Opening a journal.
 ghost use Rattle.std.specs.Prelude.{◌≡◌, ◌⊎◌, ◌+◌, ◌-◌, ◌^◌, ◌<◌, ◌≤◌, ℕ, false, List, [], length, IfOk, OnOk};
-ghost use Rattle.ge_model_disk.specs.Disk.{HasLength, IsWithin, IsImageSince, read_bytes};
+ghost use Rattle.ge_model_disk.specs.Disk.{HasLength, IsWithin, IsImageSince, read_bytes, told_synced};
 ghost use Rattle.ge_model_journal.specs.Area.{number8};
 ghost use Rattle.ge_model_journal.specs.Journal.{State, first_state, picked, area_number, meaning};
 ghost use Rattle.ge_model_journal.specs.declared.Head.TheVariants.{Closed, Sound};
@@ -8,9 +8,9 @@ ghost use Rattle.ge_model_journal.specs.declared.Choice.TheVariants.{Chosen};
 ghost use Rattle.ge_outside.specs.Faults.{Rose};
 ghost use Rattle.ge_spool.specs.Heads.{IsLower, is_sound};
 ghost use Rattle.ge_spool.specs.Moments.{IsQuiet, Since};
-ghost use Rattle.ge_spool.specs.Opening.{Tells, Opens, Blames, IsNoFrame, IsPadImage, IsFreshImage, FindsIn, FitsFound, padded, raw_state};
+ghost use Rattle.ge_spool.specs.Opening.{Tells, Opens, Blames, IsNoFrame, IsPadImage, IsFreshImage, OnFrame, FindsIn, FitsFound, padded, raw_state};
 ghost use Rattle.ge_spool.specs.Reads.{IsHeadOf, FitsHead};
-ghost use Rattle.ge_spool.specs.Settled.{IsSettled, HasRoom, HasCauseOfTwo};
+ghost use Rattle.ge_spool.specs.Settled.{IsSettled, HasRoom, HasCauseOfTwo, is_second, is_dead};
 ghost use Rattle.ge_spool.specs.Pieces.{IsSnapshotPiece};
 ghost use Rattle.ge_spool.specs.Steps.{refilled};
 
@@ -58,8 +58,10 @@ fn open_fresh<D: Disk>(alloc: Global, a: &mut D, b: &mut D, size_a: u64, size_b:
     ensures since_b { (bytes : List ℕ) → IsQuiet (D.told b.old) bytes → Since (D.told b.old) (D.told b.new) (IsPadImage bytes) }
     ensures opened { (bytes_a bytes_b : List ℕ) → IsQuiet (D.told a.old) bytes_a → IsQuiet (D.told b.old) bytes_b
         → IfOk result (λ opened. IsSettled opened.0 (D.told a.new) (D.told b.new) first_state) }
-    ensures raw { IfOk result (λ opened. (raw_state opened.1 ≡ first_state) × (opened.1.area ≡ 0)) }
+    ensures raw { IfOk result (λ opened. raw_state opened.1 ≡ first_state) }
+    ensures area { IfOk result (λ opened. opened.1.area ≡ area_number (is_second opened.0)) }
     ensures room { IfOk result (λ opened. HasRoom opened.0 (D.told a.new) (D.told b.new)) }
+    ensures alive { IfOk result (λ opened. is_dead opened.0 ≡ false) }
     ensures syncs { D.syncs a.new + D.syncs b.new ≤ D.syncs a.old + D.syncs b.old + 4 }
     ensures syncs_a { D.syncs a.old ≤ D.syncs a.new }
     ensures syncs_b { D.syncs b.old ≤ D.syncs b.new }
@@ -181,7 +183,9 @@ fn open_chosen<D: Disk>(
     ensures since_b { (bytes : List ℕ) → IsQuiet (D.told b.old) bytes → Since (D.told b.old) (D.told b.new) (IsPadImage bytes) }
     ensures opened { (bytes_a bytes_b : List ℕ) → IsQuiet (D.told a.old) bytes_a → IsQuiet (D.told b.old) bytes_b
         → Opens result bytes_a bytes_b (D.told a.new) (D.told b.new) }
+    ensures unwritten { OnFrame result ((D.told a.new ≡ D.told a.old) × (D.told b.new ≡ D.told b.old)) }
     ensures room { IfOk result (λ opened. HasRoom opened.0 (D.told a.new) (D.told b.new)) }
+    ensures alive { IfOk result (λ opened. is_dead opened.0 ≡ false) }
     ensures syncs { D.syncs a.new + D.syncs b.new ≤ D.syncs a.old + D.syncs b.old + 2 }
     ensures syncs_a { D.syncs a.old ≤ D.syncs a.new }
     ensures syncs_b { D.syncs b.old ≤ D.syncs b.new }
@@ -193,7 +197,8 @@ fn open_chosen<D: Disk>(
     let (size_a, head_a) = look_a;
     let (size_b, head_b) = look_b;
     let size = pick(second, size_a, size_b);
-    let other_open = is_open(pick(second, head_b, head_a));
+    let other_head = pick(second, head_b, head_a);
+    let other_open = is_open(other_head);
     let found = match find_chosen(alloc, second, a, b, size, snapshot_size) {
         Ok(found) => found,
         Err(fault) => return Err(fault),
@@ -216,4 +221,63 @@ fn open_chosen<D: Disk>(
         records: found.records,
     };
     Ok((spool, raw))
+}
+
+// Syncs both areas and reads their headers.
+fn survey<D: Disk>(a: &mut D, b: &mut D) -> Result<((u64, Head), (u64, Head)), Failed>
+    ensures told_a { OnOk result (D.told a.new ≡ told_synced (D.told a.old)) }
+    ensures told_b { OnOk result (D.told b.new ≡ told_synced (D.told b.old)) }
+    ensures head_a { IfOk result (λ looks. IsHeadOf (D.told a.new) looks.0.0 looks.0.1) }
+    ensures head_b { IfOk result (λ looks. IsHeadOf (D.told b.new) looks.1.0 looks.1.1) }
+    ensures fits_a { IfOk result (λ looks. FitsHead looks.0.0 looks.0.1) }
+    ensures fits_b { IfOk result (λ looks. FitsHead looks.1.0 looks.1.1) }
+    ensures bound_a { IfOk result (λ looks. looks.0.0 ≤ 2 ^ 63) }
+    ensures bound_b { IfOk result (λ looks. looks.1.0 ≤ 2 ^ 63) }
+    ensures since_a { (D.told a.new ≡ D.told a.old) ⊎ (D.told a.new ≡ told_synced (D.told a.old)) }
+    ensures since_b { (D.told b.new ≡ D.told b.old) ⊎ (D.told b.new ≡ told_synced (D.told b.old)) }
+    ensures syncs { D.syncs a.new + D.syncs b.new ≤ D.syncs a.old + D.syncs b.old + 2 }
+    ensures syncs_a { D.syncs a.old ≤ D.syncs a.new }
+    ensures syncs_b { D.syncs b.old ≤ D.syncs b.new }
+    ensures cause { HasCauseOfTwo (D.disk_faults a.old) (D.disk_faults a.new) (D.disk_faults b.old) (D.disk_faults b.new) result }
+{
+    a.sync()?;
+    b.sync()?;
+    let look_a = look(a)?;
+    let look_b = look(b)?;
+    Ok((look_a, look_b))
+}
+
+impl Spool {
+    /// Opens the journal in two areas, which it syncs and reads. It answers a journal at rest with what it
+    /// holds; where none of the areas is open, the first is made, in generation 1 with nothing in it. Where a
+    /// header or the records of the area that counts are wrong, it answers the first place that is, and has
+    /// written nothing. A stop at any moment leaves what the areas stood for.
+    pub fn open<D: Disk>(alloc: Global, a: &mut D, b: &mut D) -> Result<(Spool, Raw), OpenFault>
+        ensures opened { Tells (D.told a.old) → Tells (D.told b.old)
+            → Opens result (read_bytes (D.told a.old)) (read_bytes (D.told b.old)) (D.told a.new) (D.told b.new) }
+
+        // Where nothing was pending, every pair of images since then stands for what the areas stood for.
+        ensures any_moment { (bytes_a bytes_b : List ℕ) → IsQuiet (D.told a.old) bytes_a → IsQuiet (D.told b.old) bytes_b
+            → (c d : List ℕ) → IsImageSince (length (D.told a.old)) (D.told a.new) c → IsImageSince (length (D.told b.old)) (D.told b.new) d
+            → meaning c d ≡ meaning bytes_a bytes_b }
+
+        ensures unwritten { OnFrame result ((D.told a.new ≡ told_synced (D.told a.old)) × (D.told b.new ≡ told_synced (D.told b.old))) }
+        ensures room { IfOk result (λ opened. HasRoom opened.0 (D.told a.new) (D.told b.new)) }
+        ensures alive { IfOk result (λ opened. is_dead opened.0 ≡ false) }
+        ensures blames { Blames result (Rose (D.disk_faults a.old) (D.disk_faults a.new) ⊎ Rose (D.disk_faults b.old) (D.disk_faults b.new)) }
+        ensures syncs { D.syncs a.new + D.syncs b.new ≤ D.syncs a.old + D.syncs b.old + 6 }
+        ensures syncs_a { D.syncs a.old ≤ D.syncs a.new }
+        ensures syncs_b { D.syncs b.old ≤ D.syncs b.new }
+        ensures faults_a { D.disk_faults a.old ≤ D.disk_faults a.new }
+        ensures faults_b { D.disk_faults b.old ≤ D.disk_faults b.new }
+    {
+        let Ok((look_a, look_b)) = survey(a, b) else {
+            return Err(OpenFault::Disk);
+        };
+        match choose(look_a.1, look_b.1) {
+            Choice::Wrong(area, place) => Err(OpenFault::Frame(area, place)),
+            Choice::Neither => open_fresh(alloc, a, b, look_a.0, look_b.0),
+            Choice::Chosen(second, generation, size) => open_chosen(alloc, a, b, look_a, look_b, (second, generation, size)),
+        }
+    }
 }
