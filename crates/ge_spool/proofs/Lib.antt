@@ -7,3 +7,4 @@ pub mod Moving
 pub mod Settling
 pub mod Looking
 pub mod ShortAreas
+pub mod Openings

@@ -28,11 +28,11 @@ head_of-same size xs ys gate format generation snapshot = rw (gate, format, gene
 head_of-front : (size : ℕ) (xs ys : List ℕ) → take 18 xs ≡ take 18 ys → 18 ≤ length xs → 18 ≤ length ys → head_of size xs ≡ head_of size ys
 head_of-front size xs ys same long_x long_y =
     let eight : (at : ℕ) → at + 8 ≤ 18 → number8 xs at ≡ number8 ys at = λ at fits.
-        sym (ap (λ zs. number8 zs at) (take-append-drop 18 xs)) ∙ number8-append (take 18 xs) (drop 18 xs) at (omega (arith, length-take 18 xs))
-        ∙ ap (λ zs. number8 zs at) same
-        ∙ sym (number8-append (take 18 ys) (drop 18 ys) at (omega (arith, length-take 18 ys))) ∙ ap (λ zs. number8 zs at) (take-append-drop 18 ys) in
+    sym (ap (λ zs. number8 zs at) (take-append-drop 18 xs)) ∙ number8-append (take 18 xs) (drop 18 xs) at (omega (arith, length-take 18 xs))
+    ∙ ap (λ zs. number8 zs at) same
+    ∙ sym (number8-append (take 18 ys) (drop 18 ys) at (omega (arith, length-take 18 ys))) ∙ ap (λ zs. number8 zs at) (take-append-drop 18 ys) in
     let one : (at : ℕ) → at < 18 → slice_index xs at ≡ slice_index ys at = λ at fits.
-        sym (get_or-take 18 xs at 0 fits) ∙ ap (λ zs. slice_index zs at) same ∙ get_or-take 18 ys at 0 fits in
+    sym (get_or-take 18 xs at 0 fits) ∙ ap (λ zs. slice_index zs at) same ∙ get_or-take 18 ys at 0 fits in
     let gate : slice_index xs 0 ≡ slice_index ys 0 = one 0 (omega arith) in
     let format : slice_index xs 1 ≡ slice_index ys 1 = one 1 (omega arith) in
     let generation : number8 xs 2 ≡ number8 ys 2 = eight 2 (omega arith) in
@@ -62,10 +62,12 @@ pub records-more : (fuel place gate size : ℕ) (after body others : List ℕ) (
     → (less : ℕ) × (length others ≤ less) × (and_records (records ++ body ∷ []) (records_from less (place + 5 + size) others) ≡ all)
 records-more zero place gate size after body others records all enough opened good is_size is_body is_others sizes so_far = absurd (omega (arith, enough))
 records-more (suc fuel) place gate size after body others records all enough opened good is_size is_body is_others sizes so_far =
-    let step = records_from-step fuel place after body others size good (sym is_size) (sym is_body) (sym (drop-drop size 4 after) ∙ sym is_others) in
-    (fuel, omega (arith, enough, sizes),
-     sym (and_records-found records body (records_from fuel (place + 5 + size) others)) ∙ ap (λ found. and_records records found) (sym step)
-     ∙ ap (λ k. and_records records (records_from (suc fuel) place (k ∷ after))) (sym opened) ∙ so_far)
+    let step = records_from-step fuel place after body others size good (sym is_size) (sym is_body) (sym (drop-drop size 4 after) ∙ sym is_others) in (
+      fuel,
+      omega (arith, enough, sizes),
+      sym (and_records-found records body (records_from fuel (place + 5 + size) others)) ∙ ap (λ found. and_records records found) (sym step)
+          ∙ ap (λ k. and_records records (records_from (suc fuel) place (k ∷ after))) (sym opened) ∙ so_far,
+    )
 
 -- the gate that ends the list
 pub records-end : (fuel place gate : ℕ) (after : List ℕ) (records : List (List ℕ)) (all : Result (List (List ℕ) × ℕ) ℕ)

@@ -25,7 +25,7 @@ still-image old new bytes image quiet same left =
 -- one image of the area that counts
 one-of-record : (second : Bool) (c d : List ℕ) (s : State) (end : ℕ) (body : List ℕ)
     → IsArea (picked second c d) s.generation s.snapshot s.records end
-      ⊎ IsArea (picked second c d) s.generation s.snapshot (s.records ++ body ∷ []) (end + 5 + length body)
+    ⊎ IsArea (picked second c d) s.generation s.snapshot (s.records ++ body ∷ []) (end + 5 + length body)
     → IsLower (head (picked second d c)) s.generation → IsOneOf s (with_record s body) c d
 one-of-record second c d s end body (inl before) lower = inl (meaning-area second c d s.generation s.snapshot s.records end before lower)
 one-of-record second c d s end body (inr after) lower =
@@ -72,11 +72,11 @@ compact-moments false a new_a b new_b A B s end close piece snapshot quiet_a qui
     let image = since_quiet b new_b B (IsRefillImage close piece B) quiet_b since (refill-same close piece B) d of_d in
     let other : c ≡ A = still-image a new_a A c quiet_a same of_c in
     one-of-compacted false c d s end snapshot (rw other area)
-      (refill-area close B d piece snapshot (s.generation + 1) s.generation some flag lower is_piece field (omega arith) image)
-      (rw other (head-area A s.generation s.snapshot s.records end area))
+    (refill-area close B d piece snapshot (s.generation + 1) s.generation some flag lower is_piece field (omega arith) image)
+    (rw other (head-area A s.generation s.snapshot s.records end area))
 compact-moments true a new_a b new_b A B s end close piece snapshot quiet_a quiet_b area lower some flag is_piece field since same c d of_c of_d =
     let image = since_quiet a new_a A (IsRefillImage close piece A) quiet_a since (refill-same close piece A) c of_c in
     let other : d ≡ B = still-image b new_b B d quiet_b same of_d in
     one-of-compacted true c d s end snapshot (rw other area)
-      (refill-area close A c piece snapshot (s.generation + 1) s.generation some flag lower is_piece field (omega arith) image)
-      (rw other (head-area B s.generation s.snapshot s.records end area))
+    (refill-area close A c piece snapshot (s.generation + 1) s.generation some flag lower is_piece field (omega arith) image)
+    (rw other (head-area B s.generation s.snapshot s.records end area))

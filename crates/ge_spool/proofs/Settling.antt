@@ -27,8 +27,8 @@ pub settled-area : (s : Spool) (a b : List Content) (state : State) → IsSettle
 settled-area s a b state settled =
     let back = choice-back (head (read_bytes a)) (head (read_bytes b)) s.second state.generation (length state.snapshot) settled.chosen in
     subst (λ snapshot. IsArea (picked s.second (read_bytes a) (read_bytes b)) state.generation snapshot state.records s.end) settled.snapshot
-      (area-back (picked s.second (read_bytes a) (read_bytes b)) state.generation (length state.snapshot) state.records s.end
-        (sym (head-picked s.second (read_bytes a) (read_bytes b)) ∙ back.0) settled.listed)
+    (area-back (picked s.second (read_bytes a) (read_bytes b)) state.generation (length state.snapshot) state.records s.end
+    (sym (head-picked s.second (read_bytes a) (read_bytes b)) ∙ back.0) settled.listed)
 
 -- and the header of the other one
 pub settled-lower : (s : Spool) (a b : List Content) (state : State) → IsSettled s a b state
@@ -66,7 +66,8 @@ at-rest false a b chosen other state end other_open quiet quiet_other area lower
       chosen = rw (is_a, is_b) (choice-lower false (head chosen) (head other) state.generation (length state.snapshot) (head-area chosen state.generation state.snapshot state.records end area) lower);
       snapshot = rw is_a (snapshot-area chosen state.generation state.snapshot state.records end area);
       listed = rw is_a (records_of-area chosen state.generation state.snapshot state.records end area);
-      other_gate = rw is_b flag }
+      other_gate = rw is_b flag;
+    }
 at-rest true a b chosen other state end other_open quiet quiet_other area lower some flag =
     let is_b = read_bytes-quiet b chosen quiet in
     let is_a = read_bytes-quiet a other quiet_other in
@@ -79,13 +80,24 @@ at-rest true a b chosen other state end other_open quiet quiet_other area lower 
       chosen = rw (is_a, is_b) (choice-lower true (head other) (head chosen) state.generation (length state.snapshot) (head-area chosen state.generation state.snapshot state.records end area) lower);
       snapshot = rw is_b (snapshot-area chosen state.generation state.snapshot state.records end area);
       listed = rw is_b (records_of-area chosen state.generation state.snapshot state.records end area);
-      other_gate = rw is_a flag }
+      other_gate = rw is_a flag;
+    }
 
 pub settled-again : (s : Spool) (a b : List Content) (state : State) → AtRest s.second a b state s.end s.other_open
     → s.dead ≡ false → s.generation ≡ state.generation → s.records ≡ length state.records → IsSettled s a b state
 settled-again s a b state rest alive generation count = record {
-  alive = alive; quiet_a = rest.quiet_a; quiet_b = rest.quiet_b; some_a = rest.some_a; some_b = rest.some_b; chosen = rest.chosen;
-  snapshot = rest.snapshot; listed = rest.listed; generation = generation; count = count; other_gate = rest.other_gate }
+  alive = alive;
+  quiet_a = rest.quiet_a;
+  quiet_b = rest.quiet_b;
+  some_a = rest.some_a;
+  some_b = rest.some_b;
+  chosen = rest.chosen;
+  snapshot = rest.snapshot;
+  listed = rest.listed;
+  generation = generation;
+  count = count;
+  other_gate = rest.other_gate;
+}
 
 pub quiet-picked : (second : Bool) (a b : List Content) (A B : List ℕ) → IsQuiet a A → IsQuiet b B → IsQuiet (picked second a b) (picked second A B)
 quiet-picked false a b A B quiet_a quiet_b = quiet_a
@@ -107,14 +119,14 @@ still-moments s a b state settled c d of_c of_d =
     let is_c : c ≡ read_bytes a = still-image a a (read_bytes a) c settled.quiet_a refl of_c in
     let is_d : d ≡ read_bytes b = still-image b b (read_bytes b) d settled.quiet_b refl of_d in
     rw (is_c, is_d) (meaning-area s.second (read_bytes a) (read_bytes b) state.generation state.snapshot state.records s.end
-      (settled-area s a b state settled) (settled-lower s a b state settled))
+    (settled-area s a b state settled) (settled-lower s a b state settled))
 
 -- the gate of an open area
 pub gate-area : (bytes : List ℕ) (generation : ℕ) (snapshot : List ℕ) (records : List (List ℕ)) (end : ℕ) → IsArea bytes generation snapshot records end
     → true ≡ (slice_index bytes 0 == 1)
 gate-area bytes generation snapshot records end area =
     let first : slice_index (area.top ++ (area.front ++ (area.gate ∷ area.rest))) 0 ≡ slice_index area.top 0 =
-        get_or_append_left area.top (area.front ++ (area.gate ∷ area.rest)) 0 0 (omega (arith, area.is_top.size)) in
+    get_or_append_left area.top (area.front ++ (area.gate ∷ area.rest)) 0 0 (omega (arith, area.is_top.size)) in
     let opened : slice_index bytes 0 ≡ 1 = ap (λ xs. slice_index xs 0) area.whole ∙ first ∙ area.is_top.gate in
     sym (eq-eqb (slice_index bytes 0) 1 opened)
 

@@ -68,8 +68,8 @@ pub meaning-pad : (a b c d : List ℕ) → IsPadImage a c → IsPadImage b d →
 unfolding meaning
 meaning-pad a b c d pad_a pad_b =
     rw (head-pad a c pad_a, head-pad b d pad_b)
-      (by-choice a b c d (choice (head a) (head b)) (λ second generation n chosen.
-        picked-pad second a b c d generation n (choice-back (head a) (head b) second generation n chosen).0 pad_a pad_b))
+    (by-choice a b c d (choice (head a) (head b)) (λ second generation n chosen.
+    picked-pad second a b c d generation n (choice-back (head a) (head b) second generation n chosen).0 pad_a pad_b))
 
 -- while the first one is made they stand for a journal in which nothing was written
 pub meaning-fresh : (c d : List ℕ) → IsFreshImage c → head d ≡ Closed → meaning c d ≡ Ok first_state
@@ -104,21 +104,21 @@ closed-gate : (bytes : List ℕ) → head bytes ≡ Closed → 19 ≤ length byt
 unfolding head
 closed-gate bytes closed long =
     let either_way : (nat_lt (length bytes) 19 || not (slice_index bytes 0 == 1)) ≡ true =
-        closed-test (nat_lt (length bytes) 19 || not (slice_index bytes 0 == 1)) (slice_index bytes 1 == 1) (number8 bytes 2 == 0) (nat_lt (length bytes - 18) (number8 bytes 10))
-          (number8 bytes 2) (number8 bytes 10) closed in
+    closed-test (nat_lt (length bytes) 19 || not (slice_index bytes 0 == 1)) (slice_index bytes 1 == 1) (number8 bytes 2 == 0) (nat_lt (length bytes - 18) (number8 bytes 10))
+    (number8 bytes 2) (number8 bytes 10) closed in
     not-true (slice_index bytes 0 == 1) (rw (le-ltb (length bytes) 19 long) at either_way)
 
 -- after padding the gate of an area that isn't open is closed
 pub padded-closed : (bytes : List ℕ) → head bytes ≡ Closed → (slice_index (padded bytes) 0 == 1) ≡ false
 padded-closed bytes closed =
     ⊎_elim (λ (short : length bytes < 19). rw (padded-short bytes short) refl)
-      (λ (long : 19 ≤ length bytes). rw (padded-long bytes long) (closed-gate bytes closed long)) (cases_lt (length bytes) 19)
+    (λ (long : 19 ≤ length bytes). rw (padded-long bytes long) (closed-gate bytes closed long)) (cases_lt (length bytes) 19)
 
 -- and there is one
 pub padded-some : (bytes : List ℕ) → 0 < length (padded bytes)
 padded-some bytes =
     ⊎_elim (λ (short : length bytes < 19). rw (padded-short bytes short) (omega arith))
-      (λ (long : 19 ≤ length bytes). rw (padded-long bytes long) (omega (arith, long))) (cases_lt (length bytes) 19)
+    (λ (long : 19 ≤ length bytes). rw (padded-long bytes long) (omega (arith, long))) (cases_lt (length bytes) 19)
 
 lower-zero : (h : Head) → IsLower h 0 → h ≡ Closed
 lower-zero Closed lower = refl
@@ -133,8 +133,8 @@ fresh-pad bytes image closed pad = inl (head-pad bytes image pad ∙ closed)
 pub fresh-fill : (bytes image piece : List ℕ) → head bytes ≡ Closed → IsSnapshotPiece piece [] → number8 piece 1 ≡ 1 → IsRefillImage false piece (padded bytes) image → IsFreshImage image
 fresh-fill bytes image piece closed is_piece generation left =
     ⊎_elim (λ lower. inl (lower-zero (head image) lower))
-      (λ area. inr (head-area image 1 [] [] 18 area, records_of-area image 1 [] [] 18 area))
-      (behind-closed (padded bytes) image piece [] 1 0 (padded-some bytes) (padded-closed bytes closed) is_piece generation (omega arith) left)
+    (λ area. inr (head-area image 1 [] [] 18 area, records_of-area image 1 [] [] 18 area))
+    (behind-closed (padded bytes) image piece [] 1 0 (padded-some bytes) (padded-closed bytes closed) is_piece generation (omega arith) left)
 
 -- the same, by the flag
 padded-picked : (second : Bool) (a b : List ℕ) → picked second (padded a) (padded b) ≡ padded (picked second a b)
@@ -157,7 +157,7 @@ sound-gate bytes generation n sound = (header-sound (length bytes) bytes generat
 head-padded : (bytes : List ℕ) → head (padded bytes) ≡ head bytes
 head-padded bytes =
     ⊎_elim (λ (short : length bytes < 19). head-short (padded bytes) (rw (padded-short bytes short) (omega (arith, length-overwritten-le bytes 0 (0 ∷ [])))) ∙ sym (head-short bytes short))
-      (λ (long : 19 ≤ length bytes). ap head (padded-long bytes long)) (cases_lt (length bytes) 19)
+    (λ (long : 19 ≤ length bytes). ap head (padded-long bytes long)) (cases_lt (length bytes) 19)
 
 -- whether the gate of the area that doesn't count is open
 padded-flag : (bytes : List ℕ) (h : Head) (generation : ℕ) → head bytes ≡ h → IsLower h generation → is_sound h ≡ (slice_index (padded bytes) 0 == 1)
@@ -188,8 +188,8 @@ opened-at-rest second told_a told_b a b generation n snapshot records end quiet_
     let area = subst (λ xs. IsArea (picked second a b) generation xs records end) (sym is_snapshot) (area-back (picked second a b) generation n records end is_head listed) in
     let other_head : head (padded (picked second b a)) ≡ picked second (head b) (head a) = head-padded (picked second b a) ∙ sym (head-picked second b a) in
     at-rest second told_a told_b (picked second a b) (padded (picked second b a)) (record { generation = generation; snapshot = snapshot; records = records }) end
-      (is_sound (picked second (head b) (head a))) quiet still area (subst (λ h. IsLower h generation) (sym other_head) lower) (padded-some (picked second b a))
-      (padded-flag (picked second b a) (picked second (head b) (head a)) generation (sym (head-picked second b a)) lower)
+    (is_sound (picked second (head b) (head a))) quiet still area (subst (λ h. IsLower h generation) (sym other_head) lower) (padded-some (picked second b a))
+    (padded-flag (picked second b a) (picked second (head b) (head a)) generation (sym (head-picked second b a)) lower)
 
 -- the records behind a header
 pub records_of-rest : (n : ℕ) (bytes : List ℕ)

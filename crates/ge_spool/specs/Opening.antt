@@ -24,7 +24,7 @@ IsStill (now ∷ earlier) = now ≡ record { synced = now.bytes; bytes = now.byt
 -- What was found in bytes that follow a header, with a snapshot of so many of them; or the place of what is wrong.
 abbrev pub FindsInRest : Result Found OpenFault → ℕ → ℕ → List ℕ → Type 0
 FindsInRest (Ok found) area n rest =
-  (records_from (length (drop n rest)) (18 + n) (drop n rest) ≡ Ok (found.records, found.end)) × (found.snapshot ≡ take n rest)
+    (records_from (length (drop n rest)) (18 + n) (drop n rest) ≡ Ok (found.records, found.end)) × (found.snapshot ≡ take n rest)
 FindsInRest (Err Disk) area n rest = Unit {0}
 FindsInRest (Err (Frame number place)) area n rest = (number ≡ area) × (records_from (length (drop n rest)) (18 + n) (drop n rest) ≡ Err place)
 FindsInRest (Err (Bad number place)) area n rest = ⊥
@@ -80,7 +80,7 @@ raw_state raw = record { generation = raw.generation; snapshot = raw.snapshot; r
 -- the place of the first field that is wrong.
 abbrev pub Opens : Result (Spool × Raw) OpenFault → List ℕ → List ℕ → List Content → List Content → Type 0
 Opens (Ok opened) read_a read_b a b =
-  IsSettled opened.0 a b (raw_state opened.1) × (meaning read_a read_b ≡ Ok (raw_state opened.1)) × (opened.1.area ≡ area_number opened.0.second)
+    IsSettled opened.0 a b (raw_state opened.1) × (meaning read_a read_b ≡ Ok (raw_state opened.1)) × (opened.1.area ≡ area_number opened.0.second)
 Opens (Err Disk) read_a read_b a b = Unit {0}
 Opens (Err (Frame area place)) read_a read_b a b = meaning read_a read_b ≡ Err (area, place)
 Opens (Err (Bad area place)) read_a read_b a b = ⊥

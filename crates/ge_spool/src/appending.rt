@@ -17,7 +17,12 @@ const LIMIT: u64 = 1 << 30;
 impl Spool {
     /// Writes a record behind the others. At `Ok` it is there for good. At each moment before, a stop leaves
     /// what stood before, or that with the record.
-    pub fn append<D: Disk>(&mut self, a: &mut D, b: &mut D, record_bytes: &RecordBytes) -> Result<(), AppendFault>
+    pub fn append<D: Disk>(
+        &mut self,
+        a: &mut D,
+        b: &mut D,
+        record_bytes: &RecordBytes,
+    ) -> Result<(), AppendFault>
         requires { KeepsRoom self.old (D.told a.old) (D.told b.old) }
 
         ensures done { (state : State) → IsSettled self.old (D.told a.old) (D.told b.old) state
@@ -59,7 +64,12 @@ impl Spool {
 
     /// Fills the other area with a snapshot, in the next generation, so that it counts. At `Ok` it is there for
     /// good. At each moment before, a stop leaves what stood before, or the snapshot with no records.
-    pub fn compact<D: Disk>(&mut self, a: &mut D, b: &mut D, snapshot_bytes: &mut SnapshotBytes) -> Result<(), AppendFault>
+    pub fn compact<D: Disk>(
+        &mut self,
+        a: &mut D,
+        b: &mut D,
+        snapshot_bytes: &mut SnapshotBytes,
+    ) -> Result<(), AppendFault>
         requires room { KeepsRoom self.old (D.told a.old) (D.told b.old) }
         requires below { generation_of self.old < 2 ^ 64 - 1 }
 

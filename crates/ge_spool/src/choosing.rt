@@ -10,7 +10,13 @@ use crate::laying::{refill, write_behind};
 use ge_outside::{Disk, Failed};
 
 /// Writes a piece behind a gate of the second area or the first, and then opens the gate.
-pub fn write_chosen<D: Disk>(second: bool, a: &mut D, b: &mut D, gate: u64, piece: &[u8]) -> Result<(), Failed>
+pub fn write_chosen<D: Disk>(
+    second: bool,
+    a: &mut D,
+    b: &mut D,
+    gate: u64,
+    piece: &[u8],
+) -> Result<(), Failed>
     requires below_limit { gate + 1 + length piece.now ≤ 2 ^ 30 }
     requires within { IsWithin (picked second (D.told a.old) (D.told b.old)) (gate + 1) }
     ensures quiet { OnOk result ((bytes : List ℕ) → IsQuiet (picked second (D.told a.old) (D.told b.old)) bytes
@@ -34,7 +40,13 @@ pub fn write_chosen<D: Disk>(second: bool, a: &mut D, b: &mut D, gate: u64, piec
 }
 
 /// Fills the second area or the first anew.
-pub fn refill_chosen<D: Disk>(second: bool, a: &mut D, b: &mut D, close: bool, piece: &[u8]) -> Result<(), Failed>
+pub fn refill_chosen<D: Disk>(
+    second: bool,
+    a: &mut D,
+    b: &mut D,
+    close: bool,
+    piece: &[u8],
+) -> Result<(), Failed>
     requires below_limit { 1 + length piece.now ≤ 2 ^ 30 }
     requires within { IsWithin (picked second (D.told a.old) (D.told b.old)) 1 }
     ensures quiet { OnOk result ((bytes : List ℕ) → IsQuiet (picked second (D.told a.old) (D.told b.old)) bytes

@@ -10,12 +10,11 @@ mod opening;
 mod padding;
 mod pieces;
 mod raw;
-
 mod searching;
 mod spool;
 mod surveying;
 
 pub use faults::{AppendFault, OpenFault};
-pub use raw::Raw;
 pub use pieces::{RecordBytes, SnapshotBytes};
+pub use raw::Raw;
 pub use spool::Spool;

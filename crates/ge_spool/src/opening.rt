@@ -26,7 +26,13 @@ use ge_outside::{Disk, Failed};
 use std::alloc::Global;
 
 // Pads both areas and fills the first, where none is open.
-fn make_first<D: Disk>(a: &mut D, b: &mut D, size_a: u64, size_b: u64, piece: &[u8]) -> Result<(), Failed>
+fn make_first<D: Disk>(
+    a: &mut D,
+    b: &mut D,
+    size_a: u64,
+    size_b: u64,
+    piece: &[u8],
+) -> Result<(), Failed>
     requires closed_a { IsHeadOf (D.told a.old) size_a Closed }
     requires closed_b { IsHeadOf (D.told b.old) size_b Closed }
     requires is_piece { IsSnapshotPiece piece.now [] }
@@ -51,7 +57,13 @@ fn make_first<D: Disk>(a: &mut D, b: &mut D, size_a: u64, size_b: u64, piece: &[
 }
 
 // Makes the first area the one that counts, where none is open.
-fn open_fresh<D: Disk>(alloc: Global, a: &mut D, b: &mut D, size_a: u64, size_b: u64) -> Result<(Spool, Raw), OpenFault>
+fn open_fresh<D: Disk>(
+    alloc: Global,
+    a: &mut D,
+    b: &mut D,
+    size_a: u64,
+    size_b: u64,
+) -> Result<(Spool, Raw), OpenFault>
     requires closed_a { IsHeadOf (D.told a.old) size_a Closed }
     requires closed_b { IsHeadOf (D.told b.old) size_b Closed }
     ensures since_a { (bytes : List ℕ) → IsQuiet (D.told a.old) bytes → Since (D.told a.old) (D.told a.new) IsFreshImage }
@@ -277,7 +289,14 @@ impl Spool {
         match choose(look_a.1, look_b.1) {
             Choice::Wrong(area, place) => Err(OpenFault::Frame(area, place)),
             Choice::Neither => open_fresh(alloc, a, b, look_a.0, look_b.0),
-            Choice::Chosen(second, generation, size) => open_chosen(alloc, a, b, look_a, look_b, (second, generation, size)),
+            Choice::Chosen(second, generation, size) => open_chosen(
+                alloc,
+                a,
+                b,
+                look_a,
+                look_b,
+                (second, generation, size),
+            ),
         }
     }
 }

@@ -53,7 +53,13 @@ fn read_rest<D: Disk>(alloc: Global, disk: &mut D, size: u64) -> Result<Vec<u8>,
 }
 
 /// Finds the snapshot and the records of an area of this length, whose header is sound.
-pub fn find<D: Disk>(alloc: Global, disk: &mut D, area: u8, size: u64, snapshot_size: u64) -> Result<Found, OpenFault>
+pub fn find<D: Disk>(
+    alloc: Global,
+    disk: &mut D,
+    area: u8,
+    size: u64,
+    snapshot_size: u64,
+) -> Result<Found, OpenFault>
     requires long { 19 ≤ size }
     requires bound { size ≤ 2 ^ 63 }
     requires fits { snapshot_size ≤ size - 18 }

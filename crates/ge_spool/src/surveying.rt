@@ -16,7 +16,26 @@ fn head_in(size: u64, header: &[u8; 18]) -> Head
     ensures value { result ≡ head_of size header.now }
     ensures fits { FitsHead size result }
 {
-    let [gate, format, g0, g1, g2, g3, g4, g5, g6, g7, n0, n1, n2, n3, n4, n5, n6, n7] = *header;
+    let [
+        gate,
+        format,
+        g0,
+        g1,
+        g2,
+        g3,
+        g4,
+        g5,
+        g6,
+        g7,
+        n0,
+        n1,
+        n2,
+        n3,
+        n4,
+        n5,
+        n6,
+        n7,
+    ] = *header;
     if size < 19 || gate != 1 {
         return Head::Closed;
     }
@@ -71,7 +90,12 @@ fn body_length(bytes: &[u8]) -> Option<usize>
 }
 
 /// The records in bytes that begin at a place, with the place of the gate that ends their list.
-pub fn read_records(alloc: Global, area: u8, bytes: &[u8], start: u64) -> Result<(List<Text>, u64), OpenFault>
+pub fn read_records(
+    alloc: Global,
+    area: u8,
+    bytes: &[u8],
+    start: u64,
+) -> Result<(List<Text>, u64), OpenFault>
     requires { start + length bytes.now ≤ 2 ^ 63 }
     ensures read { ReadsRecords result area (records_from (length bytes.now) start bytes.now) }
     ensures end { IfOk result (λ read. start ≤ read.1) }

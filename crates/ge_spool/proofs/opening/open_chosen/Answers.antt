@@ -19,12 +19,12 @@ returns-in-Err-clause-opened g c = λ bytes_a bytes_b quiet_a quiet_b.
     let is_a = quiet-head told_a bytes_a c.args.look_a.0 c.args.look_a.1 quiet_a c.requires.head_a in
     let is_b = quiet-head told_b bytes_b c.args.look_b.0 c.args.look_b.1 quiet_b c.requires.head_b in
     let sound : picked second (head bytes_a) (head bytes_b) ≡ Sound generation n =
-        subst (λ h. picked second h (head bytes_b) ≡ Sound generation n) is_a (subst (λ h. picked second c.args.look_a.1 h ≡ Sound generation n) is_b c.requires.chosen) in
+    subst (λ h. picked second h (head bytes_b) ≡ Sound generation n) is_a (subst (λ h. picked second c.args.look_a.1 h ≡ Sound generation n) is_b c.requires.chosen) in
     let lower : IsLower (picked second (head bytes_b) (head bytes_a)) generation =
-        subst (λ h. IsLower (picked second (head bytes_b) h) generation) is_a (subst (λ h. IsLower (picked second h c.args.look_a.1) generation) is_b c.requires.lower) in
+    subst (λ h. IsLower (picked second (head bytes_b) h) generation) is_a (subst (λ h. IsLower (picked second h c.args.look_a.1) generation) is_b c.requires.lower) in
     let both = quiet-picked second told_a told_b bytes_a bytes_b quiet_a quiet_b in
     opens-fault c.in-Err.fault second bytes_a bytes_b _ _ generation n sound lower
-      (finds-quiet (Err c.in-Err.fault) (area_number second) n (picked second told_a told_b) (picked second bytes_a bytes_b) both c.in-Err.ensures.found)
+    (finds-quiet (Err c.in-Err.fault) (area_number second) n (picked second told_a told_b) (picked second bytes_a bytes_b) both c.in-Err.ensures.found)
 
 pub returns-clause-opened : goal.returns-clause-opened
 returns-clause-opened g c = λ bytes_a bytes_b quiet_a quiet_b.
@@ -36,9 +36,9 @@ returns-clause-opened g c = λ bytes_a bytes_b quiet_a quiet_b.
     let is_a = quiet-head told_a bytes_a c.args.look_a.0 c.args.look_a.1 quiet_a c.requires.head_a in
     let is_b = quiet-head told_b bytes_b c.args.look_b.0 c.args.look_b.1 quiet_b c.requires.head_b in
     let sound : picked second (head bytes_a) (head bytes_b) ≡ Sound generation n =
-        subst (λ h. picked second h (head bytes_b) ≡ Sound generation n) is_a (subst (λ h. picked second c.args.look_a.1 h ≡ Sound generation n) is_b c.requires.chosen) in
+    subst (λ h. picked second h (head bytes_b) ≡ Sound generation n) is_a (subst (λ h. picked second c.args.look_a.1 h ≡ Sound generation n) is_b c.requires.chosen) in
     let lower : IsLower (picked second (head bytes_b) (head bytes_a)) generation =
-        subst (λ h. IsLower (picked second (head bytes_b) h) generation) is_a (subst (λ h. IsLower (picked second h c.args.look_a.1) generation) is_b c.requires.lower) in
+    subst (λ h. IsLower (picked second (head bytes_b) h) generation) is_a (subst (λ h. IsLower (picked second h c.args.look_a.1) generation) is_b c.requires.lower) in
     let both = quiet-picked second told_a told_b bytes_a bytes_b quiet_a quiet_b in
     let found = c.in-Ok.found in
     let chosen = picked second bytes_a bytes_b in
@@ -50,13 +50,14 @@ returns-clause-opened g c = λ bytes_a bytes_b quiet_a quiet_b.
     let still_a = from-ok c.pad_both.result _ sure c.pad_both.ensures.quiet_a bytes_a (rw c.find_chosen.ensures.told_a quiet_a) in
     let still_b = from-ok c.pad_both.result _ sure c.pad_both.ensures.quiet_b bytes_b (rw c.find_chosen.ensures.told_b quiet_b) in
     let flag : is_sound (picked second (head bytes_b) (head bytes_a)) ≡ c.is_open-other_open.result =
-        sym (c.is_open-other_open.ensures ∙ ap is_sound (c.pick-other_head.ensures ∙ ap (λ h. picked second h c.args.look_a.1) is_b ∙ ap (λ h. picked second (head bytes_b) h) is_a)) in
+    sym (c.is_open-other_open.ensures ∙ ap is_sound (c.pick-other_head.ensures ∙ ap (λ h. picked second h c.args.look_a.1) is_b ∙ ap (λ h. picked second (head bytes_b) h) is_a)) in
     let rest = opened-at-rest second new_a new_b bytes_a bytes_b generation n c.in-Ok.found.snapshot c.in-Ok.found.records c.in-Ok.found.end
-          still_a still_b sound lower listed read.1 in
-    (settled-again _ _ _ (record { generation = generation; snapshot = c.in-Ok.found.snapshot; records = c.in-Ok.found.records })
-       (subst (λ f. AtRest second new_a new_b (record { generation = generation; snapshot = c.in-Ok.found.snapshot; records = c.in-Ok.found.records }) c.in-Ok.found.end f) flag rest)
-       refl refl c.len.ensures,
-     meaning-chosen second bytes_a bytes_b generation n sound lower
-       ∙ ap (λ r. state_of (area_number second) generation (take n (drop 18 (picked second bytes_a bytes_b))) r) listed
-       ∙ ap (λ xs. Ok (record { generation = generation; snapshot = xs; records = c.in-Ok.found.records })) (sym read.1),
-     c.number_of.ensures)
+    still_a still_b sound lower listed read.1 in (
+      settled-again _ _ _ (record { generation = generation; snapshot = c.in-Ok.found.snapshot; records = c.in-Ok.found.records })
+          (subst (λ f. AtRest second new_a new_b (record { generation = generation; snapshot = c.in-Ok.found.snapshot; records = c.in-Ok.found.records }) c.in-Ok.found.end f) flag rest)
+          refl refl c.len.ensures,
+      meaning-chosen second bytes_a bytes_b generation n sound lower
+          ∙ ap (λ r. state_of (area_number second) generation (take n (drop 18 (picked second bytes_a bytes_b))) r) listed
+          ∙ ap (λ xs. Ok (record { generation = generation; snapshot = xs; records = c.in-Ok.found.records })) (sym read.1),
+      c.number_of.ensures,
+    )

@@ -19,9 +19,9 @@ returns-clause-opened g c = λ bytes_a bytes_b quiet_a quiet_b.
     let empty : IsSnapshotPiece piece [] = search rules in
     let generation : number8 piece 1 ≡ 1 = search rules in
     settled-again _ _ _ first_state
-      (at-rest false _ _ (refilled false piece (padded bytes_a)) (padded bytes_b) first_state 18 false
-        (from-ok c.make_first.result _ sound c.make_first.ensures.quiet_a bytes_a quiet_a)
-        (from-ok c.make_first.result _ sound c.make_first.ensures.quiet_b bytes_b quiet_b)
-        (refill-done false (padded bytes_a) piece [] 1 (padded-some bytes_a) empty generation (omega arith))
-        (lower-closed (padded bytes_b) 1 (padded-closed bytes_b closed_b)) (padded-some bytes_b) (sym (padded-closed bytes_b closed_b)))
-      refl refl refl
+    (at-rest false _ _ (refilled false piece (padded bytes_a)) (padded bytes_b) first_state 18 false
+    (from-ok c.make_first.result _ sound c.make_first.ensures.quiet_a bytes_a quiet_a)
+    (from-ok c.make_first.result _ sound c.make_first.ensures.quiet_b bytes_b quiet_b)
+    (refill-done false (padded bytes_a) piece [] 1 (padded-some bytes_a) empty generation (omega arith))
+    (lower-closed (padded bytes_b) 1 (padded-closed bytes_b closed_b)) (padded-some bytes_b) (sym (padded-closed bytes_b closed_b)))
+    refl refl refl

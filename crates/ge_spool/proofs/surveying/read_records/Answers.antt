@@ -38,12 +38,13 @@ loop-gate-preserved c =
     let pushed : c.push.new.self ≡ c.loop-gate.records ++ body ∷ [] = c.in_ok-push.ensures.ok ∙ ap (λ r. c.loop-gate.records ++ r ∷ []) c.in_ok-record.ensures in
     let sizes : length others + size + 4 ≡ length c.in-Some.after.now = omega (arith, c.split_at.ensures.back_len, c.split_at-in-Some.ensures.back_len) in
     let more = records-more fuel c.loop-gate.place c.in-Some.gate.now size c.in-Some.after.now body others c.loop-gate.records all enough c.if-gate-ne1.false
-          length_is.0 length_is.1
-          (c.split_at-in-Some.ensures.front ∙ ap (λ xs. take size xs) c.split_at.ensures.back)
-          (c.split_at-in-Some.ensures.back ∙ ap (λ xs. drop size xs) c.split_at.ensures.back) sizes so_far in
-    ((more.0, more.1, rw pushed more.2),
-     omega (arith, c.loop-gate.invariant.1, parts.1, sizes),
-     omega (arith, ap length pushed, length-append c.loop-gate.records (body ∷ []), c.loop-gate.invariant.2))
+    length_is.0 length_is.1
+    (c.split_at-in-Some.ensures.front ∙ ap (λ xs. take size xs) c.split_at.ensures.back)
+    (c.split_at-in-Some.ensures.back ∙ ap (λ xs. drop size xs) c.split_at.ensures.back) sizes so_far in (
+      (more.0, more.1, rw pushed more.2),
+      omega (arith, c.loop-gate.invariant.1, parts.1, sizes),
+      omega (arith, ap length pushed, length-append c.loop-gate.records (body ∷ []), c.loop-gate.invariant.2),
+    )
 
 pub returns-clause-read : goal.returns-clause-read
 returns-clause-read c =

@@ -6,7 +6,7 @@ use Rattle.ge_spool.proofs.surveying.read_records.Given as goal
 abbrev pub invariant-loop-gate : goal.invariant-loop-gate
 invariant-loop-gate l =
     ((fuel : ℕ) × (length l.rest ≤ fuel)
-      × (and_records l.records (records_from fuel l.place l.rest) ≡ records_from (length l.fn.bytes) l.fn.start l.fn.bytes))
+    × (and_records l.records (records_from fuel l.place l.rest) ≡ records_from (length l.fn.bytes) l.fn.start l.fn.bytes))
     × (l.place + length l.rest ≡ l.fn.start + length l.fn.bytes)
     × (l.fn.start + length l.records ≤ l.place)
 

@@ -21,10 +21,10 @@ returns-then-is_err-clause-any_moment g c = λ state settled image_a image_b of_
     let a = g.D.Disk.told c.args.a.now in
     let b = g.D.Disk.told c.args.b.now in
     append-moments s.second a (g.D.Disk.told c.write_chosen.new.a) b (g.D.Disk.told c.write_chosen.new.b) (read_bytes a) (read_bytes b) state s.end
-      c.piece-piece.result.now (record_body c.args.record_bytes.now) settled.quiet_a settled.quiet_b
-      (settled-area s a b state settled) (settled-lower s a b state settled) c.piece-piece.ensures.is_piece
-      (c.write_chosen.ensures.since (picked s.second (read_bytes a) (read_bytes b)) (quiet-picked s.second a b (read_bytes a) (read_bytes b) settled.quiet_a settled.quiet_b))
-      c.write_chosen.ensures.other image_a image_b of_a of_b
+    c.piece-piece.result.now (record_body c.args.record_bytes.now) settled.quiet_a settled.quiet_b
+    (settled-area s a b state settled) (settled-lower s a b state settled) c.piece-piece.ensures.is_piece
+    (c.write_chosen.ensures.since (picked s.second (read_bytes a) (read_bytes b)) (quiet-picked s.second a b (read_bytes a) (read_bytes b) settled.quiet_a settled.quiet_b))
+    c.write_chosen.ensures.other image_a image_b of_a of_b
 
 pub returns-clause-any_moment : goal.returns-clause-any_moment
 returns-clause-any_moment g c = λ state settled image_a image_b of_a of_b.
@@ -32,10 +32,10 @@ returns-clause-any_moment g c = λ state settled image_a image_b of_a of_b.
     let a = g.D.Disk.told c.args.a.now in
     let b = g.D.Disk.told c.args.b.now in
     append-moments s.second a (g.D.Disk.told c.write_chosen.new.a) b (g.D.Disk.told c.write_chosen.new.b) (read_bytes a) (read_bytes b) state s.end
-      c.piece-piece.result.now (record_body c.args.record_bytes.now) settled.quiet_a settled.quiet_b
-      (settled-area s a b state settled) (settled-lower s a b state settled) c.piece-piece.ensures.is_piece
-      (c.write_chosen.ensures.since (picked s.second (read_bytes a) (read_bytes b)) (quiet-picked s.second a b (read_bytes a) (read_bytes b) settled.quiet_a settled.quiet_b))
-      c.write_chosen.ensures.other image_a image_b of_a of_b
+    c.piece-piece.result.now (record_body c.args.record_bytes.now) settled.quiet_a settled.quiet_b
+    (settled-area s a b state settled) (settled-lower s a b state settled) c.piece-piece.ensures.is_piece
+    (c.write_chosen.ensures.since (picked s.second (read_bytes a) (read_bytes b)) (quiet-picked s.second a b (read_bytes a) (read_bytes b) settled.quiet_a settled.quiet_b))
+    c.write_chosen.ensures.other image_a image_b of_a of_b
 
 pub returns-clause-done : goal.returns-clause-done
 returns-clause-done g c = λ state settled.
@@ -48,12 +48,12 @@ returns-clause-done g c = λ state settled.
     let other = picked s.second (read_bytes b) (read_bytes a) in
     let sound : is_err c.write_chosen.result ≡ false = sym c.is_err.ensures.value ∙ c.if-is_err.false in
     let quiet = from-ok c.write_chosen.result _ sound c.write_chosen.ensures.quiet chosen
-          (quiet-picked s.second a b (read_bytes a) (read_bytes b) settled.quiet_a settled.quiet_b) in
+    (quiet-picked s.second a b (read_bytes a) (read_bytes b) settled.quiet_a settled.quiet_b) in
     let still = subst (λ told. IsQuiet told other) (sym c.write_chosen.ensures.other) (quiet-picked s.second b a (read_bytes b) (read_bytes a) settled.quiet_b settled.quiet_a) in
     let area = behind-done chosen state.generation state.snapshot state.records s.end piece body (settled-area s a b state settled) c.piece-piece.ensures.is_piece in
     let end : s.end + 5 + length body ≡ s.end + 1 + length piece - 1 = omega (arith, c.piece-piece.ensures.long) in
     settled-again _ _ _ (with_record state body)
-      (at-rest s.second _ _ (opened_behind s.end piece chosen) other (with_record state body) _ s.other_open quiet still
-        (subst (λ e. IsArea (opened_behind s.end piece chosen) state.generation state.snapshot (state.records ++ body ∷ []) e) end area)
-        (settled-lower s a b state settled) (some-picked s.second (read_bytes b) (read_bytes a) settled.some_b settled.some_a) settled.other_gate)
-      settled.alive settled.generation (omega (arith, settled.count, length-append state.records (body ∷ [])))
+    (at-rest s.second _ _ (opened_behind s.end piece chosen) other (with_record state body) _ s.other_open quiet still
+    (subst (λ e. IsArea (opened_behind s.end piece chosen) state.generation state.snapshot (state.records ++ body ∷ []) e) end area)
+    (settled-lower s a b state settled) (some-picked s.second (read_bytes b) (read_bytes a) settled.some_b settled.some_a) settled.other_gate)
+    settled.alive settled.generation (omega (arith, settled.count, length-append state.records (body ∷ [])))

@@ -28,12 +28,12 @@ returns-then-is_err-clause-any_moment g c = λ state settled image_a image_b of_
     let piece = c.piece-2.result.now in
     let is_piece = subst (λ xs. IsSnapshotPiece piece xs) c.set_generation.ensures.snapshot c.piece-2.ensures.is_piece in
     let field : number8 piece 1 ≡ state.generation + 1 =
-        ap (λ xs. number8 xs 1) c.piece-2.ensures.value ∙ c.set_generation.ensures.generation ∙ ap (λ k. k + 1) settled.generation in
+    ap (λ xs. number8 xs 1) c.piece-2.ensures.value ∙ c.set_generation.ensures.generation ∙ ap (λ k. k + 1) settled.generation in
     compact-moments s.second a (g.D.Disk.told c.refill_chosen.new.b) b (g.D.Disk.told c.refill_chosen.new.a) (read_bytes a) (read_bytes b) state s.end
-      s.other_open piece snapshot settled.quiet_a settled.quiet_b (settled-area s a b state settled) (settled-lower s a b state settled)
-      (some-picked s.second (read_bytes b) (read_bytes a) settled.some_b settled.some_a) settled.other_gate is_piece field
-      (c.refill_chosen.ensures.since (picked s.second (read_bytes b) (read_bytes a)) (quiet-picked s.second b a (read_bytes b) (read_bytes a) settled.quiet_b settled.quiet_a))
-      c.refill_chosen.ensures.other image_a image_b of_a of_b
+    s.other_open piece snapshot settled.quiet_a settled.quiet_b (settled-area s a b state settled) (settled-lower s a b state settled)
+    (some-picked s.second (read_bytes b) (read_bytes a) settled.some_b settled.some_a) settled.other_gate is_piece field
+    (c.refill_chosen.ensures.since (picked s.second (read_bytes b) (read_bytes a)) (quiet-picked s.second b a (read_bytes b) (read_bytes a) settled.quiet_b settled.quiet_a))
+    c.refill_chosen.ensures.other image_a image_b of_a of_b
 
 pub returns-clause-any_moment : goal.returns-clause-any_moment
 returns-clause-any_moment g c = λ state settled image_a image_b of_a of_b.
@@ -44,12 +44,12 @@ returns-clause-any_moment g c = λ state settled image_a image_b of_a of_b.
     let piece = c.piece-2.result.now in
     let is_piece = subst (λ xs. IsSnapshotPiece piece xs) c.set_generation.ensures.snapshot c.piece-2.ensures.is_piece in
     let field : number8 piece 1 ≡ state.generation + 1 =
-        ap (λ xs. number8 xs 1) c.piece-2.ensures.value ∙ c.set_generation.ensures.generation ∙ ap (λ k. k + 1) settled.generation in
+    ap (λ xs. number8 xs 1) c.piece-2.ensures.value ∙ c.set_generation.ensures.generation ∙ ap (λ k. k + 1) settled.generation in
     compact-moments s.second a (g.D.Disk.told c.refill_chosen.new.b) b (g.D.Disk.told c.refill_chosen.new.a) (read_bytes a) (read_bytes b) state s.end
-      s.other_open piece snapshot settled.quiet_a settled.quiet_b (settled-area s a b state settled) (settled-lower s a b state settled)
-      (some-picked s.second (read_bytes b) (read_bytes a) settled.some_b settled.some_a) settled.other_gate is_piece field
-      (c.refill_chosen.ensures.since (picked s.second (read_bytes b) (read_bytes a)) (quiet-picked s.second b a (read_bytes b) (read_bytes a) settled.quiet_b settled.quiet_a))
-      c.refill_chosen.ensures.other image_a image_b of_a of_b
+    s.other_open piece snapshot settled.quiet_a settled.quiet_b (settled-area s a b state settled) (settled-lower s a b state settled)
+    (some-picked s.second (read_bytes b) (read_bytes a) settled.some_b settled.some_a) settled.other_gate is_piece field
+    (c.refill_chosen.ensures.since (picked s.second (read_bytes b) (read_bytes a)) (quiet-picked s.second b a (read_bytes b) (read_bytes a) settled.quiet_b settled.quiet_a))
+    c.refill_chosen.ensures.other image_a image_b of_a of_b
 
 pub returns-clause-done : goal.returns-clause-done
 returns-clause-done g c = λ state settled.
@@ -60,7 +60,7 @@ returns-clause-done g c = λ state settled.
     let piece = c.piece-2.result.now in
     let is_piece = subst (λ xs. IsSnapshotPiece piece xs) c.set_generation.ensures.snapshot c.piece-2.ensures.is_piece in
     let field : number8 piece 1 ≡ state.generation + 1 =
-        ap (λ xs. number8 xs 1) c.piece-2.ensures.value ∙ c.set_generation.ensures.generation ∙ ap (λ k. k + 1) settled.generation in
+    ap (λ xs. number8 xs 1) c.piece-2.ensures.value ∙ c.set_generation.ensures.generation ∙ ap (λ k. k + 1) settled.generation in
     let new_a = g.D.Disk.told c.refill_chosen.new.b in
     let new_b = g.D.Disk.told c.refill_chosen.new.a in
     let chosen = picked s.second (read_bytes a) (read_bytes b) in
@@ -68,20 +68,20 @@ returns-clause-done g c = λ state settled.
     let some = some-picked s.second (read_bytes b) (read_bytes a) settled.some_b settled.some_a in
     let sound : is_err c.refill_chosen.result ≡ false = sym c.is_err.ensures.value ∙ c.if-is_err.false in
     let quiet = from-ok c.refill_chosen.result _ sound c.refill_chosen.ensures.quiet other
-          (quiet-picked s.second b a (read_bytes b) (read_bytes a) settled.quiet_b settled.quiet_a) in
+    (quiet-picked s.second b a (read_bytes b) (read_bytes a) settled.quiet_b settled.quiet_a) in
     let still = subst (λ told. IsQuiet told chosen) (sym c.refill_chosen.ensures.other)
-          (quiet-picked s.second a b (read_bytes a) (read_bytes b) settled.quiet_a settled.quiet_b) in
+    (quiet-picked s.second a b (read_bytes a) (read_bytes b) settled.quiet_a settled.quiet_b) in
     let old_area = settled-area s a b state settled in
     let area = refill-done s.other_open other piece snapshot (state.generation + 1) some is_piece field (omega arith) in
     let size : length piece ≡ 18 + length snapshot = c.piece-2.ensures.long ∙ ap (λ xs. 18 + length xs) c.set_generation.ensures.snapshot in
     let end : 18 + length snapshot ≡ length c.piece.result.now + 1 - 1 = omega (arith, c.piece.ensures.long) in
     let lower : IsLower (head chosen) (state.generation + 1) =
-        subst (λ h. IsLower h (state.generation + 1)) (sym (head-area chosen state.generation state.snapshot state.records s.end old_area)) (omega arith) in
+    subst (λ h. IsLower h (state.generation + 1)) (sym (head-area chosen state.generation state.snapshot state.records s.end old_area)) (omega arith) in
     settled-again _ _ _ (compacted state snapshot)
-      (at-rest (not s.second) new_a new_b (refilled s.other_open piece other) chosen (compacted state snapshot) _ true
-        (subst (λ told. IsQuiet told (refilled s.other_open piece other)) (sym (picked-not s.second new_a new_b)) quiet)
-        (subst (λ told. IsQuiet told chosen) (sym (picked-not s.second new_b new_a)) still)
-        (subst (λ e. IsArea (refilled s.other_open piece other) (state.generation + 1) snapshot [] e) end area)
-        lower (some-picked s.second (read_bytes a) (read_bytes b) settled.some_a settled.some_b)
-        (gate-area chosen state.generation state.snapshot state.records s.end old_area))
-      settled.alive (ap (λ k. k + 1) settled.generation) refl
+    (at-rest (not s.second) new_a new_b (refilled s.other_open piece other) chosen (compacted state snapshot) _ true
+    (subst (λ told. IsQuiet told (refilled s.other_open piece other)) (sym (picked-not s.second new_a new_b)) quiet)
+    (subst (λ told. IsQuiet told chosen) (sym (picked-not s.second new_b new_a)) still)
+    (subst (λ e. IsArea (refilled s.other_open piece other) (state.generation + 1) snapshot [] e) end area)
+    lower (some-picked s.second (read_bytes a) (read_bytes b) settled.some_a settled.some_b)
+    (gate-area chosen state.generation state.snapshot state.records s.end old_area))
+    settled.alive (ap (λ k. k + 1) settled.generation) refl
