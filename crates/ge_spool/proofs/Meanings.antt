@@ -8,14 +8,9 @@ use Rattle.ge_model_journal.specs.declared.Head.{Head}
 use Rattle.ge_model_journal.specs.declared.Head.TheVariants.{Closed, Faulty, Sound}
 use Rattle.ge_model_journal.specs.declared.Choice.{Choice}
 use Rattle.ge_model_journal.specs.declared.Choice.TheVariants.{Neither, Chosen, Wrong}
+pub use Rattle.ge_spool.specs.Heads.{IsLower}
 use Rattle.ge_spool.proofs.Parts.{IsArea}
 use Rattle.ge_spool.proofs.Reading.{head-area, snapshot-area, records_of-area}
-
--- the header of an area that doesn't count beside this generation
-abbrev pub IsLower : Head → ℕ → Type 0
-IsLower Closed generation = Unit {0}
-IsLower (Faulty place) generation = ⊥
-IsLower (Sound other size) generation = other < generation
 
 -- the one of greater generation counts
 pub choice-lower : (second : Bool) (a b : Head) (generation size : ℕ) → picked second a b ≡ Sound generation size → IsLower (picked second b a) generation
@@ -35,11 +30,17 @@ pub meaning-area : (second : Bool) (a b : List ℕ) (generation : ℕ) (snapshot
     → meaning a b ≡ Ok (record { generation = generation; snapshot = snapshot; records = records })
 unfolding meaning
 meaning-area false a b generation snapshot records end area lower =
-    rw (choice-lower false (head a) (head b) generation (length snapshot) (head-area a generation snapshot records end area) lower,
-      records_of-area a generation snapshot records end area, snapshot-area a generation snapshot records end area) refl
+    rw (
+      choice-lower false (head a) (head b) generation (length snapshot) (head-area a generation snapshot records end area) lower,
+      records_of-area a generation snapshot records end area,
+      snapshot-area a generation snapshot records end area,
+    ) refl
 meaning-area true a b generation snapshot records end area lower =
-    rw (choice-lower true (head a) (head b) generation (length snapshot) (head-area b generation snapshot records end area) lower,
-      records_of-area b generation snapshot records end area, snapshot-area b generation snapshot records end area) refl
+    rw (
+      choice-lower true (head a) (head b) generation (length snapshot) (head-area b generation snapshot records end area) lower,
+      records_of-area b generation snapshot records end area,
+      snapshot-area b generation snapshot records end area,
+    ) refl
 
 lower-of : {g h : ℕ} → (g ≡ h → ⊥) → g ≤ h → g < h
 lower-of {g} {h} apart le = ⊎_elim (λ less. less) (λ other. absurd (apart (omega (arith, le, other)))) (cases_lt g h)
@@ -65,10 +66,12 @@ choice-back (Sound g n) Closed false generation size e = (cc, tt)
 choice-back (Sound g n) (Faulty place) second generation size e = absurd (cc)
 choice-back (Sound g n) (Sound h m) true generation size e =
     ⊎_elim (λ first. let no : true ≡ false = first.1 in absurd (cc))
-      (λ last. (ap (λ k. Sound k m) last.3 ∙ ap (λ k. Sound generation k) last.4,
-        rw (← last.3) (lower-of (eqb-false g h last.0) (ltb-false h g last.1))))
-      (both-sound (g == h) (nat_lt h g) g n h m true generation size e)
+    (λ last. (
+      ap (λ k. Sound k m) last.3 ∙ ap (λ k. Sound generation k) last.4,
+      rw (← last.3) (lower-of (eqb-false g h last.0) (ltb-false h g last.1)),
+    ))
+    (both-sound (g == h) (nat_lt h g) g n h m true generation size e)
 choice-back (Sound g n) (Sound h m) false generation size e =
     ⊎_elim (λ first. (ap (λ k. Sound k n) first.2 ∙ ap (λ k. Sound generation k) first.3, rw (← first.2) (ltb-true h g first.0)))
-      (λ last. let no : false ≡ true = last.2 in absurd (cc))
-      (both-sound (g == h) (nat_lt h g) g n h m false generation size e)
+    (λ last. let no : false ≡ true = last.2 in absurd (cc))
+    (both-sound (g == h) (nat_lt h g) g n h m false generation size e)

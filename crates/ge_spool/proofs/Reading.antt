@@ -59,9 +59,9 @@ records_from-block fuel place field body after width number some =
     let behind : drop 4 (field ++ (body ++ after)) ≡ body ++ after = drop_at field (body ++ after) 4 width in
     let both : length (field ++ body) ≡ 4 + length body = omega (arith, length-append field body) in
     records_from-step fuel place (field ++ (body ++ after)) body after (length body)
-      (is_bad_length-sound (field ++ (body ++ after)) (length body) shown some (omega arith)) shown
-      (ap (λ xs. take (length body) xs) behind ∙ take_at body after (length body) refl)
-      (ap (λ xs. drop (4 + length body) xs) (sym (append_assoc field body after)) ∙ drop_at (field ++ body) after (4 + length body) both)
+    (is_bad_length-sound (field ++ (body ++ after)) (length body) shown some (omega arith)) shown
+    (ap (λ xs. take (length body) xs) behind ∙ take_at body after (length body) refl)
+    (ap (λ xs. drop (4 + length body) xs) (sym (append_assoc field body after)) ∙ drop_at (field ++ body) after (4 + length body) both)
 
 -- the gate that ends the list
 pub records_from-gate : (fuel place gate : ℕ) (rest : List ℕ) → (gate == 1) ≡ false → records_from (suc fuel) place (gate ∷ rest) ≡ Ok ([], place)
@@ -78,10 +78,10 @@ records_from-blocks [] front gate rest (suc fuel) place is_front closed enough =
 records_from-blocks (body ∷ records) front gate rest (suc fuel) place is_front closed enough =
     let block = is_front.1 in
     let long : length front ≡ 5 + (length body + length is_front.0) =
-        omega (arith, ap length block.whole, length-append block.field (body ++ is_front.0), length-append body is_front.0, block.width) in
+    omega (arith, ap length block.whole, length-append block.field (body ++ is_front.0), length-append body is_front.0, block.width) in
     let arranged : front ++ (gate ∷ rest) ≡ 1 ∷ (block.field ++ (body ++ (is_front.0 ++ (gate ∷ rest)))) =
-        ap (λ xs. xs ++ (gate ∷ rest)) block.whole
-        ∙ ap (λ xs. 1 ∷ xs) (append_assoc block.field (body ++ is_front.0) (gate ∷ rest) ∙ ap (λ xs. block.field ++ xs) (append_assoc body is_front.0 (gate ∷ rest))) in
+    ap (λ xs. xs ++ (gate ∷ rest)) block.whole
+    ∙ ap (λ xs. 1 ∷ xs) (append_assoc block.field (body ++ is_front.0) (gate ∷ rest) ∙ ap (λ xs. block.field ++ xs) (append_assoc body is_front.0 (gate ∷ rest))) in
     let others = records_from-blocks records is_front.0 gate rest fuel (place + 5 + length body) is_front.2 closed (omega arith) in
     ap (λ xs. records_from (suc fuel) place xs) arranged
     ∙ records_from-block fuel place block.field body (is_front.0 ++ (gate ∷ rest)) block.width block.number block.some
@@ -96,16 +96,16 @@ head-area bytes generation snapshot records end area =
     let after : List ℕ = area.front ++ (area.gate ∷ area.rest) in
     let t = area.is_top in
     let long : length bytes ≡ length area.top + (length area.front + suc (length area.rest)) =
-        omega (arith, ap length area.whole, length-append area.top (area.front ++ (area.gate ∷ area.rest)), length-append area.front (area.gate ∷ area.rest)) in
+    omega (arith, ap length area.whole, length-append area.top (area.front ++ (area.gate ∷ area.rest)), length-append area.front (area.gate ∷ area.rest)) in
     let at0 : slice_index (area.top ++ (area.front ++ (area.gate ∷ area.rest))) 0 ≡ slice_index area.top 0 =
-        get_or_append_left area.top (area.front ++ (area.gate ∷ area.rest)) 0 0 (omega (arith, t.size)) in
+    get_or_append_left area.top (area.front ++ (area.gate ∷ area.rest)) 0 0 (omega (arith, t.size)) in
     let at1 : slice_index (area.top ++ (area.front ++ (area.gate ∷ area.rest))) 1 ≡ slice_index area.top 1 =
-        get_or_append_left area.top (area.front ++ (area.gate ∷ area.rest)) 0 1 (omega (arith, t.size)) in
+    get_or_append_left area.top (area.front ++ (area.gate ∷ area.rest)) 0 1 (omega (arith, t.size)) in
     head_of-sound (length bytes) bytes generation (length snapshot) (omega (arith, t.size))
-      (ap (λ xs. slice_index xs 0) area.whole ∙ at0 ∙ t.gate) (ap (λ xs. slice_index xs 1) area.whole ∙ at1 ∙ t.format)
-      (ap (λ xs. number8 xs 2) area.whole ∙ number8-append area.top (area.front ++ (area.gate ∷ area.rest)) 2 (omega (arith, t.size)) ∙ t.generation_field) t.above
-      (ap (λ xs. number8 xs 10) area.whole ∙ number8-append area.top (area.front ++ (area.gate ∷ area.rest)) 10 (omega (arith, t.size)) ∙ t.size_field)
-      (omega (arith, t.size))
+    (ap (λ xs. slice_index xs 0) area.whole ∙ at0 ∙ t.gate) (ap (λ xs. slice_index xs 1) area.whole ∙ at1 ∙ t.format)
+    (ap (λ xs. number8 xs 2) area.whole ∙ number8-append area.top (area.front ++ (area.gate ∷ area.rest)) 2 (omega (arith, t.size)) ∙ t.generation_field) t.above
+    (ap (λ xs. number8 xs 10) area.whole ∙ number8-append area.top (area.front ++ (area.gate ∷ area.rest)) 10 (omega (arith, t.size)) ∙ t.size_field)
+    (omega (arith, t.size))
 
 -- its snapshot
 pub snapshot-area : (bytes : List ℕ) (generation : ℕ) (snapshot : List ℕ) (records : List (List ℕ)) (end : ℕ) → IsArea bytes generation snapshot records end
@@ -113,7 +113,7 @@ pub snapshot-area : (bytes : List ℕ) (generation : ℕ) (snapshot : List ℕ) 
 snapshot-area bytes generation snapshot records end area =
     ap (λ xs. take (length snapshot) (drop 18 xs)) area.whole
     ∙ ap (λ xs. take (length snapshot) xs) (drop-append-le 18 area.top (area.front ++ (area.gate ∷ area.rest)) (omega (arith, area.is_top.size))
-        ∙ ap (λ xs. xs ++ (area.front ++ (area.gate ∷ area.rest))) area.is_top.kept)
+    ∙ ap (λ xs. xs ++ (area.front ++ (area.gate ∷ area.rest))) area.is_top.kept)
     ∙ take_at snapshot (area.front ++ (area.gate ∷ area.rest)) (length snapshot) refl
 
 -- and its records
@@ -121,11 +121,11 @@ pub records_of-area : (bytes : List ℕ) (generation : ℕ) (snapshot : List ℕ
     → records_of (length snapshot) bytes ≡ Ok (records, end)
 records_of-area bytes generation snapshot records end area =
     let behind : drop (18 + length snapshot) bytes ≡ area.front ++ (area.gate ∷ area.rest) =
-        ap (λ xs. drop (18 + length snapshot) xs) area.whole ∙ drop_at area.top (area.front ++ (area.gate ∷ area.rest)) (18 + length snapshot) area.is_top.size in
+    ap (λ xs. drop (18 + length snapshot) xs) area.whole ∙ drop_at area.top (area.front ++ (area.gate ∷ area.rest)) (18 + length snapshot) area.is_top.size in
     let long : length (area.front ++ (area.gate ∷ area.rest)) ≡ length area.front + suc (length area.rest) = length-append area.front (area.gate ∷ area.rest) in
     ap (λ xs. records_from (length xs) (18 + length snapshot) xs) behind
     ∙ records_from-blocks records area.front area.gate area.rest (length (area.front ++ (area.gate ∷ area.rest))) (18 + length snapshot)
-        area.is_front area.closed (omega (arith, long))
+    area.is_front area.closed (omega (arith, long))
     ∙ ap (λ k. Ok (records, k)) (omega (arith, area.place, area.is_top.size))
 
 -- a test is one or the other
@@ -168,7 +168,7 @@ not-false false e = sym e
 pub header-sound : (size : ℕ) (bytes : List ℕ) (generation n : ℕ) → head_of size bytes ≡ Sound generation n → IsHeader size bytes generation n
 header-sound size bytes generation n sound =
     let tests = tests-sound (nat_lt size 19 || not (slice_index bytes 0 == 1)) (slice_index bytes 1 == 1) (number8 bytes 2 == 0) (nat_lt (size - 18) (number8 bytes 10))
-        (number8 bytes 2) (number8 bytes 10) generation n sound in
+    (number8 bytes 2) (number8 bytes 10) generation n sound in
     let open_tests = or-false-both (nat_lt size 19) (not (slice_index bytes 0 == 1)) tests.0 in
     let positive : number8 bytes 2 ≡ 0 → ⊥ = eqb-false (number8 bytes 2) 0 tests.2 in
     record {
@@ -178,7 +178,8 @@ header-sound size bytes generation n sound =
       generation_field = tests.4;
       above = rw (← tests.4) (positive-from (number8 bytes 2) positive);
       size_field = tests.5;
-      fits = rw (← tests.5) (ltb-false (size - 18) (number8 bytes 10) tests.3) }
+      fits = rw (← tests.5) (ltb-false (size - 18) (number8 bytes 10) tests.3);
+    }
 
 -- a list of records that was read, in its parts
 pub record Tail (bytes : List ℕ) (records : List (List ℕ)) (place end : ℕ) : Type 0 where
@@ -221,28 +222,36 @@ tail-more gate place end bytes others records opened good tail these =
     let width : length (take 4 bytes) ≡ 4 = omega (arith, length-take 4 bytes, sound.0) in
     let size : length (take (number4 bytes 0) (drop 4 bytes)) ≡ number4 bytes 0 = omega (arith, length-take (number4 bytes 0) (drop 4 bytes), length-drop 4 bytes, sound.2) in
     let number : number4 (take 4 bytes) 0 ≡ number4 bytes 0 =
-        sym (number4-append (take 4 bytes) (drop 4 bytes) width) ∙ ap (λ xs. number4 xs 0) (take-append-drop 4 bytes) in
+    sym (number4-append (take 4 bytes) (drop 4 bytes) width) ∙ ap (λ xs. number4 xs 0) (take-append-drop 4 bytes) in
     let behind : drop (number4 bytes 0) (drop 4 bytes) ≡ tail.front ++ (tail.gate ∷ tail.rest) = drop-drop (number4 bytes 0) 4 bytes ∙ tail.whole in
     let after : drop 4 bytes ≡ take (number4 bytes 0) (drop 4 bytes) ++ (tail.front ++ (tail.gate ∷ tail.rest)) =
-        sym (take-append-drop (number4 bytes 0) (drop 4 bytes)) ∙ ap (λ xs. take (number4 bytes 0) (drop 4 bytes) ++ xs) behind in
+    sym (take-append-drop (number4 bytes 0) (drop 4 bytes)) ∙ ap (λ xs. take (number4 bytes 0) (drop 4 bytes) ++ xs) behind in
     let arranged : bytes ≡ take 4 bytes ++ (take (number4 bytes 0) (drop 4 bytes) ++ (tail.front ++ (tail.gate ∷ tail.rest))) =
-        sym (take-append-drop 4 bytes) ∙ ap (λ xs. take 4 bytes ++ xs) after in
+    sym (take-append-drop 4 bytes) ∙ ap (λ xs. take 4 bytes ++ xs) after in
     let grouped : take 4 bytes ++ (take (number4 bytes 0) (drop 4 bytes) ++ (tail.front ++ (tail.gate ∷ tail.rest)))
-          ≡ (take 4 bytes ++ (take (number4 bytes 0) (drop 4 bytes) ++ tail.front)) ++ (tail.gate ∷ tail.rest) =
-        ap (λ xs. take 4 bytes ++ xs) (sym (append_assoc (take (number4 bytes 0) (drop 4 bytes)) tail.front (tail.gate ∷ tail.rest)))
-        ∙ sym (append_assoc (take 4 bytes) (take (number4 bytes 0) (drop 4 bytes) ++ tail.front) (tail.gate ∷ tail.rest)) in
+    ≡ (take 4 bytes ++ (take (number4 bytes 0) (drop 4 bytes) ++ tail.front)) ++ (tail.gate ∷ tail.rest) =
+    ap (λ xs. take 4 bytes ++ xs) (sym (append_assoc (take (number4 bytes 0) (drop 4 bytes)) tail.front (tail.gate ∷ tail.rest)))
+    ∙ sym (append_assoc (take 4 bytes) (take (number4 bytes 0) (drop 4 bytes) ++ tail.front) (tail.gate ∷ tail.rest)) in
     record {
       front = 1 ∷ (take 4 bytes ++ (take (number4 bytes 0) (drop 4 bytes) ++ tail.front));
       gate = tail.gate;
       rest = tail.rest;
       whole = ap (λ k. k ∷ bytes) (eqb-true gate 1 opened) ∙ ap (λ xs. 1 ∷ xs) (arranged ∙ grouped);
-      is_front = subst (λ rs. IsBlocks (1 ∷ (take 4 bytes ++ (take (number4 bytes 0) (drop 4 bytes) ++ tail.front))) rs) (sym these)
-        (tail.front,
-         record { field = take 4 bytes; whole = refl; width = width; number = number ∙ sym size; some = omega (arith, size, sound.1) },
-         tail.is_front);
+      is_front = subst (λ rs. IsBlocks (1 ∷ (take 4 bytes ++ (take (number4 bytes 0) (drop 4 bytes) ++ tail.front))) rs) (sym these) (
+        tail.front,
+        record { field = take 4 bytes; whole = refl; width = width; number = number ∙ sym size; some = omega (arith, size, sound.1) },
+        tail.is_front,
+      );
       closed = tail.closed;
-      reached = omega (arith, tail.reached, length-append (take 4 bytes) (take (number4 bytes 0) (drop 4 bytes) ++ tail.front),
-        length-append (take (number4 bytes 0) (drop 4 bytes)) tail.front, width, size) }
+      reached = omega (
+        arith,
+        tail.reached,
+        length-append (take 4 bytes) (take (number4 bytes 0) (drop 4 bytes) ++ tail.front),
+        length-append (take (number4 bytes 0) (drop 4 bytes)) tail.front,
+        width,
+        size,
+      );
+    }
 
 pub tail-back : (fuel place : ℕ) (bytes : List ℕ) (records : List (List ℕ)) (end : ℕ) → records_from fuel place bytes ≡ Ok (records, end) → Tail bytes records place end
 unfolding records_from
@@ -250,25 +259,26 @@ tail-back fuel place [] records end e = absurd (cc)
 tail-back zero place (gate ∷ bytes) records end e = absurd (cc)
 tail-back (suc fuel) place (gate ∷ bytes) records end e =
     ⊎_elim
-      (λ (opened : (gate == 1) ≡ true). ⊎_elim
-        (λ (bad : is_bad_length bytes ≡ true). let wrong : ◌≡◌ {A = Result (List (List ℕ) × ℕ) ℕ} (Err (place + 1)) (Ok (records, end)) = rw (opened, bad) at e in absurd (cc))
-        (λ (good : is_bad_length bytes ≡ false).
-          let more : and_found (take (number4 bytes 0) (drop 4 bytes)) (records_from fuel (place + 5 + number4 bytes 0) (drop (4 + number4 bytes 0) bytes)) ≡ Ok (records, end) = rw (opened, good) at e in
-          let back = and_found-back _ _ records end more in
-          tail-more gate place end bytes back.0 records opened good (tail-back fuel (place + 5 + number4 bytes 0) (drop (4 + number4 bytes 0) bytes) back.0 end back.1) back.2)
-        (either (is_bad_length bytes)))
-      (λ (closed : (gate == 1) ≡ false).
-        let done : ◌≡◌ {A = Result (List (List ℕ) × ℕ) ℕ} (Ok ([], place)) (Ok (records, end)) = rw closed at e in
-        let same = same-found [] records place end done in
-        record {
-          front = [];
-          gate = gate;
-          rest = bytes;
-          whole = refl;
-          is_front = subst (λ rs. IsBlocks [] rs) same.0 refl;
-          closed = closed;
-          reached = omega (arith, same.1) })
-      (either (gate == 1))
+    (λ (opened : (gate == 1) ≡ true). ⊎_elim
+    (λ (bad : is_bad_length bytes ≡ true). let wrong : ◌≡◌ {A = Result (List (List ℕ) × ℕ) ℕ} (Err (place + 1)) (Ok (records, end)) = rw (opened, bad) at e in absurd (cc))
+    (λ (good : is_bad_length bytes ≡ false).
+    let more : and_found (take (number4 bytes 0) (drop 4 bytes)) (records_from fuel (place + 5 + number4 bytes 0) (drop (4 + number4 bytes 0) bytes)) ≡ Ok (records, end) = rw (opened, good) at e in
+    let back = and_found-back _ _ records end more in
+    tail-more gate place end bytes back.0 records opened good (tail-back fuel (place + 5 + number4 bytes 0) (drop (4 + number4 bytes 0) bytes) back.0 end back.1) back.2)
+    (either (is_bad_length bytes)))
+    (λ (closed : (gate == 1) ≡ false).
+    let done : ◌≡◌ {A = Result (List (List ℕ) × ℕ) ℕ} (Ok ([], place)) (Ok (records, end)) = rw closed at e in
+    let same = same-found [] records place end done in
+    record {
+      front = [];
+      gate = gate;
+      rest = bytes;
+      whole = refl;
+      is_front = subst (λ rs. IsBlocks [] rs) same.0 refl;
+      closed = closed;
+      reached = omega (arith, same.1);
+    })
+    (either (gate == 1))
 
 -- whatever is read as an open area has its parts
 pub area-back : (bytes : List ℕ) (generation n : ℕ) (records : List (List ℕ)) (end : ℕ) → head bytes ≡ Sound generation n → records_of n bytes ≡ Ok (records, end)
@@ -296,7 +306,9 @@ area-back bytes generation n records end sound read =
         generation_field = sym (number8-append (take (18 + n) bytes) (drop (18 + n) bytes) 2 (omega (arith, size))) ∙ ap (λ xs. number8 xs 2) back ∙ header.generation_field;
         above = header.above;
         size_field = sym (number8-append (take (18 + n) bytes) (drop (18 + n) bytes) 10 (omega (arith, size))) ∙ ap (λ xs. number8 xs 10) back ∙ header.size_field ∙ sym snapshot_size;
-        kept = drop-take 18 n bytes };
+        kept = drop-take 18 n bytes;
+      };
       is_front = tail.is_front;
       closed = tail.closed;
-      place = omega (arith, tail.reached, size) }
+      place = omega (arith, tail.reached, size);
+    }

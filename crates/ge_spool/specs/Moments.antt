@@ -48,12 +48,13 @@ torn_image bytes at piece image within left = record {
   no_shorter = left.no_shorter;
   no_longer = left.no_longer;
   front = same_number_lists (take at image) (take at bytes) (omega (arith, length-take at image, length-take at bytes, left.no_shorter))
-    (λ k h. let before : k < at = omega (arith, length-take at image) in
+      (λ k h. let before : k < at = omega (arith, length-take at image) in
       get_or-take at image k 0 before ∙ left.kept k (omega arith) (inl before, tt) ∙ sym (get_or-take at bytes k 0 before));
   back = same_number_lists (drop (at + length piece) image) (drop (at + length piece) bytes)
-    (omega (arith, length-drop (at + length piece) image, length-drop (at + length piece) bytes, left.no_shorter, left.no_longer))
-    (λ k h. let there : at + length piece + k < length bytes = omega (arith, length-drop (at + length piece) image, left.no_longer) in
-      get_or-drop (at + length piece) image k 0 ∙ left.kept (at + length piece + k) there (inr (omega arith), tt) ∙ sym (get_or-drop (at + length piece) bytes k 0)) }
+      (omega (arith, length-drop (at + length piece) image, length-drop (at + length piece) bytes, left.no_shorter, left.no_longer))
+      (λ k h. let there : at + length piece + k < length bytes = omega (arith, length-drop (at + length piece) image, left.no_longer) in
+      get_or-drop (at + length piece) image k 0 ∙ left.kept (at + length piece + k) there (inr (omega arith), tt) ∙ sym (get_or-drop (at + length piece) bytes k 0));
+}
 
 -- a whole write is such a one
 pub torn_whole : (bytes : List ℕ) (at : ℕ) (piece : List ℕ) → at ≤ length bytes → Torn at (length piece) bytes (overwritten bytes at piece)
@@ -65,7 +66,8 @@ torn_whole bytes at piece within =
       no_longer = length-overwritten-le bytes at piece;
       front = take_at (take at bytes) (piece ++ drop (at + length piece) bytes) at front;
       back = rw (← append_assoc (take at bytes) piece (drop (at + length piece) bytes))
-        (drop_at (take at bytes ++ piece) (drop (at + length piece) bytes) (at + length piece) both) }
+          (drop_at (take at bytes ++ piece) (drop (at + length piece) bytes) (at + length piece) both);
+    }
 
 -- images among moments in front of others
 among-append : (more earlier : List Content) (image : List ℕ) → IsImageAmong (more ++ earlier) image → IsImageAmong more image ⊎ IsImageAmong earlier image
@@ -86,7 +88,8 @@ pub since_join : (old mid new : List Content) (Q : List ℕ → Type 0) → Sinc
 since_join old mid new Q first second = record {
   more = second.more ++ first.more;
   later = second.later ∙ ap (λ told. second.more ++ told) first.later ∙ sym (append_assoc second.more first.more old);
-  each = λ image left. ⊎_elim (second.each image) (first.each image) (among-append second.more first.more image left) }
+  each = λ image left. ⊎_elim (second.each image) (first.each image) (among-append second.more first.more image left);
+}
 
 -- what a write may have left, also where it failed
 pub since_written : (old new : List Content) (at : ℕ) (piece bytes : List ℕ) → IsWithin old at → IsQuiet old bytes
@@ -96,8 +99,9 @@ since_written (now ∷ earlier) new at piece bytes within quiet written = record
   more = content_written now at piece ∷ [];
   later = written;
   each = λ image left. ⊎_elim
-    (λ here. torn_image bytes at piece image (subst (λ c. at ≤ length c.bytes) quiet within) (subst (λ c. IsImage (content_written c at piece) image) quiet here))
-    (λ none. absurd none) left }
+      (λ here. torn_image bytes at piece image (subst (λ c. at ≤ length c.bytes) quiet within) (subst (λ c. IsImage (content_written c at piece) image) quiet here))
+      (λ none. absurd none) left;
+}
 
 pub since_failed : (old new : List Content) (at : ℕ) (piece bytes : List ℕ) → IsWithin old at → IsQuiet old bytes
     → (new ≡ old) ⊎ (new ≡ told_written old at piece) → Since old new (Torn at (length piece) bytes)
@@ -117,15 +121,16 @@ pub since_laid : (old mid new : List Content) (at : ℕ) (piece bytes : List ℕ
 since_laid [] mid new at piece bytes within quiet written synced = absurd quiet
 since_laid (now ∷ earlier) mid new at piece bytes within quiet written synced =
     since_join (now ∷ earlier) mid new (Torn at (length piece) bytes)
-      (since_written (now ∷ earlier) mid at piece bytes within quiet written)
-      (record {
-        more = settled_content (overwritten now.bytes at piece) ∷ [];
-        later = synced ∙ rw written refl;
-        each = λ image left. ⊎_elim
+    (since_written (now ∷ earlier) mid at piece bytes within quiet written)
+    (record {
+      more = settled_content (overwritten now.bytes at piece) ∷ [];
+      later = synced ∙ rw written refl;
+      each = λ image left. ⊎_elim
           (λ here. let whole : image ≡ overwritten bytes at piece =
-              quiet_image (settled_content (overwritten now.bytes at piece) ∷ []) (overwritten bytes at piece) image (rw quiet refl) here in
-            rw whole (torn_whole bytes at piece (subst (λ c. at ≤ length c.bytes) quiet within)))
-          (λ none. absurd none) left })
+          quiet_image (settled_content (overwritten now.bytes at piece) ∷ []) (overwritten bytes at piece) image (rw quiet refl) here in
+          rw whole (torn_whole bytes at piece (subst (λ c. at ≤ length c.bytes) quiet within)))
+          (λ none. absurd none) left;
+    })
 
 -- a moment that counts is one of those told
 since_start : (start : ℕ) (told : List Content) (image : List ℕ) → IsImageSince start told image → start ≤ length told
@@ -181,5 +186,5 @@ within_reached (now ∷ earlier) new at piece within written = rw written (reach
 pub since_both : (old mid new : List Content) (Q R : List ℕ → Type 0) → Since old mid Q → Since mid new R → Since old new (λ image. Q image ⊎ R image)
 since_both old mid new Q R first second =
     since_join old mid new (λ image. Q image ⊎ R image)
-      (since_weaker old mid Q (λ image. Q image ⊎ R image) first (λ image h. inl h))
-      (since_weaker mid new R (λ image. Q image ⊎ R image) second (λ image h. inr h))
+    (since_weaker old mid Q (λ image. Q image ⊎ R image) first (λ image h. inl h))
+    (since_weaker mid new R (λ image. Q image ⊎ R image) second (λ image h. inr h))

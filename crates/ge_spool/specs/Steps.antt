@@ -6,7 +6,7 @@ use Rattle.ge_spool.specs.Moments.{Torn}
 -- A piece is written behind a gate, and then the gate is opened.
 abbrev pub IsBehindImage : ℕ → List ℕ → List ℕ → List ℕ → Type 0
 IsBehindImage gate piece bytes image =
-  Torn (gate + 1) (length piece) bytes image ⊎ Torn gate 1 (overwritten bytes (gate + 1) piece) image
+    Torn (gate + 1) (length piece) bytes image ⊎ Torn gate 1 (overwritten bytes (gate + 1) piece) image
 
 -- and the bytes after it
 abbrev pub opened_behind : ℕ → List ℕ → List ℕ → List ℕ

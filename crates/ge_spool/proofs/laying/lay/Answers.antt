@@ -8,8 +8,8 @@ returns-in_err-write_at-clause-since g c = λ bytes quiet.
 pub returns-in_err-sync-clause-since : goal.returns-in_err-sync-clause-since
 returns-in_err-sync-clause-since g c = λ bytes quiet.
     since_same (g.D.Disk.told c.args.disk.now) _ _ _
-      (since_written (g.D.Disk.told c.args.disk.now) _ c.args.at c.args.piece.now bytes c.requires.within quiet c.in_ok-write_at.ensures.written)
-      c.in_err-sync.ensures.failed
+    (since_written (g.D.Disk.told c.args.disk.now) _ c.args.at c.args.piece.now bytes c.requires.within quiet c.in_ok-write_at.ensures.written)
+    c.in_err-sync.ensures.failed
 
 pub returns-clause-since : goal.returns-clause-since
 returns-clause-since g c = λ bytes quiet.

@@ -1,0 +1,105 @@
+-- Opening as a whole: what every pair of images stands for, and what is answered.
+use Rattle.std.specs.Prelude.{◌≡◌, ◌⊎◌, ℕ, ◌+◌, ◌<◌, ◌≤◌, Bool, true, false, ◌==◌, nat_lt, if◌then◌else◌, List, [], ◌∷◌, ◌++◌, length, Result, Ok, Err, IfOk, refl}
+use Rattle.std.proofs.Common.{arith, ◌∙◌, sym, ap, subst, inl, inr, ⊎_elim}
+use Rattle.ge_model_disk.specs.Disk.{Content, IsImage, IsImageSince, read_bytes, settled_content, told_synced}
+use Rattle.ge_model_journal.specs.Area.{head}
+use Rattle.ge_model_journal.specs.Journal.{State, meaning, meaning_by, choice, first_state, area_number}
+use Rattle.ge_model_journal.specs.declared.Head.{Head}
+use Rattle.ge_model_journal.specs.declared.Head.TheVariants.{Closed, Faulty, Sound}
+use Rattle.ge_model_journal.specs.declared.Choice.{Choice}
+use Rattle.ge_model_journal.specs.declared.Choice.TheVariants.{Neither, Chosen, Wrong}
+use Rattle.ge_spool.specs.Moments.{IsQuiet, Since, quiet_image, since_none, since_same, since_join, since_weaker, since_quiet}
+use Rattle.ge_spool.specs.Opening.{Tells, Opens, IsNoFrame, IsPadImage, IsFreshImage, raw_state}
+use Rattle.ge_spool.specs.Settled.{IsSettled, is_second}
+use Rattle.ge_spool.specs.declared.spool.Spool.{Spool}
+use Rattle.ge_spool.specs.declared.raw.Raw.{Raw}
+use Rattle.ge_spool.specs.declared.faults.OpenFault.{OpenFault}
+use Rattle.ge_spool.specs.declared.faults.OpenFault.TheVariants.{Disk, Frame, Bad, Memory}
+use Rattle.ge_spool.proofs.ShortAreas.{head-pad, meaning-pad, meaning-fresh}
+
+-- a sync leaves a quiet disk as it is
+pub quiet-synced : (old new : List Content) (bytes : List ℕ) → IsQuiet old bytes → new ≡ told_synced old → IsQuiet new bytes
+quiet-synced [] new bytes quiet synced = absurd quiet
+quiet-synced (now ∷ earlier) new bytes quiet synced = rw (synced, quiet) refl
+
+-- and any disk that tells quiet
+pub tells-quiet : (old new : List Content) → Tells old → new ≡ told_synced old → IsQuiet new (read_bytes old)
+tells-quiet [] new tells synced = absurd tells
+tells-quiet (now ∷ earlier) new tells synced = rw synced refl
+
+pub since-synced : (old new : List Content) (bytes : List ℕ) → IsQuiet old bytes → (new ≡ old) ⊎ (new ≡ told_synced old) → Since old new (λ image. image ≡ bytes)
+since-synced [] new bytes quiet synced = absurd quiet
+since-synced (now ∷ earlier) new bytes quiet (inl same) = since_same (now ∷ earlier) (now ∷ earlier) new _ (since_none (now ∷ earlier) (λ image. image ≡ bytes)) same
+since-synced (now ∷ earlier) new bytes quiet (inr synced) = record {
+  more = settled_content now.bytes ∷ [];
+  later = synced;
+  each = λ image left. ⊎_elim
+      (λ here. quiet_image (settled_content now.bytes ∷ []) bytes image (ap (λ c. settled_content c.bytes) quiet) here) (λ none. absurd none) left;
+}
+
+-- only syncs: every pair of images is what the areas read
+pub open-still : (a new_a b new_b : List Content) (A B : List ℕ) → IsQuiet a A → IsQuiet b B
+    → (new_a ≡ a) ⊎ (new_a ≡ told_synced a) → (new_b ≡ b) ⊎ (new_b ≡ told_synced b)
+    → (c d : List ℕ) → IsImageSince (length a) new_a c → IsImageSince (length b) new_b d → meaning c d ≡ meaning A B
+open-still a new_a b new_b A B quiet_a quiet_b synced_a synced_b c d of_c of_d =
+    let is_c : c ≡ A = since_quiet a new_a A (λ image. image ≡ A) quiet_a (since-synced a new_a A quiet_a synced_a) refl c of_c in
+    let is_d : d ≡ B = since_quiet b new_b B (λ image. image ≡ B) quiet_b (since-synced b new_b B quiet_b synced_b) refl d of_d in
+    rw (is_c, is_d) refl
+
+-- one disk: syncs, and then more
+synced-then : (old mid new : List Content) (bytes : List ℕ) (Q : List ℕ → Type 0) → IsQuiet old bytes → mid ≡ told_synced old → Since mid new Q → Q bytes
+    → (image : List ℕ) → IsImageSince (length old) new image → Q image
+synced-then old mid new bytes Q quiet synced since here image left =
+    since_quiet old new bytes Q quiet
+    (since_join old mid new Q
+    (since_weaker old mid (λ xs. xs ≡ bytes) Q (since-synced old mid bytes quiet (inr synced)) (λ xs same. subst Q (sym same) here)) since)
+    here image left
+
+pub open-chosen-moments : (a mid_a new_a b mid_b new_b : List Content) (A B : List ℕ) → IsQuiet a A → IsQuiet b B → mid_a ≡ told_synced a → mid_b ≡ told_synced b
+    → Since mid_a new_a (IsPadImage A) → Since mid_b new_b (IsPadImage B)
+    → (c d : List ℕ) → IsImageSince (length a) new_a c → IsImageSince (length b) new_b d → meaning c d ≡ meaning A B
+open-chosen-moments a mid_a new_a b mid_b new_b A B quiet_a quiet_b synced_a synced_b since_a since_b c d of_c of_d =
+    meaning-pad A B c d
+    (synced-then a mid_a new_a A (IsPadImage A) quiet_a synced_a since_a (inl refl) c of_c)
+    (synced-then b mid_b new_b B (IsPadImage B) quiet_b synced_b since_b (inl refl) d of_d)
+
+pub open-fresh-moments : (a mid_a new_a b mid_b new_b : List Content) (A B : List ℕ) → IsQuiet a A → IsQuiet b B → mid_a ≡ told_synced a → mid_b ≡ told_synced b
+    → head A ≡ Closed → head B ≡ Closed → Since mid_a new_a IsFreshImage → Since mid_b new_b (IsPadImage B)
+    → (c d : List ℕ) → IsImageSince (length a) new_a c → IsImageSince (length b) new_b d → meaning c d ≡ meaning A B
+open-fresh-moments a mid_a new_a b mid_b new_b A B quiet_a quiet_b synced_a synced_b closed_a closed_b since_a since_b c d of_c of_d =
+    meaning-fresh c d
+    (synced-then a mid_a new_a A IsFreshImage quiet_a synced_a since_a (inl closed_a) c of_c)
+    (head-pad B d (synced-then b mid_b new_b B (IsPadImage B) quiet_b synced_b since_b (inl refl) d of_d) ∙ closed_b)
+    ∙ sym (meaning-fresh A B (inl closed_a) closed_b)
+
+-- a wrong header
+pub meaning-wrong : (a b : List ℕ) (ha hb : Head) (area place : ℕ) → ha ≡ head a → hb ≡ head b → choice ha hb ≡ Wrong area place → meaning a b ≡ Err (area, place)
+unfolding meaning
+meaning-wrong a b ha hb area place is_a is_b wrong =
+    ap (λ ch. meaning_by ch a b) (ap (λ h. choice h (head b)) (sym is_a) ∙ ap (λ h. choice ha h) (sym is_b) ∙ wrong)
+
+both-tests : (same less : Bool) (g n h m : ℕ) → (if same then Wrong 1 2 else (if less then Chosen false g n else Chosen true h m)) ≡ Neither → ⊥
+both-tests true less g n h m e = cc
+both-tests false true g n h m e = cc
+both-tests false false g n h m e = cc
+
+-- where none of them counts both are closed
+pub choice-neither : (a b : Head) → choice a b ≡ Neither → (a ≡ Closed) × (b ≡ Closed)
+choice-neither Closed Closed e = (refl, refl)
+choice-neither Closed (Faulty place) e = absurd (cc)
+choice-neither Closed (Sound g n) e = absurd (cc)
+choice-neither (Faulty place) b e = absurd (cc)
+choice-neither (Sound g n) Closed e = absurd (cc)
+choice-neither (Sound g n) (Faulty place) e = absurd (cc)
+choice-neither (Sound g n) (Sound h m) e = absurd (both-tests (g == h) (nat_lt h g) g n h m e)
+
+-- the answer where a first area was made
+pub opens-fresh : (r : Result (Spool × Raw) OpenFault) (A B : List ℕ) (a b : List Content) → IfOk r (λ opened. IsSettled opened.0 a b first_state)
+    → IfOk r (λ opened. raw_state opened.1 ≡ first_state) → IfOk r (λ opened. opened.1.area ≡ area_number (is_second opened.0)) → IsNoFrame r
+    → meaning A B ≡ Ok first_state → Opens r A B a b
+opens-fresh (Ok opened) A B a b settled raw area no_frame stands =
+    (subst (λ s. IsSettled opened.0 a b s) (sym raw) settled, stands ∙ ap (λ s. Ok s) (sym raw), area)
+opens-fresh (Err Disk) A B a b settled raw area no_frame stands = tt
+opens-fresh (Err (Frame number place)) A B a b settled raw area no_frame stands = absurd no_frame
+opens-fresh (Err (Bad number place)) A B a b settled raw area no_frame stands = no_frame
+opens-fresh (Err Memory) A B a b settled raw area no_frame stands = tt

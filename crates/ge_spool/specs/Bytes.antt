@@ -1,0 +1,17 @@
+-- What is ready to be written.
+use Rattle.std.specs.Prelude.{ℕ, List}
+use Rattle.ge_spool.specs.Pieces.{body_in, snapshot_in}
+use Rattle.ge_spool.specs.declared.pieces.RecordBytes.{RecordBytes}
+use Rattle.ge_spool.specs.declared.pieces.SnapshotBytes.{SnapshotBytes}
+
+-- the body of a record
+abbrev pub record_body : RecordBytes → List ℕ
+record_body r = body_in r.piece.items
+
+-- the snapshot that is ready
+abbrev pub snapshot_of : SnapshotBytes → List ℕ
+snapshot_of s = snapshot_in s.piece.items
+
+-- the piece that is written of it
+abbrev pub snapshot_piece : SnapshotBytes → List ℕ
+snapshot_piece s = s.piece.items

@@ -1,0 +1,47 @@
+// The journal: records behind a snapshot, in one of two areas.
+ghost use Rattle.std.specs.Prelude.{◌^◌, ◌≤◌};
+
+/// A journal in two areas, `a` and `b`, which every call is lent. It keeps where its list ends, so that a
+/// record is written without reading or copying what stands before it.
+#[derive(Drop)]
+pub struct Spool {
+    // whether the second area counts
+    pub(crate) second: bool,
+    pub(crate) generation: u64,
+    // how many records count
+    pub(crate) records: u64,
+    // where the gate stands that ends the list
+    pub(crate) end: u64,
+    // whether the other area's gate is open
+    pub(crate) other_open: bool,
+    // whether a call met a failure of a disk
+    pub(crate) dead: bool,
+    ghost end_fits: { end ≤ 2 ^ 63 },
+    ghost records_fit: { records ≤ end },
+}
+
+impl Spool {
+    ghost use Rattle.std.specs.Prelude.{◌≡◌};
+    ghost use Rattle.ge_spool.specs.Settled.{record_count, generation_of, end_of};
+
+    /// How many records count.
+    pub fn records(&self) -> u64
+        ensures { result ≡ record_count self.now }
+    {
+        self.records
+    }
+
+    /// The generation of the area that counts.
+    pub fn generation(&self) -> u64
+        ensures { result ≡ generation_of self.now }
+    {
+        self.generation
+    }
+
+    /// Where the list of records ends.
+    pub fn end(&self) -> u64
+        ensures { result ≡ end_of self.now }
+    {
+        self.end
+    }
+}
