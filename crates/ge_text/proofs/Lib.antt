@@ -7,5 +7,6 @@ pub mod ReadLemmas
 pub mod ReadingLaws
 pub mod RunLemmas
 pub mod StandsLemmas
+pub mod TailLemmas
 pub mod WordsLemmas
 pub mod WorthLemmas

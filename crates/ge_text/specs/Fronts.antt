@@ -1,6 +1,6 @@
 -- How far the parts of a pattern before its next `*` reach in a name.
-use Rattle.std.specs.Prelude.{◌≡◌, ℕ, ◌<◌, ◌≤◌, ◌==◌, Bool, true, false, List, [], ◌∷◌, length}
-use Rattle.ge_model_text.specs.Pattern.{Piece, Many, pieces_of, takes}
+use Rattle.std.specs.Prelude.{◌≡◌, ℕ, ◌<◌, ◌≤◌, ◌==◌, Bool, true, false, List, [], ◌∷◌, length, drop, Option, Some, None}
+use Rattle.ge_model_text.specs.Pattern.{Piece, Many, pieces_of, takes, set_end}
 use Rattle.ge_text.specs.declared.patterns.Reached.{Reached}
 use Rattle.ge_text.specs.declared.patterns.Reached.TheVariants.{Whole, Star, Apart}
 
@@ -40,3 +40,23 @@ abbrev pub IsShorter : Reached → List ℕ → List ℕ → Type 0
 IsShorter Whole pattern name = Unit {0}
 IsShorter (Star parts rest) pattern name = (length parts.now < length pattern) × (length rest.now ≤ length name)
 IsShorter Apart pattern name = Unit {0}
+
+-- by the place where a set ends that begins before so many bytes: there is one exactly where they are more than
+-- stand behind the pattern's last `]`
+abbrev pub EndTold : ℕ → ℕ → Option ℕ → Type 0
+EndTold open_tail left None = left ≤ open_tail
+EndTold open_tail left (Some size) = open_tail < left
+
+-- how many these bytes are tells whether a set that begins before them ends
+pub record Tells (open_tail : ℕ) (rest : List ℕ) : Type 0 where
+  pub told : EndTold open_tail (length rest) (set_end rest)
+
+-- the same of each end of a pattern
+pub record KnowsTail (open_tail : ℕ) (pattern : List ℕ) : Type 0 where
+  pub tells : (k : ℕ) → Tells open_tail (drop k pattern)
+
+-- the same of what is left behind a `*`
+abbrev pub KnowsBehind : Reached → ℕ → Type 0
+KnowsBehind Whole open_tail = Unit {0}
+KnowsBehind (Star parts rest) open_tail = KnowsTail open_tail parts.now
+KnowsBehind Apart open_tail = Unit {0}

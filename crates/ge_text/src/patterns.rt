@@ -1,10 +1,11 @@
 //! Whether a pattern stands for a name. The pattern is read in place, part by part, and nothing is kept:
 //! where what stands behind a `*` doesn't fit, it is tried one byte further on, and only for the last
-//! `*` that was met, since an earlier one could only lead to a shorter rest of the name.
+//! `*` that was met, since an earlier one could only lead to a shorter rest of the name. No `]` is looked
+//! for where none is left: how many bytes stand behind the last one is counted once, and passed on.
 
 ghost use Rattle.std.specs.Prelude.{◌≡◌, ◌<◌, ◌≤◌, ◌==◌, ◌||◌, ◌↔◌, IsTrue, IfSome, length, drop};
 ghost use Rattle.ge_model_text.specs.Pattern.{in_set, set_end, piece_here, rest_of_piece, pieces_of, takes, covers, some_end, pattern_covers, StandsFor};
-ghost use Rattle.ge_text.specs.Fronts.{begins_range, IsFront, front_of, IsShorter};
+ghost use Rattle.ge_text.specs.Fronts.{begins_range, Tells, KnowsTail, KnowsBehind, IsFront, front_of, IsShorter};
 
 /// How far the parts of a pattern before its next `*` reach in a name.
 #[derive(Clone, Copy)]
@@ -61,30 +62,62 @@ fn set_has(set: &[u8], b: u8) -> bool
     false
 }
 
-/// Where the set that begins before these bytes ends.
-fn end_of_set(rest: &[u8]) -> Option<usize>
+/// The place of the first `]`.
+fn first_close(rest: &[u8]) -> Option<usize>
     ensures place { result ≡ set_end rest.now }
     ensures bound { IfSome result (λ size. size < length rest.now) }
 {
     rest.iter().position(|c| *c == b']')
 }
 
+/// How many bytes stand behind the last `]` of a pattern; all of them where there is none.
+#[tactic(auto, using(crate::proofs::TailLemmas::knows_tail))]
+fn open_tail_of(pattern: &[u8]) -> usize
+    ensures { KnowsTail result pattern.now }
+{
+    let mut open_tail = pattern.len();
+    let mut rest = pattern;
+    while let Some((first, others)) = rest.split_first() {
+        if *first == b']' {
+            open_tail = others.len();
+        }
+        rest = others;
+    }
+    open_tail
+}
+
+/// Where the set that begins before these bytes ends. They are looked through only where there is a `]`.
+#[tactic(auto, using(crate::proofs::TailLemmas::tells_none))]
+fn end_of_set(rest: &[u8], open_tail: usize) -> Option<usize>
+    requires { Tells open_tail rest.now }
+    ensures place { result ≡ set_end rest.now }
+    ensures bound { IfSome result (λ size. size < length rest.now) }
+{
+    if rest.len() > open_tail {
+        first_close(rest)
+    } else {
+        None
+    }
+}
+
 /// How many bytes behind its first belong to a part.
-fn rest_of_part(first: u8, rest: &[u8]) -> usize
+fn rest_of_part(first: u8, rest: &[u8], open_tail: usize) -> usize
+    requires { Tells open_tail rest.now }
     ensures size { result ≡ rest_of_piece first rest.now }
     ensures bound { result ≤ length rest.now }
 {
     if first != b'[' {
         return 0;
     }
-    match end_of_set(rest) {
+    match end_of_set(rest, open_tail) {
         Some(size) => size + 1,
         None => 0,
     }
 }
 
 /// Whether a part of a pattern other than `*` stands for a byte.
-fn part_takes(first: u8, rest: &[u8], b: u8) -> bool
+fn part_takes(first: u8, rest: &[u8], open_tail: usize, b: u8) -> bool
+    requires { Tells open_tail rest.now }
     ensures { result ≡ takes (piece_here first rest.now) b }
 {
     if first == b'*' {
@@ -96,7 +129,7 @@ fn part_takes(first: u8, rest: &[u8], b: u8) -> bool
     if first != b'[' {
         return b == first;
     }
-    match end_of_set(rest) {
+    match end_of_set(rest, open_tail) {
         Some(size) => {
             let (set, _) = rest.split_at(size);
             set_has(set, b)
@@ -106,10 +139,12 @@ fn part_takes(first: u8, rest: &[u8], b: u8) -> bool
 }
 
 /// How far the parts of a pattern before its next `*` reach in a name.
-#[tactic(auto, using(crate::proofs::PatternLemmas::reaches_on))]
-fn front<'a>(pattern: &'a [u8], name: &'a [u8]) -> Reached<'a>
+#[tactic(auto, using(crate::proofs::PatternLemmas::reaches_on, crate::proofs::TailLemmas::tail_tells, crate::proofs::TailLemmas::tail_behind, crate::proofs::TailLemmas::tail_later))]
+fn front<'a>(pattern: &'a [u8], open_tail: usize, name: &'a [u8]) -> Reached<'a>
+    requires { KnowsTail open_tail pattern.now }
     ensures front { IsFront result (front_of (pieces_of pattern.now) name.now) }
     ensures shorter { IsShorter result pattern.now name.now }
+    ensures tail { KnowsBehind result open_tail }
 {
     let mut parts = pattern;
     let mut behind = name;
@@ -120,10 +155,10 @@ fn front<'a>(pattern: &'a [u8], name: &'a [u8]) -> Reached<'a>
         let Some((b, others)) = behind.split_first() else {
             return Reached::Apart;
         };
-        if !part_takes(*first, rest, *b) {
+        if !part_takes(*first, rest, open_tail, *b) {
             return Reached::Apart;
         }
-        let (_, later) = rest.split_at(rest_of_part(*first, rest));
+        let (_, later) = rest.split_at(rest_of_part(*first, rest, open_tail));
         parts = later;
         behind = others;
     }
@@ -136,13 +171,14 @@ fn front<'a>(pattern: &'a [u8], name: &'a [u8]) -> Reached<'a>
 
 /// Whether a pattern stands for some end of a name.
 #[tactic(auto, using(crate::proofs::PatternLemmas::keeps_end, crate::proofs::PatternLemmas::whole_end, crate::proofs::PatternLemmas::none_end, crate::proofs::PatternLemmas::next_end))]
-fn matches_some_end(pattern: &[u8], name: &[u8]) -> bool
+fn matches_some_end(pattern: &[u8], open_tail: usize, name: &[u8]) -> bool
+    requires { KnowsTail open_tail pattern.now }
     ensures { result ≡ some_end (covers (pieces_of pattern.now)) name.now }
 {
     let mut parts = pattern;
     let mut rest = name;
     loop {
-        match front(parts, rest) {
+        match front(parts, open_tail, rest) {
             Reached::Whole => return true,
             Reached::Star(after, behind) => {
                 parts = after;
@@ -160,13 +196,14 @@ fn matches_some_end(pattern: &[u8], name: &[u8]) -> bool
 
 /// Whether the parts of a pattern stand for a name.
 #[tactic(auto, using(crate::proofs::PatternLemmas::covers_whole, crate::proofs::PatternLemmas::covers_nowhere, crate::proofs::PatternLemmas::covers_star))]
-fn parts_match(pattern: &[u8], name: &[u8]) -> bool
+fn parts_match(pattern: &[u8], open_tail: usize, name: &[u8]) -> bool
+    requires { KnowsTail open_tail pattern.now }
     ensures { result ≡ covers (pieces_of pattern.now) name.now }
 {
-    match front(pattern, name) {
+    match front(pattern, open_tail, name) {
         Reached::Whole => true,
         Reached::Apart => false,
-        Reached::Star(after, behind) => matches_some_end(after, behind),
+        Reached::Star(after, behind) => matches_some_end(after, open_tail, behind),
     }
 }
 
@@ -176,5 +213,5 @@ pub fn matches(pattern: &[u8], name: &[u8]) -> bool
     ensures covers { result ≡ pattern_covers pattern.now name.now }
     ensures stands { IsTrue result ↔ StandsFor (pieces_of pattern.now) name.now }
 {
-    parts_match(pattern, name)
+    parts_match(pattern, open_tail_of(pattern), name)
 }

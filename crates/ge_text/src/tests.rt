@@ -148,6 +148,17 @@ fn names_of_many_patterns(rt: HostRuntime) {
         ("*?", "x", true),
         ("a*[", "ax[", true),
         ("[", "[", true),
+        ("[]", "[]", false),
+        ("[a][", "a[", true),
+        ("[a][", "a", false),
+        ("[a]*[b", "ax[b", true),
+        ("[a]*[b", "axb", false),
+        ("[[a]*[b", "[[b", true),
+        ("[a*[b]", "*", true),
+        ("[a*[b]", "[a[b]", false),
+        ("*[[b]", "x[", true),
+        ("*[b][", "xb[", true),
+        ("]*[", "]x[", true),
     ];
     for (pattern, name, fits) in rows {
         assert_eq!(rt;
@@ -165,6 +176,23 @@ fn forty_stars_end(rt: HostRuntime) {
         b"*a*a*a*a*a*a*a*a*a*a*a*a*a*a*a*a*a*a*a*a*a*a*a*a*a*a*a*a*a*a*a*a*a*a*a*a*a*a*a*b";
     let name = [b'a'; 20000];
     assert!(rt; !matches(pattern, &name));
+}
+
+/// Each of 10,000 `[` is tried at 10,000 places: were what stands behind it looked through for a `]` each time,
+/// that would take longer than any test has.
+#[test]
+fn many_open_sets_end(rt: HostRuntime) {
+    let mut pattern = [b'['; 10002];
+    pattern[0] = b'*';
+    pattern[10001] = b'x';
+    let mut name = [b'['; 20001];
+    assert!(rt; !matches(&pattern, &name));
+    name[20000] = b'x';
+    assert!(rt; matches(&pattern, &name));
+    pattern[1] = b']';
+    assert!(rt; !matches(&pattern, &name));
+    name[10000] = b']';
+    assert!(rt; matches(&pattern, &name));
 }
 
 /// The places of a line's words, as a text.
