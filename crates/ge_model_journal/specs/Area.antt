@@ -1,5 +1,5 @@
 -- The bytes of one area: its header, and its list of records.
-use Rattle.std.specs.Prelude.{ℕ, zero, suc, ◌+◌, ◌-◌, Bool, true, false, not, ◌==◌, ◌||◌, nat_lt, if◌then◌else◌, List, [], ◌∷◌, length, take, drop, slice_index, Result, Ok, Err}
+use Rattle.std.specs.Prelude.{ℕ, zero, suc, ◌+◌, ◌-◌, Bool, not, ◌==◌, ◌||◌, nat_lt, if◌then◌else◌, List, [], ◌∷◌, length, take, drop, slice_index, Result, Ok, Err}
 use Rattle.std.specs.Int.{w32, w64, from_be_bytes}
 use Rattle.ge_model_journal.specs.declared.Head.{Head}
 use Rattle.ge_model_journal.specs.declared.Head.TheVariants.{Closed, Faulty, Sound}
@@ -11,18 +11,18 @@ number4 bytes at = from_be_bytes w32 (slice_index bytes at ∷ slice_index bytes
 -- the number in eight bytes from a place on, the highest first
 abbrev pub number8 : List ℕ → ℕ → ℕ
 number8 bytes at =
-  from_be_bytes w64 (slice_index bytes at ∷ slice_index bytes (at + 1) ∷ slice_index bytes (at + 2) ∷ slice_index bytes (at + 3)
+    from_be_bytes w64 (slice_index bytes at ∷ slice_index bytes (at + 1) ∷ slice_index bytes (at + 2) ∷ slice_index bytes (at + 3)
     ∷ slice_index bytes (at + 4) ∷ slice_index bytes (at + 5) ∷ slice_index bytes (at + 6) ∷ slice_index bytes (at + 7) ∷ [])
 
 -- What the first 18 bytes of an area of a length say: gate, format, generation, size of the snapshot. An area is open where it
 -- has at least 19 bytes and its gate is 1; then the first field that is wrong is told by its place.
 abbrev pub head_of : ℕ → List ℕ → Head
 head_of size header =
-  if nat_lt size 19 || not (slice_index header 0 == 1) then Closed
-  else (if not (slice_index header 1 == 1) then Faulty 1
-  else (if number8 header 2 == 0 then Faulty 2
-  else (if nat_lt (size - 18) (number8 header 10) then Faulty 10
-  else Sound (number8 header 2) (number8 header 10))))
+    if nat_lt size 19 || not (slice_index header 0 == 1) then Closed
+    else (if not (slice_index header 1 == 1) then Faulty 1
+    else (if number8 header 2 == 0 then Faulty 2
+    else (if nat_lt (size - 18) (number8 header 10) then Faulty 10
+    else Sound (number8 header 2) (number8 header 10))))
 
 -- what an area's header says
 unfoldable pub head : List ℕ → Head
@@ -43,9 +43,9 @@ unfoldable pub records_from : ℕ → ℕ → List ℕ → Result (List (List �
 records_from fuel place [] = Err place
 records_from zero place (gate ∷ bytes) = Err place
 records_from (suc fuel) place (gate ∷ bytes) =
-  if not (gate == 1) then Ok ([], place)
-  else (if is_bad_length bytes then Err (place + 1)
-  else and_found (take (number4 bytes 0) (drop 4 bytes)) (records_from fuel (place + 5 + number4 bytes 0) (drop (4 + number4 bytes 0) bytes)))
+    if not (gate == 1) then Ok ([], place)
+    else (if is_bad_length bytes then Err (place + 1)
+    else and_found (take (number4 bytes 0) (drop 4 bytes)) (records_from fuel (place + 5 + number4 bytes 0) (drop (4 + number4 bytes 0) bytes)))
 
 -- the records of an area with a snapshot of so many bytes
 abbrev pub records_of : ℕ → List ℕ → Result (List (List ℕ) × ℕ) ℕ

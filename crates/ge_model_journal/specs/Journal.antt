@@ -1,5 +1,5 @@
 -- What two areas stand for.
-use Rattle.std.specs.Prelude.{◌≡◌, ◌⊎◌, ℕ, ◌+◌, ◌<◌, Bool, true, false, not, ◌==◌, nat_lt, if◌then◌else◌, List, [], ◌∷◌, ◌++◌, length, take, drop, slice_index, Result, Ok, Err}
+use Rattle.std.specs.Prelude.{◌≡◌, ◌⊎◌, ℕ, ◌+◌, Bool, true, false, ◌==◌, nat_lt, if◌then◌else◌, List, [], ◌∷◌, ◌++◌, take, drop, Result, Ok, Err}
 use Rattle.ge_model_journal.specs.Area.{head, records_of}
 use Rattle.ge_model_journal.specs.declared.Head.{Head}
 use Rattle.ge_model_journal.specs.declared.Head.TheVariants.{Closed, Faulty, Sound}
@@ -45,7 +45,7 @@ abbrev pub meaning_by : Choice → List ℕ → List ℕ → Result State (ℕ �
 meaning_by Neither a b = Ok first_state
 meaning_by (Wrong area place) a b = Err (area, place)
 meaning_by (Chosen second generation size) a b =
-  state_of (area_number second) generation (take size (drop 18 (picked second a b))) (records_of size (picked second a b))
+    state_of (area_number second) generation (take size (drop 18 (picked second a b))) (records_of size (picked second a b))
 
 -- What two areas stand for, or else the area and the place of the first field that is wrong.
 unfoldable pub meaning : List ℕ → List ℕ → Result State (ℕ × ℕ)
