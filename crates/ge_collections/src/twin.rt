@@ -119,11 +119,7 @@ impl<K: Ord + Twin + Drop, V: Twin + Drop> Twin for Table<K, V> {
 }
 
 /// Equal copies of two values.
-pub fn twins2<A: Twin + Drop, B: Twin>(
-    alloc: Global,
-    a: &A,
-    b: &B,
-) -> Result<(A, B), AllocError>
+pub fn twins2<A: Twin + Drop, B: Twin>(alloc: Global, a: &A, b: &B) -> Result<(A, B), AllocError>
     ensures { IfOk result (λ copies. copies ≡ (a.now, b.now)) }
 {
     let a = a.twin(alloc)?;

@@ -1,0 +1,43 @@
+// Whether two limits are one.
+ghost use Rattle.std.specs.Prelude.{◌≡◌};
+ghost use Rattle.ge_model_run.specs.Bookings.{same_instance, same_filters, same_key, same_limit};
+
+use ge_rows::{InstanceId, LimitId, QuotaKey};
+
+fn is_same_instance(a: &InstanceId, b: &InstanceId) -> bool
+    ensures { result ≡ same_instance a.now b.now }
+{
+    a.queue == b.queue && a.host == b.host
+}
+
+fn has_same_filters(a: &QuotaKey, b: &QuotaKey) -> bool
+    ensures { result ≡ same_filters a.now b.now }
+{
+    a.user == b.user
+        && a.project == b.project
+        && a.pe == b.pe
+        && a.queue == b.queue
+        && a.host == b.host
+}
+
+fn is_same_key(a: &QuotaKey, b: &QuotaKey) -> bool
+    ensures { result ≡ same_key a.now b.now }
+{
+    a.set == b.set && a.rule == b.rule && has_same_filters(a, b) && a.resource == b.resource
+}
+
+/// Whether two limits are one: of the same kind, with the same names.
+pub fn is_same_limit(a: &LimitId, b: &LimitId) -> bool
+    ensures { result ≡ same_limit a.now b.now }
+{
+    match (a, b) {
+        (LimitId::Instance(a, name), LimitId::Instance(b, other)) => {
+            is_same_instance(a, b) && name == other
+        }
+        (LimitId::Host(a, name), LimitId::Host(b, other)) => a == b && name == other,
+        (LimitId::Global(name), LimitId::Global(other)) => name == other,
+        (LimitId::Pe(name), LimitId::Pe(other)) => name == other,
+        (LimitId::Quota(a), LimitId::Quota(b)) => is_same_key(a, b),
+        _ => false,
+    }
+}

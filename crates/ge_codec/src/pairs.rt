@@ -1,0 +1,137 @@
+// Pairs, options, and the parts of rows.
+ghost use Rattle.std.specs.Prelude.{◌≡◌, ◌++◌, ◌∷◌, [], List, ℕ, OnOk, OnErr};
+ghost use Rattle.ge_codec.specs.Fronts.{IsFront};
+
+use crate::canon::Canon;
+use crate::texts::take_flag;
+use ge_model_codec::TakeFault;
+use ge_rows::Text;
+use std::alloc::{AllocError, Global};
+
+/// Values that lie apart and are written one behind the other, as the fields of a row.
+pub(crate) trait Fields {
+    ghost written: { Self → List ℕ };
+
+    fn put_all(&self, out: &mut Text) -> Result<(), AllocError>
+        ensures ok { OnOk result (out.new ≡ out.old ++ written self.now) }
+        ensures err { OnErr result (IsFront out.old out.new) };
+}
+
+impl Fields for () {
+    ghost written = { λ u. [] };
+
+    fn put_all(&self, _out: &mut Text) -> Result<(), AllocError> {
+        Ok(())
+    }
+}
+
+impl<A: Canon> Fields for &A {
+    ghost written = { λ a. A.code.write a.now };
+
+    fn put_all(&self, out: &mut Text) -> Result<(), AllocError> {
+        let value: &A = *self;
+        value.put(out)
+    }
+}
+
+impl<A: Fields, B: Fields> Fields for (A, B) {
+    ghost written = { λ p. A.written p.0 ++ B.written p.1 };
+
+    #[tactic(auto, using(crate::specs::Fronts::front_is))]
+    fn put_all(&self, out: &mut Text) -> Result<(), AllocError> {
+        self.0.put_all(out)?;
+        self.1.put_all(out)
+    }
+}
+
+// A tag byte and the fields of a variant.
+pub(crate) fn put_variant<F: Fields>(tag: u8, fields: &F, out: &mut Text) -> Result<(), AllocError>
+    ensures ok { OnOk result (out.new ≡ out.old ++ (tag ∷ F.written fields.now)) }
+    ensures err { OnErr result (IsFront out.old out.new) }
+{
+    out.push(tag)?;
+    fields.put_all(out)
+}
+
+impl Canon for () {
+    ghost use Rattle.ge_model_codec.specs.Code.{empty_code};
+    ghost use Rattle.ge_codec.specs.Laws.{empty_canonical};
+
+    ghost code = { empty_code };
+
+    ghost canonical = { empty_canonical };
+
+    fn put(&self, _out: &mut Text) -> Result<(), AllocError> {
+        Ok(())
+    }
+
+    fn take(_alloc: Global, _bytes: &[u8], at: usize) -> Result<((), usize), TakeFault> {
+        Ok(((), at))
+    }
+}
+
+impl<A: Canon + Drop, B: Canon> Canon for (A, B) {
+    ghost use Rattle.ge_model_codec.specs.Code.{pair_code};
+    ghost use Rattle.ge_codec.specs.Laws.{pair_canonical};
+
+    ghost code = { pair_code A.code B.code };
+
+    ghost canonical = { pair_canonical A.canonical B.canonical };
+
+    fn put(&self, out: &mut Text) -> Result<(), AllocError> {
+        (&self.0, &self.1).put_all(out)
+    }
+
+    #[tactic(auto, using(crate::specs::Passing::fault_passes))]
+    fn take(alloc: Global, bytes: &[u8], at: usize) -> Result<((A, B), usize), TakeFault> {
+        let (first, mid) = A::take(alloc, bytes, at)?;
+        let (second, end) = B::take(alloc, bytes, mid)?;
+        Ok(((first, second), end))
+    }
+}
+
+impl<A: Canon + Drop, B: Canon + Drop, C: Canon> Canon for (A, B, C) {
+    ghost use Rattle.ge_model_codec.specs.Code.{triple_code};
+    ghost use Rattle.ge_codec.specs.Laws.{triple_canonical};
+
+    ghost code = { triple_code A.code B.code C.code };
+
+    ghost canonical = { triple_canonical A.canonical B.canonical C.canonical };
+
+    fn put(&self, out: &mut Text) -> Result<(), AllocError> {
+        (&self.0, (&self.1, &self.2)).put_all(out)
+    }
+
+    #[tactic(auto, using(crate::specs::Passing::fault_passes_made))]
+    fn take(alloc: Global, bytes: &[u8], at: usize) -> Result<((A, B, C), usize), TakeFault> {
+        let (parts, end) = <(A, (B, C))>::take(alloc, bytes, at)?;
+        let (first, (second, third)) = parts;
+        Ok(((first, second, third), end))
+    }
+}
+
+impl<T: Canon> Canon for Option<T> {
+    ghost use Rattle.ge_model_codec.specs.Code.{option_code};
+    ghost use Rattle.ge_codec.specs.Parts.{option_canonical};
+
+    ghost code = { option_code T.code };
+
+    ghost canonical = { option_canonical T.code T.canonical };
+
+    fn put(&self, out: &mut Text) -> Result<(), AllocError> {
+        match self {
+            Some(value) => put_variant(1, &value, out),
+            None => out.push(0),
+        }
+    }
+
+    #[tactic(auto, using(crate::specs::Passing::fault_passes, crate::specs::Passing::fault_passes_made))]
+    fn take(alloc: Global, bytes: &[u8], at: usize) -> Result<(Option<T>, usize), TakeFault> {
+        let (flag, mid) = take_flag(bytes, at)?;
+        if flag == 0 {
+            return Ok((None, mid));
+        }
+        let (value, end) = T::take(alloc, bytes, mid)?;
+        Ok((Some(value), end))
+    }
+}

@@ -1,0 +1,7 @@
+//! Tests of canonical bytes against bytes that another program wrote. Nothing stands on this crate.
+#![tactic(auto)]
+
+#[cfg(test)]
+mod entries;
+#[cfg(test)]
+mod snapshots;

@@ -1,0 +1,2 @@
+mod Submissions
+mod Runs

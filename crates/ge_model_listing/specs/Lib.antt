@@ -1,0 +1,2 @@
+pub mod TaskText
+pub mod Listing

@@ -1,0 +1,7 @@
+pub mod Refusals
+pub mod Access
+pub mod Submit
+pub mod Sched
+pub mod Plan
+pub mod Render
+pub mod Trace

@@ -1,0 +1,4 @@
+pub use Rattle.ge_collections.specs.Keyed
+pub mod Bookings
+pub mod Placing
+pub mod Running

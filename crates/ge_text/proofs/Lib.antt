@@ -1,0 +1,11 @@
+pub mod CompleteLemmas
+pub mod LineCompleteLemmas
+pub mod LineLemmas
+pub mod NumberLemmas
+pub mod PatternLemmas
+pub mod ReadLemmas
+pub mod ReadingLaws
+pub mod RunLemmas
+pub mod StandsLemmas
+pub mod WordsLemmas
+pub mod WorthLemmas

@@ -1,0 +1,26 @@
+//! How a text is read: the words of a line, the names that a pattern stands for, and the amounts that a
+//! text is worth.
+//!
+//! Commands, bodies and spooled lines all come as bytes, and everything above reads them by these calls.
+//! What each gives is defined in `ge_model_text`, in the grammar's own words. Only [`words`] takes
+//! memory, for its list of spans: a pattern is tried in place, and an amount is read byte by byte.
+//!
+//! - [`words`], [`Spans`], [`Span`], [`TextFault`]: the words of a line.
+//! - [`matches`]: whether a pattern stands for a name.
+//! - [`read_int`], [`read_time`], [`read_memory`], [`read_fixed`], [`ValueFault`]: amounts below 2^48.
+#![tactic(auto)]
+
+mod amounts;
+mod patterns;
+mod progress;
+mod spans;
+mod splitting;
+
+pub use amounts::{read_fixed, read_int, read_memory, read_time};
+pub use ge_model_text::{Span, ValueFault};
+pub use patterns::matches;
+pub use spans::Spans;
+pub use splitting::{TextFault, words};
+
+#[cfg(test)]
+mod tests;

@@ -1,0 +1,125 @@
+// One event after the other.
+ghost use Rattle.std.specs.Prelude.{◌≡◌, [], ◌∷◌, IfOk, OnOk, IsErrOf, IsErr, Option, codes, false, ◌≤◌};
+ghost use Rattle.ge_outside.specs.Faults.{Rose};
+ghost use Rattle.ge_rows.specs.Opening.{opening_cluster};
+ghost use Rattle.ge_model_script.specs.Events.{events_of};
+ghost use Rattle.ge_model_plan.specs.Trace.{WroteAll, WroteReplies, WroteFront};
+ghost use Rattle.ge_rows.specs.declared.cluster.Cluster.{Cluster};
+ghost use Rattle.ge_rows.specs.declared.events.Event.{Event};
+ghost use Rattle.ge_top.specs.Answering.{bytes_of, IsAnswer};
+
+use ge_core::{apply, plan, render};
+use ge_outside::{Failed, Sink, write_all};
+use ge_rows::{Cluster, Event, Text, opening};
+use ge_script::{next_request, read_event};
+use std::alloc::{AllocError, Global};
+
+/// The reply to an event, rendered.
+#[derive(Drop)]
+pub(crate) enum Rendered {
+    /// The reply that the plan gave.
+    Planned(Text),
+    /// Memory ran out before anything was changed.
+    NoMemory,
+}
+
+/// The answer to an event.
+#[derive(Drop)]
+pub(crate) struct Answer {
+    pub(crate) reply: Rendered,
+    pub(crate) stop: bool,
+}
+
+/// Why not all events were answered.
+#[derive(Clone, Copy, Debug, PartialEq, Eq)]
+pub(crate) enum AnswerFault {
+    /// A write failed.
+    Write,
+    /// Memory ran out.
+    Memory,
+}
+
+impl From<AllocError> for AnswerFault {
+    ghost use Rattle.ge_top.specs.declared.answering.AnswerFault.TheVariants.{Memory};
+
+    ghost from_gives = { λ _ fault. fault ≡ Memory };
+
+    fn from(_want: AllocError) -> AnswerFault {
+        AnswerFault::Memory
+    }
+}
+
+impl From<Failed> for AnswerFault {
+    ghost use Rattle.ge_top.specs.declared.answering.AnswerFault.TheVariants.{Write};
+
+    ghost from_gives = { λ _ fault. fault ≡ Write };
+
+    fn from(_failed: Failed) -> AnswerFault {
+        AnswerFault::Write
+    }
+}
+
+fn reply_bytes(reply: &Rendered) -> &[u8]
+    ensures { result.now ≡ bytes_of reply.now }
+{
+    match reply {
+        Rendered::Planned(text) => text.bytes(),
+        Rendered::NoMemory => b"99 1\nno memory\n",
+    }
+}
+
+// The answer to any event that found no memory: nothing is changed.
+
+fn without_memory() -> Answer
+    ensures { (c : Cluster) (event : Event) → IsAnswer c event result c }
+{
+    Answer {
+        reply: Rendered::NoMemory,
+        stop: false,
+    }
+}
+
+// The answer to an event, and the cluster after it. After want of memory the cluster is given up.
+fn answer_event(alloc: Global, cluster: &mut Cluster, event: &Event) -> Result<Answer, AllocError>
+    ensures { IfOk result (λ answer. IsAnswer cluster.old event.now answer cluster.new) }
+{
+    let Ok(planned) = plan(alloc, cluster, event) else {
+        return Ok(without_memory());
+    };
+    let Ok(text) = render(alloc, &planned.reply) else {
+        return Ok(without_memory());
+    };
+    if let Some(entry) = &planned.entry {
+        apply(alloc, cluster, entry)?;
+    }
+    Ok(Answer {
+        reply: Rendered::Planned(text),
+        stop: planned.stop,
+    })
+}
+
+/// Answers the events of a script in order, from the opening cluster, and writes each reply.
+pub(crate) fn answer_script<K: Sink>(
+    alloc: Global,
+    script: &[u8],
+    output: &mut K,
+) -> Result<(), AnswerFault>
+    ensures whole { OnOk result (WroteAll (K.written output.old) (K.written output.new) opening_cluster (events_of script.now)) }
+    ensures memory { IsErrOf result AnswerFault.Memory → WroteReplies (K.written output.old) (K.written output.new) opening_cluster (events_of script.now) }
+    ensures front { WroteFront (K.written output.old) (K.written output.new) opening_cluster (events_of script.now) }
+    ensures write { IsErrOf result AnswerFault.Write → Rose (K.write_faults output.old) (K.write_faults output.new) }
+    ensures later { K.write_faults output.old ≤ K.write_faults output.new }
+{
+    let mut cluster = opening(alloc)?;
+    let mut rest = script;
+    'events: while let Some((request, after)) = next_request(rest) {
+        let event = read_event(alloc, request)?;
+        let answer = answer_event(alloc, &mut cluster, &event)?;
+        write_all(output, reply_bytes(&answer.reply))?;
+        if answer.stop {
+            return Ok(());
+        }
+        rest = after;
+    }
+    Ok(())
+}
