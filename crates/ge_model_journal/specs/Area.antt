@@ -1,5 +1,5 @@
 -- The bytes of one area: its header, and its list of records.
-use Rattle.std.specs.Prelude.{ℕ, zero, suc, ◌+◌, ◌-◌, Bool, true, false, not, ◌==◌, ◌||◌, nat_lt, if◌then◌else◌, List, [], ◌∷◌, length, take, drop, slice_index, Result, Ok, Err}
+use Rattle.std.specs.Prelude.{ℕ, zero, suc, ◌+◌, ◌-◌, Bool, not, ◌==◌, ◌||◌, nat_lt, if◌then◌else◌, List, [], ◌∷◌, length, take, drop, slice_index, Result, Ok, Err}
 use Rattle.std.specs.Int.{w32, w64, from_be_bytes}
 use Rattle.ge_model_journal.specs.declared.Head.{Head}
 use Rattle.ge_model_journal.specs.declared.Head.TheVariants.{Closed, Faulty, Sound}

@@ -1,7 +1,7 @@
 -- Areas worked out by hand.
-use Rattle.std.specs.Prelude.{◌≡◌, ℕ, List, [], ◌∷◌, ◌++◌, Result, Ok, Err, refl}
+use Rattle.std.specs.Prelude.{◌≡◌, [], ◌∷◌, Ok, Err, refl}
 use Rattle.ge_model_journal.specs.Area.{head, records_from}
-use Rattle.ge_model_journal.specs.Journal.{State, first_state, meaning}
+use Rattle.ge_model_journal.specs.Journal.{first_state, meaning}
 
 -- two empty areas
 no_area_open : meaning [] [] ≡ Ok first_state

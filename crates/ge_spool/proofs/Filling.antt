@@ -1,16 +1,14 @@
 -- What filling an area anew leaves at each moment.
-use Rattle.std.specs.Prelude.{◌≡◌, ◌⊎◌, ℕ, zero, suc, ◌+◌, ◌-◌, ◌<◌, ◌≤◌, Bool, true, false, not, ◌==◌, ◌||◌, nat_lt, List, [], ◌∷◌, ◌++◌, length, take, drop, slice_index, refl}
-use Rattle.std.proofs.Common.{arith, ◌∙◌, sym, ap, subst, inl, inr, ⊎_elim, length-append, length-take, length-drop, append_assoc, drop-cons}
-use Rattle.std.proofs.lemmas.List.{get_or_append_left, get_or-take, take_at, drop_at, take-append-drop}
+use Rattle.std.specs.Prelude.{◌≡◌, ◌⊎◌, ℕ, ◌+◌, ◌<◌, ◌≤◌, Bool, true, false, ◌==◌, ◌||◌, nat_lt, List, [], ◌∷◌, ◌++◌, length, take, drop, slice_index, refl}
+use Rattle.std.proofs.Common.{arith, ◌∙◌, sym, ap, subst, inl, inr, ⊎_elim, length-append, append_assoc, drop-cons}
+use Rattle.std.proofs.lemmas.List.{get_or_append_left, get_or-take, drop_at, take-append-drop}
 use Rattle.std.proofs.lemmas.Bool.{eqb-true}
 use Rattle.ge_model_disk.specs.Disk.{overwritten}
-use Rattle.ge_model_journal.specs.Area.{number4, number8, head}
-use Rattle.ge_model_journal.specs.declared.Head.{Head}
-use Rattle.ge_model_journal.specs.declared.Head.TheVariants.{Closed, Faulty, Sound}
-use Rattle.ge_spool.specs.Moments.{Torn}
+use Rattle.ge_model_journal.specs.Area.{number8, head}
+use Rattle.ge_model_journal.specs.declared.Head.TheVariants.{Closed}
 use Rattle.ge_spool.specs.Pieces.{IsSnapshotPiece}
-use Rattle.ge_spool.specs.Steps.{IsBehindImage, IsRefillImage, opened_behind, closed_first, refilled}
-use Rattle.ge_spool.proofs.Parts.{IsTop, IsArea}
+use Rattle.ge_spool.specs.Steps.{IsBehindImage, IsRefillImage, refilled}
+use Rattle.ge_spool.proofs.Parts.{IsArea}
 use Rattle.ge_spool.proofs.Reading.{either, number8-append}
 use Rattle.ge_spool.proofs.Tearing.{torn-gate, torn-whole, opened-whole}
 use Rattle.ge_spool.proofs.Meanings.{IsLower}

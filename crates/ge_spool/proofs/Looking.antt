@@ -1,12 +1,11 @@
 -- Reading a header, and a list of records from the front.
-use Rattle.std.specs.Prelude.{◌≡◌, ◌⊎◌, ℕ, zero, suc, ◌+◌, ◌-◌, ◌<◌, ◌≤◌, min, Bool, true, false, not, ◌==◌, ◌||◌, nat_lt, List, [], ◌∷◌, ◌++◌, length, take, drop, slice_index, Result, Ok, Err, refl}
-use Rattle.std.proofs.Common.{arith, ◌∙◌, sym, ap, subst, inl, inr, ⊎_elim, append_assoc, append-nil, length-take, length-drop}
+use Rattle.std.specs.Prelude.{◌≡◌, ◌⊎◌, ℕ, zero, suc, ◌+◌, ◌<◌, ◌≤◌, true, false, ◌==◌, List, [], ◌∷◌, ◌++◌, length, take, drop, slice_index, Result, Ok, Err, refl}
+use Rattle.std.proofs.Common.{arith, ◌∙◌, sym, ap, subst, ⊎_elim, append_assoc, append-nil, length-take}
 use Rattle.std.proofs.lemmas.List.{get_or-take, take-append-drop, drop-drop}
 use Rattle.std.proofs.lemmas.Bool.{lt-ltb}
-use Rattle.ge_model_disk.specs.Disk.{Content, HasLength, Reads, ReadsFrom}
+use Rattle.ge_model_disk.specs.Disk.{Content, HasLength, Reads}
 use Rattle.ge_model_journal.specs.Area.{number4, number8, head, head_of, and_found, is_bad_length, records_from}
-use Rattle.ge_model_journal.specs.declared.Head.{Head}
-use Rattle.ge_model_journal.specs.declared.Head.TheVariants.{Closed, Faulty, Sound}
+use Rattle.ge_model_journal.specs.declared.Head.TheVariants.{Closed}
 use Rattle.ge_spool.specs.Reads.{and_records, IsHeadOf}
 use Rattle.ge_spool.proofs.Reading.{number8-append, records_from-step, records_from-gate}
 

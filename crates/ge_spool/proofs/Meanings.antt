@@ -1,13 +1,12 @@
 -- What two areas stand for, by the parts of the one that counts.
-use Rattle.std.specs.Prelude.{◌≡◌, ◌⊎◌, ℕ, ◌+◌, ◌<◌, ◌≤◌, Bool, true, false, ◌==◌, nat_lt, if◌then◌else◌, List, [], ◌∷◌, ◌++◌, length, take, drop, slice_index, Result, Ok, Err, refl}
-use Rattle.std.proofs.Common.{arith, ◌∙◌, sym, ap, subst, inl, inr, ⊎_elim}
-use Rattle.std.proofs.lemmas.Bool.{lt-ltb, le-ltb, ltb-false, ltb-true, ne_eqb, eqb-false, eqb-true, cases_lt}
-use Rattle.ge_model_journal.specs.Area.{head, records_of}
-use Rattle.ge_model_journal.specs.Journal.{State, meaning, meaning_by, choice, picked, state_of, area_number}
+use Rattle.std.specs.Prelude.{◌≡◌, ◌⊎◌, ℕ, ◌<◌, ◌≤◌, Bool, true, false, ◌==◌, nat_lt, if◌then◌else◌, List, length, Ok, refl}
+use Rattle.std.proofs.Common.{arith, ◌∙◌, ap, inl, inr, ⊎_elim}
+use Rattle.std.proofs.lemmas.Bool.{lt-ltb, le-ltb, ltb-false, ltb-true, ne_eqb, eqb-false, cases_lt}
+use Rattle.ge_model_journal.specs.Area.{head}
+use Rattle.ge_model_journal.specs.Journal.{meaning, choice, picked}
 use Rattle.ge_model_journal.specs.declared.Head.{Head}
 use Rattle.ge_model_journal.specs.declared.Head.TheVariants.{Closed, Faulty, Sound}
-use Rattle.ge_model_journal.specs.declared.Choice.{Choice}
-use Rattle.ge_model_journal.specs.declared.Choice.TheVariants.{Neither, Chosen, Wrong}
+use Rattle.ge_model_journal.specs.declared.Choice.TheVariants.{Chosen, Wrong}
 pub use Rattle.ge_spool.specs.Heads.{IsLower}
 use Rattle.ge_spool.proofs.Parts.{IsArea}
 use Rattle.ge_spool.proofs.Reading.{head-area, snapshot-area, records_of-area}

@@ -1,10 +1,10 @@
 -- What every pair of images stands for while one of the two areas is written.
-use Rattle.std.specs.Prelude.{◌≡◌, ◌⊎◌, ℕ, ◌+◌, ◌-◌, ◌<◌, ◌≤◌, max, Bool, true, false, not, ◌==◌, List, [], ◌∷◌, ◌++◌, length, take, drop, slice_index, Result, Ok, Err, refl}
-use Rattle.std.proofs.Common.{arith, ◌∙◌, sym, ap, subst, inl, inr, ⊎_elim}
-use Rattle.ge_model_disk.specs.Disk.{Content, IsImageNow, IsImageSince, read_bytes}
+use Rattle.std.specs.Prelude.{◌≡◌, ◌⊎◌, ℕ, ◌+◌, ◌<◌, Bool, true, false, ◌==◌, List, [], ◌∷◌, ◌++◌, length, slice_index, refl}
+use Rattle.std.proofs.Common.{arith, subst, inl, inr}
+use Rattle.ge_model_disk.specs.Disk.{Content, IsImageSince}
 use Rattle.ge_model_journal.specs.Area.{number8, head}
-use Rattle.ge_model_journal.specs.Journal.{State, meaning, picked, with_record, compacted, IsOneOf}
-use Rattle.ge_spool.specs.Moments.{IsQuiet, Torn, Since, quiet_image, since_none, since_images, since_quiet}
+use Rattle.ge_model_journal.specs.Journal.{State, picked, with_record, compacted, IsOneOf}
+use Rattle.ge_spool.specs.Moments.{IsQuiet, Torn, Since, since_none, since_quiet}
 use Rattle.ge_spool.specs.Pieces.{IsRecordPiece, IsSnapshotPiece}
 use Rattle.ge_spool.specs.Steps.{IsBehindImage, IsRefillImage}
 use Rattle.ge_model_journal.specs.declared.Head.TheVariants.{Sound}

@@ -1,12 +1,11 @@
 -- Opening as a whole: what every pair of images stands for, and what is answered.
-use Rattle.std.specs.Prelude.{◌≡◌, ◌⊎◌, ℕ, ◌+◌, ◌<◌, ◌≤◌, Bool, true, false, ◌==◌, nat_lt, if◌then◌else◌, List, [], ◌∷◌, ◌++◌, length, Result, Ok, Err, IfOk, refl}
-use Rattle.std.proofs.Common.{arith, ◌∙◌, sym, ap, subst, inl, inr, ⊎_elim}
-use Rattle.ge_model_disk.specs.Disk.{Content, IsImage, IsImageSince, read_bytes, settled_content, told_synced}
+use Rattle.std.specs.Prelude.{◌≡◌, ◌⊎◌, ℕ, Bool, true, false, ◌==◌, nat_lt, if◌then◌else◌, List, [], ◌∷◌, length, Result, Ok, Err, IfOk, refl}
+use Rattle.std.proofs.Common.{◌∙◌, sym, ap, subst, inl, inr, ⊎_elim}
+use Rattle.ge_model_disk.specs.Disk.{Content, IsImageSince, read_bytes, settled_content, told_synced}
 use Rattle.ge_model_journal.specs.Area.{head}
-use Rattle.ge_model_journal.specs.Journal.{State, meaning, meaning_by, choice, first_state, area_number}
+use Rattle.ge_model_journal.specs.Journal.{meaning, meaning_by, choice, first_state, area_number}
 use Rattle.ge_model_journal.specs.declared.Head.{Head}
 use Rattle.ge_model_journal.specs.declared.Head.TheVariants.{Closed, Faulty, Sound}
-use Rattle.ge_model_journal.specs.declared.Choice.{Choice}
 use Rattle.ge_model_journal.specs.declared.Choice.TheVariants.{Neither, Chosen, Wrong}
 use Rattle.ge_spool.specs.Moments.{IsQuiet, Since, quiet_image, since_none, since_same, since_join, since_weaker, since_quiet}
 use Rattle.ge_spool.specs.Opening.{Tells, Opens, IsNoFrame, IsPadImage, IsFreshImage, raw_state}

@@ -1,9 +1,6 @@
 -- An open area in its parts. A stop that tears a write keeps some of the parts, so all that may be left is told by them.
-use Rattle.std.specs.Prelude.{◌≡◌, ◌⊎◌, ℕ, zero, suc, ◌+◌, ◌-◌, ◌<◌, ◌≤◌, Bool, true, false, not, ◌==◌, ◌||◌, nat_lt, if◌then◌else◌, List, [], ◌∷◌, ◌++◌, length, take, drop, slice_index, Result, Ok, Err, refl}
-use Rattle.std.specs.Int.{w32, w64, from_be_bytes}
-use Rattle.ge_model_journal.specs.Area.{number4, number8, head, head_of, and_found, is_bad_length, records_from, records_of}
-use Rattle.ge_model_journal.specs.declared.Head.{Head}
-use Rattle.ge_model_journal.specs.declared.Head.TheVariants.{Closed, Faulty, Sound}
+use Rattle.std.specs.Prelude.{◌≡◌, ℕ, ◌+◌, ◌<◌, false, ◌==◌, List, [], ◌∷◌, ◌++◌, length, drop, slice_index}
+use Rattle.ge_model_journal.specs.Area.{number4, number8}
 
 -- bytes begin with a record whose gate is open, whose length field says how long its body is, and go on with more
 pub record Block (front body more : List ℕ) : Type 0 where

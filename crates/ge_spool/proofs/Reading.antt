@@ -1,13 +1,11 @@
 -- How the parts of an open area are read, and that every area that is read has them.
 use Rattle.std.specs.Prelude.{◌≡◌, ◌⊎◌, ℕ, zero, suc, ◌+◌, ◌-◌, ◌<◌, ◌≤◌, Bool, true, false, not, ◌==◌, ◌||◌, nat_lt, if◌then◌else◌, List, [], ◌∷◌, ◌++◌, length, take, drop, slice_index, Result, Ok, Err, refl}
-use Rattle.std.proofs.Common.{arith, ◌∙◌, sym, ap, subst, inl, inr, ⊎_elim, length-append, length-take, length-drop, append_assoc, eq-eqb}
+use Rattle.std.proofs.Common.{arith, ◌∙◌, sym, ap, subst, inl, inr, ⊎_elim, length-append, length-take, length-drop, append_assoc}
 use Rattle.std.proofs.lemmas.List.{get_or_append_left, take_at, drop_at, drop-append-le, take-append-drop, get_or-take, drop-take, drop-drop}
-use Rattle.std.proofs.lemmas.Bool.{lt-ltb, le-ltb, ltb-false, ne_eqb, eqb-false, eqb-true}
-use Rattle.std.specs.Int.{w32, w64, from_be_bytes}
+use Rattle.std.proofs.lemmas.Bool.{le-ltb, ltb-false, ne_eqb, eqb-false, eqb-true}
 use Rattle.ge_model_journal.specs.Area.{number4, number8, head, head_of, and_found, is_bad_length, records_from, records_of}
-use Rattle.ge_model_journal.specs.declared.Head.{Head}
 use Rattle.ge_model_journal.specs.declared.Head.TheVariants.{Closed, Faulty, Sound}
-use Rattle.ge_spool.proofs.Parts.{Block, IsBlocks, IsTop, IsArea}
+use Rattle.ge_spool.proofs.Parts.{IsBlocks, IsArea}
 
 -- a number field in the front part of bytes
 pub number4-append : (field more : List ℕ) → length field ≡ 4 → number4 (field ++ more) 0 ≡ number4 field 0

@@ -1,15 +1,15 @@
 -- What padding leaves: what two areas stand for.
-use Rattle.std.specs.Prelude.{◌≡◌, ◌⊎◌, ℕ, ◌+◌, ◌-◌, ◌<◌, ◌≤◌, max, Bool, true, false, not, ◌==◌, ◌||◌, if◌then◌else◌, nat_lt, List, [], ◌∷◌, ◌++◌, length, take, drop, slice_index, Result, Ok, Err, refl}
+use Rattle.std.specs.Prelude.{◌≡◌, ℕ, ◌+◌, ◌-◌, ◌<◌, ◌≤◌, Bool, true, false, not, ◌==◌, ◌||◌, if◌then◌else◌, nat_lt, List, [], ◌∷◌, length, take, drop, slice_index, Result, Ok, Err, refl}
 use Rattle.std.proofs.Common.{arith, ◌∙◌, sym, ap, subst, inl, inr, ⊎_elim, eq-eqb}
 use Rattle.std.proofs.lemmas.Bool.{lt-ltb, le-ltb, cases_lt}
 use Rattle.ge_model_disk.specs.Disk.{Content, HasLength, overwritten}
-use Rattle.ge_model_journal.specs.Area.{number8, head, head_of, records_from, records_of}
-use Rattle.ge_model_journal.specs.Journal.{State, meaning, meaning_by, choice, picked, state_of, area_number, first_state}
+use Rattle.ge_model_journal.specs.Area.{number8, head, records_from, records_of}
+use Rattle.ge_model_journal.specs.Journal.{meaning, meaning_by, choice, picked, state_of, area_number, first_state}
 use Rattle.ge_model_journal.specs.declared.Head.{Head}
 use Rattle.ge_model_journal.specs.declared.Head.TheVariants.{Closed, Faulty, Sound}
 use Rattle.ge_model_journal.specs.declared.Choice.{Choice}
 use Rattle.ge_model_journal.specs.declared.Choice.TheVariants.{Neither, Chosen, Wrong}
-use Rattle.ge_spool.specs.Moments.{IsQuiet, Torn, Since, since_none, since_same, since_weaker}
+use Rattle.ge_spool.specs.Moments.{IsQuiet, Torn}
 use Rattle.ge_spool.specs.Opening.{padded, IsPadImage, IsFreshImage, FindsIn, FindsInRest, Opens}
 use Rattle.ge_spool.specs.Pieces.{IsSnapshotPiece}
 use Rattle.ge_spool.specs.Reads.{IsHeadOf}

@@ -1,15 +1,13 @@
 -- What a torn write leaves of an area.
-use Rattle.std.specs.Prelude.{◌≡◌, ◌⊎◌, ℕ, zero, suc, ◌+◌, ◌-◌, ◌<◌, ◌≤◌, max, Bool, true, false, ◌==◌, List, [], ◌∷◌, ◌++◌, length, take, drop, slice_index, refl}
-use Rattle.std.proofs.Common.{arith, ◌∙◌, sym, ap, subst, inl, inr, ⊎_elim, length-append, length-take, length-drop, append_assoc, append-nil, drop-cons}
-use Rattle.std.proofs.lemmas.List.{get_or_append_left, get_or-take, take_at, drop_at, take-append-drop, take-append-le, take-take}
+use Rattle.std.specs.Prelude.{◌≡◌, ◌⊎◌, ℕ, suc, ◌+◌, ◌<◌, true, false, ◌==◌, List, [], ◌∷◌, ◌++◌, length, take, drop, slice_index, refl}
+use Rattle.std.proofs.Common.{arith, ◌∙◌, sym, ap, inl, inr, ⊎_elim, length-append, length-take, append_assoc, append-nil, drop-cons}
+use Rattle.std.proofs.lemmas.List.{take_at, drop_at, take-append-drop, take-append-le, take-take}
 use Rattle.std.proofs.lemmas.Bool.{eqb-true}
 use Rattle.ge_model_disk.specs.Disk.{overwritten}
-use Rattle.ge_model_journal.specs.Area.{number4, number8, head}
-use Rattle.ge_model_journal.specs.declared.Head.{Head}
-use Rattle.ge_model_journal.specs.declared.Head.TheVariants.{Closed, Faulty, Sound}
+use Rattle.ge_model_journal.specs.Area.{number4}
 use Rattle.ge_spool.specs.Moments.{Torn}
 use Rattle.ge_spool.specs.Steps.{IsBehindImage, opened_behind}
-use Rattle.ge_spool.proofs.Parts.{Block, IsBlocks, IsTop, IsArea}
+use Rattle.ge_spool.proofs.Parts.{IsBlocks, IsArea}
 use Rattle.ge_spool.proofs.Reading.{either, number4-append}
 use Rattle.ge_spool.specs.Pieces.{IsRecordPiece}
 

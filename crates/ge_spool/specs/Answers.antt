@@ -1,5 +1,5 @@
 -- When a write to the journal is answered how.
-use Rattle.std.specs.Prelude.{◌≡◌, ◌⊎◌, ℕ, ◌^◌, ◌<◌, ◌≤◌, Bool, true, false, Result, Ok, Err}
+use Rattle.std.specs.Prelude.{◌≡◌, ℕ, ◌^◌, ◌<◌, ◌≤◌, Bool, true, false, Result, Ok, Err}
 use Rattle.ge_spool.specs.declared.faults.AppendFault.{AppendFault}
 use Rattle.ge_spool.specs.declared.faults.AppendFault.TheVariants.{Disk, Full, Dead}
 

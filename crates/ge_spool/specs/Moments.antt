@@ -1,10 +1,10 @@
 -- What a stop may leave in the course of several calls of a disk.
-use Rattle.std.specs.Prelude.{◌≡◌, ◌⊎◌, ℕ, zero, suc, ◌+◌, ◌-◌, ◌<◌, ◌≤◌, min, max, List, [], ◌∷◌, ◌++◌, length, take, drop, slice_index, refl}
+use Rattle.std.specs.Prelude.{◌≡◌, ◌⊎◌, ℕ, suc, ◌+◌, ◌<◌, ◌≤◌, max, List, [], ◌∷◌, ◌++◌, length, take, drop, refl}
 use Rattle.std.proofs.Common.{arith, ◌∙◌, sym, ap, inl, inr, ⊎_elim, length-append, length-take, length-drop, append_assoc, subst}
 use Rattle.std.proofs.lemmas.List.{get_or-take, get_or-drop, take_at, drop_at}
 use Rattle.std.proofs.lemmas.Grind.{same_number_lists}
 use Rattle.ge_outside.specs.Images.{length-overwritten, length-overwritten-le}
-use Rattle.ge_model_disk.specs.Disk.{Content, IsOutside, IsImage, IsImageOf, IsImageNow, IsImageSince, settled_content, content_written, content_synced, overwritten, told_written, told_synced, read_bytes, IsWithin}
+use Rattle.ge_model_disk.specs.Disk.{Content, IsImage, IsImageNow, IsImageSince, settled_content, content_written, overwritten, told_written, told_synced, read_bytes, IsWithin}
 
 -- A disk that tells holds these bytes, and nothing is pending.
 abbrev pub IsQuiet : List Content → List ℕ → Type 0

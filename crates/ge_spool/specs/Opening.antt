@@ -1,6 +1,6 @@
 -- What opening a journal reads and leaves.
-use Rattle.std.specs.Prelude.{◌≡◌, ◌⊎◌, ℕ, ◌+◌, ◌<◌, ◌≤◌, Bool, true, false, nat_lt, if◌then◌else◌, List, [], ◌∷◌, length, take, drop, Result, Ok, Err}
-use Rattle.ge_model_disk.specs.Disk.{Content, overwritten, read_bytes}
+use Rattle.std.specs.Prelude.{◌≡◌, ◌⊎◌, ℕ, ◌+◌, ◌<◌, ◌≤◌, nat_lt, if◌then◌else◌, List, [], ◌∷◌, length, take, drop, Result, Ok, Err}
+use Rattle.ge_model_disk.specs.Disk.{Content, overwritten}
 use Rattle.ge_model_journal.specs.Area.{head, records_from, records_of}
 use Rattle.ge_model_journal.specs.Journal.{State, meaning, area_number}
 use Rattle.ge_model_journal.specs.declared.Head.TheVariants.{Closed, Sound}

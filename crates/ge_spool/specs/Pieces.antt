@@ -1,5 +1,5 @@
 -- The pieces that are written: one record, or a header with a snapshot.
-use Rattle.std.specs.Prelude.{◌≡◌, ℕ, ◌-◌, ◌<◌, ◌≤◌, List, [], ◌∷◌, ◌++◌, length, take, drop, slice_index}
+use Rattle.std.specs.Prelude.{◌≡◌, ℕ, ◌-◌, ◌<◌, List, [], ◌∷◌, ◌++◌, length, take, drop, slice_index}
 use Rattle.ge_model_journal.specs.Area.{number4, number8}
 
 -- a length field, a body of that length, and a closed gate

@@ -1,5 +1,5 @@
 -- A journal that is at rest on its two areas.
-use Rattle.std.specs.Prelude.{◌≡◌, ◌⊎◌, ℕ, ◌+◌, ◌<◌, ◌≤◌, Bool, true, false, not, ◌==◌, List, length, take, drop, slice_index, Result, Ok, IsErr}
+use Rattle.std.specs.Prelude.{◌≡◌, ◌⊎◌, ℕ, ◌+◌, ◌<◌, ◌≤◌, Bool, false, not, ◌==◌, List, length, take, drop, slice_index, Result, Ok, IsErr}
 use Rattle.ge_model_disk.specs.Disk.{Content, IsWithin, read_bytes}
 use Rattle.ge_model_journal.specs.Area.{head, records_of}
 use Rattle.ge_model_journal.specs.Journal.{State, choice, picked}

@@ -1,7 +1,7 @@
-use Rattle.std.proofs.Common.{length, [], ◌∷◌}
+use Rattle.std.proofs.Common.{[], ◌∷◌}
 use Rattle.ge_model_disk.specs.Disk.{overwritten}
 use Rattle.ge_spool.specs.Moments.{Torn, since_both}
-use Rattle.ge_spool.specs.Steps.{IsBehindImage, IsRefillImage}
+use Rattle.ge_spool.specs.Steps.{IsBehindImage}
 use Rattle.ge_spool.proofs.laying.refill.Goals as goal
 
 pub returns-in_err-write_behind-clause-since : goal.returns-in_err-write_behind-clause-since

@@ -1,10 +1,9 @@
-use Rattle.std.proofs.Common.{◌≡◌, ◌∙◌, ◌+◌, sym, ap, subst, refl, false, arith, take, drop, Ok, Err, length}
+use Rattle.std.proofs.Common.{◌≡◌, ◌∙◌, sym, ap, subst, refl, false, take, drop, Ok, Err}
 use Rattle.std.specs.Result.{is_err}
 use Rattle.ge_model_journal.specs.Area.{head, records_of}
-use Rattle.ge_model_journal.specs.Journal.{State, picked, area_number, state_of, meaning}
+use Rattle.ge_model_journal.specs.Journal.{picked, area_number, state_of}
 use Rattle.ge_model_journal.specs.declared.Head.TheVariants.{Sound}
 use Rattle.ge_spool.specs.Heads.{IsLower, is_sound}
-use Rattle.ge_spool.specs.Opening.{padded, FindsIn, FindsInRest}
 use Rattle.ge_spool.proofs.Settling.{AtRest, settled-again, quiet-picked, from-ok}
 use Rattle.ge_spool.proofs.ShortAreas.{quiet-head, meaning-chosen, opened-at-rest, records_of-rest, finds-quiet, opens-fault}
 use Rattle.ge_spool.proofs.opening.open_chosen.Goals as goal

@@ -1,4 +1,4 @@
-use Rattle.std.proofs.Common.{◌≡◌, ◌∙◌, sym, subst, refl, false, [], arith, rules}
+use Rattle.std.proofs.Common.{◌≡◌, ◌∙◌, sym, refl, false, [], arith, rules}
 use Rattle.std.specs.Result.{is_err}
 use Rattle.ge_model_journal.specs.Journal.{first_state}
 use Rattle.ge_model_journal.specs.declared.Head.TheVariants.{Closed}

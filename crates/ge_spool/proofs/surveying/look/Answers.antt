@@ -1,4 +1,4 @@
-use Rattle.std.proofs.Common.{◌≡◌, sym, subst, refl, replicate}
+use Rattle.std.proofs.Common.{sym, subst, refl, replicate}
 use Rattle.ge_model_disk.specs.Disk.{Reads}
 use Rattle.ge_spool.specs.Reads.{IsHeadOf}
 use Rattle.ge_spool.proofs.Looking.{look-closed, look-head}

@@ -1,7 +1,6 @@
-use Rattle.std.proofs.Common.{◌≡◌, ◌+◌, ◌≤◌, ◌∙◌, sym, ap, subst, refl, arith, length, List, [], ◌∷◌, ◌++◌, suc, take, drop, length-append}
+use Rattle.std.proofs.Common.{◌≡◌, ◌+◌, ◌≤◌, ◌∙◌, ap, subst, refl, arith, length, [], ◌∷◌, ◌++◌, suc, take, drop, length-append}
 use Rattle.std.proofs.lemmas.Bool.{ne_eqb}
-use Rattle.std.proofs.lemmas.Grind.{common_steps}
-use Rattle.ge_model_journal.specs.Area.{records_from, is_bad_length}
+use Rattle.ge_model_journal.specs.Area.{records_from}
 use Rattle.ge_spool.specs.Reads.{and_records}
 use Rattle.ge_spool.proofs.Looking.{records-more, records-end, records-bad, records-missing, no-items}
 use Rattle.ge_spool.proofs.surveying.read_records.Goals as goal

@@ -1,4 +1,4 @@
-use Rattle.std.proofs.Common.{◌≡◌, ◌+◌, ◌-◌, ◌∙◌, length, List, [], ◌∷◌, ◌++◌, false, inl, subst, sym, arith, length-append}
+use Rattle.std.proofs.Common.{◌≡◌, ◌+◌, ◌-◌, ◌∙◌, length, [], ◌∷◌, ◌++◌, false, inl, subst, sym, arith, length-append}
 use Rattle.std.specs.Result.{is_err}
 use Rattle.ge_model_disk.specs.Disk.{read_bytes}
 use Rattle.ge_model_journal.specs.Journal.{picked, with_record}

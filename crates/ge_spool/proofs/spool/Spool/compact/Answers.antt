@@ -1,4 +1,4 @@
-use Rattle.std.proofs.Common.{◌≡◌, ◌+◌, ◌-◌, ◌∙◌, length, List, [], ◌∷◌, ◌++◌, Bool, true, false, not, inl, subst, sym, ap, arith, refl}
+use Rattle.std.proofs.Common.{◌≡◌, ◌+◌, ◌-◌, ◌∙◌, length, [], true, false, not, inl, subst, sym, ap, arith, refl}
 use Rattle.std.specs.Result.{is_err}
 use Rattle.ge_model_disk.specs.Disk.{read_bytes}
 use Rattle.ge_model_journal.specs.Area.{number8, head}
