@@ -24,7 +24,10 @@ fn is_name_of(entry: &Text, host: &Text) -> bool
 fn is_listed(row: &QueueRow, host: &Text) -> bool
     ensures { result ≡ has_host row.now host.now }
 {
-    row.hosts.items().iter().any(|entry| is_name_of(entry, host))
+    row.hosts
+        .items()
+        .iter()
+        .any(|entry| is_name_of(entry, host))
 }
 
 fn add_instance(
