@@ -1,9 +1,41 @@
 // Numbers: big-endian in their width, signed ones in two's complement.
+ghost use Rattle.std.specs.Prelude.{◌≡◌, ◌≤◌, length};
+ghost use Rattle.byteorder.specs.Endian.{big_number};
+
 use crate::canon::Canon;
 use byteorder::{BigEndian, ByteOrder};
 use ge_model_codec::TakeFault;
 use ge_rows::Text;
 use std::alloc::{AllocError, Global};
+
+// The number in the first 4 bytes.
+fn first_u32(bytes: &[u8]) -> u32
+    requires { 4 ≤ length bytes.now }
+    ensures { result ≡ big_number 4 bytes.now }
+{
+    u32::from_be_bytes([bytes[0], bytes[1], bytes[2], bytes[3]])
+}
+
+// The number in the first 8 bytes.
+fn first_u64(bytes: &[u8]) -> u64
+    requires { 8 ≤ length bytes.now }
+    ensures { result ≡ big_number 8 bytes.now }
+{
+    u64::from_be_bytes([
+        bytes[0], bytes[1], bytes[2], bytes[3], bytes[4], bytes[5], bytes[6], bytes[7],
+    ])
+}
+
+// The number in the first 16 bytes.
+fn first_u128(bytes: &[u8]) -> u128
+    requires { 16 ≤ length bytes.now }
+    ensures { result ≡ big_number 16 bytes.now }
+{
+    u128::from_be_bytes([
+        bytes[0], bytes[1], bytes[2], bytes[3], bytes[4], bytes[5], bytes[6], bytes[7], bytes[8],
+        bytes[9], bytes[10], bytes[11], bytes[12], bytes[13], bytes[14], bytes[15],
+    ])
+}
 
 impl Canon for u8 {
     ghost use Rattle.std.proofs.Common.{lit<};
@@ -45,7 +77,7 @@ impl Canon for u32 {
         if bytes.len() - at < 4 {
             return Err(TakeFault::Short);
         }
-        Ok((BigEndian::read_u32(&bytes[at..]), at + 4))
+        Ok((first_u32(&bytes[at..]), at + 4))
     }
 }
 
@@ -68,7 +100,7 @@ impl Canon for u64 {
         if bytes.len() - at < 8 {
             return Err(TakeFault::Short);
         }
-        Ok((BigEndian::read_u64(&bytes[at..]), at + 8))
+        Ok((first_u64(&bytes[at..]), at + 8))
     }
 }
 
@@ -91,7 +123,7 @@ impl Canon for u128 {
         if bytes.len() - at < 16 {
             return Err(TakeFault::Short);
         }
-        Ok((BigEndian::read_u128(&bytes[at..]), at + 16))
+        Ok((first_u128(&bytes[at..]), at + 16))
     }
 }
 

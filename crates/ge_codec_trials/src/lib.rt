@@ -2,6 +2,10 @@
 #![tactic(auto)]
 
 #[cfg(test)]
+mod changes;
+#[cfg(test)]
 mod entries;
 #[cfg(test)]
 mod snapshots;
+#[cfg(test)]
+mod vectors;
