@@ -2,7 +2,7 @@
 use Rattle.std.specs.Prelude.{ℕ, zero, suc, ◌+◌, ◌-◌, Bool, not, ◌==◌, ◌||◌, nat_lt, if◌then◌else◌, List, [], ◌∷◌, length, take, drop, slice_index, Result, Ok, Err}
 use Rattle.std.specs.Int.{w32, w64, from_be_bytes}
 use Rattle.ge_model_journal.specs.declared.Head.{Head}
-use Rattle.ge_model_journal.specs.declared.Head.TheVariants.{Closed, Faulty, Sound}
+use Rattle.ge_model_journal.specs.declared.Head.TheVariants.{Closed, Faulty, Overlong, Sound}
 
 -- the number in four bytes from a place on, the highest first
 abbrev pub number4 : List ℕ → ℕ → ℕ
@@ -21,7 +21,7 @@ head_of size header =
     if nat_lt size 19 || not (slice_index header 0 == 1) then Closed
     else (if not (slice_index header 1 == 1) then Faulty 1
     else (if number8 header 2 == 0 then Faulty 2
-    else (if nat_lt (size - 18) (number8 header 10) then Faulty 10
+    else (if nat_lt (size - 18) (number8 header 10) then Overlong (number8 header 2)
     else Sound (number8 header 2) (number8 header 10))))
 
 -- what an area's header says

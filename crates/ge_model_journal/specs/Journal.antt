@@ -2,7 +2,7 @@
 use Rattle.std.specs.Prelude.{◌≡◌, ◌⊎◌, ℕ, ◌+◌, Bool, true, false, ◌==◌, nat_lt, if◌then◌else◌, List, [], ◌∷◌, ◌++◌, take, drop, Result, Ok, Err}
 use Rattle.ge_model_journal.specs.Area.{head, records_of}
 use Rattle.ge_model_journal.specs.declared.Head.{Head}
-use Rattle.ge_model_journal.specs.declared.Head.TheVariants.{Closed, Faulty, Sound}
+use Rattle.ge_model_journal.specs.declared.Head.TheVariants.{Closed, Faulty, Overlong, Sound}
 use Rattle.ge_model_journal.specs.declared.Choice.{Choice}
 use Rattle.ge_model_journal.specs.declared.Choice.TheVariants.{Neither, Chosen, Wrong}
 
@@ -12,14 +12,17 @@ picked false first second = first
 picked true first second = second
 
 -- Which area counts: the open one of greater generation. A wrong header is told first, that of the first area before that of the
--- second, and two equal generations at the generation of the second.
+-- second and field by field, two equal generations at the generation of the second.
 abbrev pub choice : Head → Head → Choice
 choice (Faulty place) b = Wrong 0 place
+choice (Overlong generation) b = Wrong 0 10
 choice Closed Closed = Neither
 choice Closed (Faulty place) = Wrong 1 place
+choice Closed (Overlong generation) = Wrong 1 10
 choice Closed (Sound generation size) = Chosen true generation size
 choice (Sound generation size) Closed = Chosen false generation size
 choice (Sound generation size) (Faulty place) = Wrong 1 place
+choice (Sound g n) (Overlong h) = if g == h then Wrong 1 2 else Wrong 1 10
 choice (Sound g n) (Sound h m) = if g == h then Wrong 1 2 else (if nat_lt h g then Chosen false g n else Chosen true h m)
 
 -- a generation with its snapshot and the records since, in order

@@ -7,8 +7,10 @@
 pub enum Head {
     /// It is not open.
     Closed,
-    /// It is open and a field is wrong, at this place.
+    /// It is open and its format or its generation is wrong, at this place.
     Faulty(u64),
+    /// It is open, with this generation, and its snapshot passes the end.
+    Overlong(u64),
     /// It is open, with this generation and a snapshot of so many bytes.
     Sound(u64, u64),
 }

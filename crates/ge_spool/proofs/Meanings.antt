@@ -5,7 +5,7 @@ use Rattle.std.proofs.lemmas.Bool.{lt-ltb, le-ltb, ltb-false, ltb-true, ne_eqb, 
 use Rattle.ge_model_journal.specs.Area.{head}
 use Rattle.ge_model_journal.specs.Journal.{meaning, choice, picked}
 use Rattle.ge_model_journal.specs.declared.Head.{Head}
-use Rattle.ge_model_journal.specs.declared.Head.TheVariants.{Closed, Faulty, Sound}
+use Rattle.ge_model_journal.specs.declared.Head.TheVariants.{Closed, Faulty, Overlong, Sound}
 use Rattle.ge_model_journal.specs.declared.Choice.TheVariants.{Chosen, Wrong}
 pub use Rattle.ge_spool.specs.Heads.{IsLower}
 use Rattle.ge_spool.proofs.Parts.{IsArea}
@@ -16,10 +16,12 @@ pub choice-lower : (second : Bool) (a b : Head) (generation size : ℕ) → pick
     → choice a b ≡ Chosen second generation size
 choice-lower false a Closed generation size chosen lower = rw chosen refl
 choice-lower false a (Faulty place) generation size chosen lower = absurd lower
+choice-lower false a (Overlong other) generation size chosen lower = absurd lower
 choice-lower false a (Sound other n) generation size chosen lower =
     rw (chosen, ne_eqb generation other (λ e. omega arith), lt-ltb other generation lower) refl
 choice-lower true Closed b generation size chosen lower = rw chosen refl
 choice-lower true (Faulty place) b generation size chosen lower = absurd lower
+choice-lower true (Overlong other) b generation size chosen lower = absurd lower
 choice-lower true (Sound other n) b generation size chosen lower =
     rw (chosen, ne_eqb other generation (λ e. omega arith), le-ltb generation other (omega arith)) refl
 
@@ -52,17 +54,24 @@ both-sound true less g n h m second generation size e = absurd (cc)
 both-sound false true g n h m second generation size e = inl (refl, cc, cc, cc)
 both-sound false false g n h m second generation size e = inr (refl, refl, cc, cc, cc)
 
+overlong-chosen : (same second : Bool) (generation size : ℕ) → (if same then Wrong 1 2 else Wrong 1 10) ≡ Chosen second generation size → ⊥
+overlong-chosen true second generation size e = cc
+overlong-chosen false second generation size e = cc
+
 -- by a choice the header is known, and that the other one doesn't count
 pub choice-back : (a b : Head) (second : Bool) (generation size : ℕ) → choice a b ≡ Chosen second generation size
     → (picked second a b ≡ Sound generation size) × IsLower (picked second b a) generation
 choice-back (Faulty place) b second generation size e = absurd (cc)
+choice-back (Overlong other) b second generation size e = absurd (cc)
 choice-back Closed Closed second generation size e = absurd (cc)
 choice-back Closed (Faulty place) second generation size e = absurd (cc)
+choice-back Closed (Overlong other) second generation size e = absurd (cc)
 choice-back Closed (Sound g n) true generation size e = (cc, tt)
 choice-back Closed (Sound g n) false generation size e = absurd (cc)
 choice-back (Sound g n) Closed true generation size e = absurd (cc)
 choice-back (Sound g n) Closed false generation size e = (cc, tt)
 choice-back (Sound g n) (Faulty place) second generation size e = absurd (cc)
+choice-back (Sound g n) (Overlong h) second generation size e = absurd (overlong-chosen (g == h) second generation size e)
 choice-back (Sound g n) (Sound h m) true generation size e =
     ⊎_elim (λ first. let no : true ≡ false = first.1 in absurd (cc))
     (λ last. (

@@ -5,7 +5,7 @@ use Rattle.ge_model_disk.specs.Disk.{Content, IsImageSince, read_bytes, settled_
 use Rattle.ge_model_journal.specs.Area.{head}
 use Rattle.ge_model_journal.specs.Journal.{meaning, meaning_by, choice, first_state, area_number}
 use Rattle.ge_model_journal.specs.declared.Head.{Head}
-use Rattle.ge_model_journal.specs.declared.Head.TheVariants.{Closed, Faulty, Sound}
+use Rattle.ge_model_journal.specs.declared.Head.TheVariants.{Closed, Faulty, Overlong, Sound}
 use Rattle.ge_model_journal.specs.declared.Choice.TheVariants.{Neither, Chosen, Wrong}
 use Rattle.ge_spool.specs.Moments.{IsQuiet, Since, quiet_image, since_none, since_same, since_join, since_weaker, since_quiet}
 use Rattle.ge_spool.specs.Opening.{Tells, Opens, IsNoFrame, IsPadImage, IsFreshImage, raw_state}
@@ -82,14 +82,21 @@ both-tests true less g n h m e = cc
 both-tests false true g n h m e = cc
 both-tests false false g n h m e = cc
 
+overlong-tests : (same : Bool) → (if same then Wrong 1 2 else Wrong 1 10) ≡ Neither → ⊥
+overlong-tests true e = cc
+overlong-tests false e = cc
+
 -- where none of them counts both are closed
 pub choice-neither : (a b : Head) → choice a b ≡ Neither → (a ≡ Closed) × (b ≡ Closed)
 choice-neither Closed Closed e = (refl, refl)
 choice-neither Closed (Faulty place) e = absurd (cc)
+choice-neither Closed (Overlong other) e = absurd (cc)
 choice-neither Closed (Sound g n) e = absurd (cc)
 choice-neither (Faulty place) b e = absurd (cc)
+choice-neither (Overlong other) b e = absurd (cc)
 choice-neither (Sound g n) Closed e = absurd (cc)
 choice-neither (Sound g n) (Faulty place) e = absurd (cc)
+choice-neither (Sound g n) (Overlong h) e = absurd (overlong-tests (g == h) e)
 choice-neither (Sound g n) (Sound h m) e = absurd (both-tests (g == h) (nat_lt h g) g n h m e)
 
 -- the answer where a first area was made

@@ -4,7 +4,7 @@ use Rattle.std.proofs.Common.{arith, ◌∙◌, sym, ap, subst, inl, inr, ⊎_el
 use Rattle.std.proofs.lemmas.List.{get_or_append_left, take_at, drop_at, drop-append-le, take-append-drop, get_or-take, drop-take, drop-drop}
 use Rattle.std.proofs.lemmas.Bool.{le-ltb, ltb-false, ne_eqb, eqb-false, eqb-true}
 use Rattle.ge_model_journal.specs.Area.{number4, number8, head, head_of, and_found, is_bad_length, records_from, records_of}
-use Rattle.ge_model_journal.specs.declared.Head.TheVariants.{Closed, Faulty, Sound}
+use Rattle.ge_model_journal.specs.declared.Head.TheVariants.{Closed, Faulty, Overlong, Sound}
 use Rattle.ge_spool.proofs.Parts.{IsBlocks, IsArea}
 
 -- a number field in the front part of bytes
@@ -147,7 +147,7 @@ pub record IsHeader (size : ℕ) (bytes : List ℕ) (generation n : ℕ) : Type 
 
 -- the tests of a header that is sound
 tests-sound : (closed format zero_generation past : Bool) (g n generation size : ℕ)
-    → (if closed then Closed else (if not format then Faulty 1 else (if zero_generation then Faulty 2 else (if past then Faulty 10 else Sound g n)))) ≡ Sound generation size
+    → (if closed then Closed else (if not format then Faulty 1 else (if zero_generation then Faulty 2 else (if past then Overlong g else Sound g n)))) ≡ Sound generation size
     → (closed ≡ false) × (format ≡ true) × (zero_generation ≡ false) × (past ≡ false) × (g ≡ generation) × (n ≡ size)
 tests-sound true format z past g n generation size e = absurd (cc)
 tests-sound false false z past g n generation size e = absurd (cc)

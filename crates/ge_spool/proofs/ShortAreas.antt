@@ -6,7 +6,7 @@ use Rattle.ge_model_disk.specs.Disk.{Content, HasLength, overwritten}
 use Rattle.ge_model_journal.specs.Area.{number8, head, records_from, records_of}
 use Rattle.ge_model_journal.specs.Journal.{meaning, meaning_by, choice, picked, state_of, area_number, first_state}
 use Rattle.ge_model_journal.specs.declared.Head.{Head}
-use Rattle.ge_model_journal.specs.declared.Head.TheVariants.{Closed, Faulty, Sound}
+use Rattle.ge_model_journal.specs.declared.Head.TheVariants.{Closed, Faulty, Overlong, Sound}
 use Rattle.ge_model_journal.specs.declared.Choice.{Choice}
 use Rattle.ge_model_journal.specs.declared.Choice.TheVariants.{Neither, Chosen, Wrong}
 use Rattle.ge_spool.specs.Moments.{IsQuiet, Torn}
@@ -88,7 +88,7 @@ head-length [] size h said = tt
 head-length (now ∷ earlier) size h said = said.0
 
 closed-test : (closed format zero_generation past : Bool) (g n : ℕ)
-    → (if closed then Closed else (if not format then Faulty 1 else (if zero_generation then Faulty 2 else (if past then Faulty 10 else Sound g n)))) ≡ Closed → closed ≡ true
+    → (if closed then Closed else (if not format then Faulty 1 else (if zero_generation then Faulty 2 else (if past then Overlong g else Sound g n)))) ≡ Closed → closed ≡ true
 closed-test true format z past g n e = refl
 closed-test false false z past g n e = absurd (cc)
 closed-test false true true past g n e = absurd (cc)
@@ -123,6 +123,7 @@ padded-some bytes =
 lower-zero : (h : Head) → IsLower h 0 → h ≡ Closed
 lower-zero Closed lower = refl
 lower-zero (Faulty place) lower = absurd lower
+lower-zero (Overlong other) lower = absurd lower
 lower-zero (Sound other n) lower = absurd (omega (arith, lower))
 
 -- each moment of padding an area that isn't open
@@ -163,6 +164,7 @@ head-padded bytes =
 padded-flag : (bytes : List ℕ) (h : Head) (generation : ℕ) → head bytes ≡ h → IsLower h generation → is_sound h ≡ (slice_index (padded bytes) 0 == 1)
 padded-flag bytes Closed generation is_head lower = sym (padded-closed bytes is_head)
 padded-flag bytes (Faulty place) generation is_head lower = absurd lower
+padded-flag bytes (Overlong other) generation is_head lower = absurd lower
 padded-flag bytes (Sound other n) generation is_head lower =
     rw (padded-long bytes (sound-long bytes other n is_head)) (sym (eq-eqb (slice_index bytes 0) 1 (sound-gate bytes other n is_head)))
 

@@ -3,7 +3,7 @@ use Rattle.std.specs.Prelude.{◌≡◌, ℕ, ◌-◌, ◌<◌, ◌≤◌, List,
 use Rattle.ge_model_disk.specs.Disk.{Content}
 use Rattle.ge_model_journal.specs.Area.{head}
 use Rattle.ge_model_journal.specs.declared.Head.{Head}
-use Rattle.ge_model_journal.specs.declared.Head.TheVariants.{Closed, Faulty, Sound}
+use Rattle.ge_model_journal.specs.declared.Head.TheVariants.{Closed, Faulty, Overlong, Sound}
 use Rattle.ge_spool.specs.declared.faults.OpenFault.{OpenFault}
 use Rattle.ge_spool.specs.declared.faults.OpenFault.TheVariants.{Disk, Frame, Bad, Memory}
 
@@ -29,4 +29,5 @@ IsHeadOf (now ∷ earlier) size h = (size ≡ length now.bytes) × (h ≡ head n
 abbrev pub FitsHead : ℕ → Head → Type 0
 FitsHead size Closed = Unit {0}
 FitsHead size (Faulty place) = Unit {0}
+FitsHead size (Overlong generation) = Unit {0}
 FitsHead size (Sound generation n) = (19 ≤ size) × (0 < generation) × (n ≤ size - 18)

@@ -1,5 +1,5 @@
 // Reading an area: its header first, and then the records of the one that counts.
-ghost use Rattle.std.specs.Prelude.{◌≡◌, ◌+◌, ◌^◌, ◌<◌, ◌≤◌, ℕ, true, false, List, length, IfOk, MatchOption};
+ghost use Rattle.std.specs.Prelude.{◌≡◌, ◌==◌, ◌+◌, ◌^◌, ◌<◌, ◌≤◌, ℕ, true, false, List, length, IfOk, MatchOption};
 ghost use Rattle.ge_model_journal.specs.Area.{head_of, is_bad_length, number4, records_from};
 ghost use Rattle.ge_model_journal.specs.Journal.{choice};
 ghost use Rattle.ge_outside.specs.Faults.{HasCause};
@@ -10,6 +10,13 @@ use ge_collections::{List, Text};
 use ge_model_journal::{Choice, Head};
 use ge_outside::{Disk, Failed};
 use std::alloc::Global;
+
+// Whether a gate is open: every byte but 1 closes it, since a stop may leave any.
+fn is_open_gate(gate: u8) -> bool
+    ensures { result ≡ (gate == 1) }
+{
+    gate == 1
+}
 
 // What the first bytes of an area of this length say.
 fn head_in(size: u64, header: &[u8; 18]) -> Head
@@ -36,7 +43,7 @@ fn head_in(size: u64, header: &[u8; 18]) -> Head
         n6,
         n7,
     ] = *header;
-    if size < 19 || gate != 1 {
+    if size < 19 || !is_open_gate(gate) {
         return Head::Closed;
     }
     if format != 1 {
@@ -48,7 +55,7 @@ fn head_in(size: u64, header: &[u8; 18]) -> Head
     }
     let snapshot = u64::from_be_bytes([n0, n1, n2, n3, n4, n5, n6, n7]);
     if size - 18 < snapshot {
-        return Head::Faulty(10);
+        return Head::Overlong(generation);
     }
     Head::Sound(generation, snapshot)
 }
@@ -59,13 +66,17 @@ pub fn choose(a: Head, b: Head) -> Choice
 {
     match a {
         Head::Faulty(place) => Choice::Wrong(0, place),
+        Head::Overlong(_) => Choice::Wrong(0, 10),
         Head::Closed => match b {
             Head::Faulty(place) => Choice::Wrong(1, place),
+            Head::Overlong(_) => Choice::Wrong(1, 10),
             Head::Closed => Choice::Neither,
             Head::Sound(generation, size) => Choice::Chosen(true, generation, size),
         },
         Head::Sound(generation, size) => match b {
             Head::Faulty(place) => Choice::Wrong(1, place),
+            Head::Overlong(other) if generation == other => Choice::Wrong(1, 2),
+            Head::Overlong(_) => Choice::Wrong(1, 10),
             Head::Closed => Choice::Chosen(false, generation, size),
             Head::Sound(other, _) if generation == other => Choice::Wrong(1, 2),
             Head::Sound(other, _) if other < generation => Choice::Chosen(false, generation, size),
@@ -106,7 +117,7 @@ pub fn read_records(
     let mut rest = bytes;
     let mut place = start;
     while let Some((gate, after)) = rest.split_first() {
-        if *gate != 1 {
+        if !is_open_gate(*gate) {
             return Ok((records, place));
         }
         let Some(size) = body_length(after) else {

@@ -38,6 +38,7 @@ fn a_journal_is_written(rt: HostRuntime) -> Result<(), Fail> {
     let mut snapshot = SnapshotBytes::new(alloc, &Text::from_bytes(alloc, &[4, 5, 6])?)?;
     spool.compact(&mut a, &mut b, &mut snapshot)?;
     assert_eq!(rt; b.bytes(), COMPACTED.as_slice());
+    assert_eq!(rt; a.bytes(), ONE_RECORD.as_slice());
     assert_eq!(rt; spool.generation(), 2);
     assert_eq!(rt; spool.end(), 21);
     Ok(())

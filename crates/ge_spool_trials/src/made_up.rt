@@ -1,6 +1,6 @@
 // Areas of made-up bytes are opened: the call returns, and answers the same twice.
 use ge_outside::MemDisk;
-use ge_spool::{OpenFault, Spool};
+use ge_spool::{OpenFault, Raw, Spool};
 use std::alloc::{AllocError, Global};
 use std::test::Fail;
 
@@ -11,7 +11,7 @@ fn advanced(state: u64) -> u64 {
         .wrapping_add(1_442_695_040_888_963_407)
 }
 
-// Up to 100 bytes, most of them small, so that some of them are open areas.
+// Up to 100 bytes: any ones, or more often small ones, so that many areas are open.
 fn made_up(alloc: Global, start: u64) -> Result<Vec<u8>, AllocError> {
     let mut state = advanced(start);
     let size = (state >> 33) % 101;
@@ -19,10 +19,10 @@ fn made_up(alloc: Global, start: u64) -> Result<Vec<u8>, AllocError> {
     for place in 0..size {
         state = advanced(state);
         let drawn = (state >> 40) % 16;
-        let byte = if place < 2 || drawn == 1 {
-            1
-        } else if drawn == 2 {
+        let byte = if start % 4 == 0 || drawn == 2 {
             (state >> 48) % 256
+        } else if drawn == 1 || place < 2 && drawn > 0 {
+            1
         } else {
             0
         };
@@ -31,14 +31,26 @@ fn made_up(alloc: Global, start: u64) -> Result<Vec<u8>, AllocError> {
     Ok(bytes)
 }
 
-// What opening answers, as three numbers.
-fn answer(alloc: Global, start: u64) -> Result<(u64, u64, u64), AllocError> {
-    let mut a = MemDisk::new(alloc, made_up(alloc, start)?, Vec::new(alloc));
-    let mut b = MemDisk::new(alloc, made_up(alloc, start ^ 12_345)?, Vec::new(alloc));
-    match Spool::open(alloc, &mut a, &mut b) {
-        Ok((spool, _)) => Ok((spool.generation(), spool.records(), spool.end())),
-        Err(OpenFault::Frame(area, place)) => Ok((0, u64::from(area), place)),
-        Err(_) => Err(AllocError),
+// A disk of made-up bytes.
+fn made_up_disk(alloc: Global, start: u64) -> Result<MemDisk, AllocError> {
+    Ok(MemDisk::new(alloc, made_up(alloc, start)?, Vec::new(alloc)))
+}
+
+type Opened = Result<(Spool, Raw), OpenFault>;
+
+// Whether two openings answer the same: what is held, or the same place of the same area.
+fn is_same(first: &Opened, second: &Opened) -> bool {
+    match (first, second) {
+        (Ok((_, raw)), Ok((_, other))) => {
+            raw.generation == other.generation
+                && raw.area == other.area
+                && raw.snapshot == other.snapshot
+                && raw.records == other.records
+        }
+        (Err(OpenFault::Frame(area, place)), Err(OpenFault::Frame(other_area, other_place))) => {
+            area == other_area && place == other_place
+        }
+        _ => false,
     }
 }
 
@@ -47,13 +59,19 @@ fn made_up_areas_are_answered(rt: HostRuntime) -> Result<(), Fail> {
     let alloc = rt.alloc();
     let mut opened = 0u32;
     for start in 0..100_000u64 {
-        let first = answer(alloc, start)?;
-        let second = answer(alloc, start)?;
-        assert!(rt; first == second);
-        if first.0 > 0 && opened < 1_000_000 {
-            opened += 1;
+        let mut a = made_up_disk(alloc, start)?;
+        let mut b = made_up_disk(alloc, start ^ 12_345)?;
+        let first = Spool::open(alloc, &mut a, &mut b);
+        let again = Spool::open(alloc, &mut a, &mut b);
+        assert!(rt; is_same(&first, &again), "areas of {start}, opened again");
+        let mut a = made_up_disk(alloc, start)?;
+        let mut b = made_up_disk(alloc, start ^ 12_345)?;
+        let second = Spool::open(alloc, &mut a, &mut b);
+        assert!(rt; is_same(&first, &second), "areas of {start}, made again");
+        if first.is_ok() {
+            opened = opened.saturating_add(1);
         }
     }
-    assert!(rt; opened > 1_000);
+    assert!(rt; opened > 10_000 && opened < 90_000);
     Ok(())
 }
