@@ -58,7 +58,7 @@ impl Canon for bool {
     #[tactic(auto, using(crate::specs::Passing::fault_passes))]
     fn take(_alloc: Global, bytes: &[u8], at: usize) -> Result<(bool, usize), TakeFault> {
         let (flag, end) = take_flag(bytes, at)?;
-        Ok((flag == 1, end))
+        Ok((flag != 0, end))
     }
 }
 

@@ -5,8 +5,8 @@ use Rattle.ge_snapshot.specs.Whole.{whole_read, one_spelling}
 use Rattle.ge_snapshot.proofs.take_cluster.Goals as goal
 
 pub returns-clause-read : goal.returns-clause-read
-returns-clause-read c = (c.in_ok-cluster.end, whole_read cluster_code c.args.bytes.now c.in_ok-cluster.cluster c.in_ok-cluster.end c.in_ok-cluster.ensures.read c.if-end-bytes.false)
+returns-clause-read c = (c.in_ok-cluster.end, whole_read cluster_code c.args.bytes.now c.in_ok-cluster.cluster c.in_ok-cluster.end c.in_ok-cluster.ensures.read (omega arith))
 
 pub returns-clause-one_spelling : goal.returns-clause-one_spelling
 returns-clause-one_spelling c =
-    one_spelling cluster_code c.args.bytes.now cluster_canonical (λ k. omega (arith, c.type_inv.bytes k)) c.in_ok-cluster.cluster c.in_ok-cluster.end c.in_ok-cluster.ensures.read c.if-end-bytes.false
+    one_spelling cluster_code c.args.bytes.now cluster_canonical (λ k. omega (arith, c.type_inv.bytes k)) c.in_ok-cluster.cluster c.in_ok-cluster.end c.in_ok-cluster.ensures.read (omega arith)
