@@ -1,18 +1,8 @@
 // Entries byte for byte, and bytes that are refused.
+use crate::vectors::{HOLD, LOAD};
 use ge_codec::{Canon, TakeFault};
 use ge_rows::{Change, Entry, List, Table, Text, Value};
 use std::test::Fail;
-
-// The entry of `qhold 1 2` at 10.
-const HOLD: [u8; 26] = [
-    0, 0, 0, 0, 0, 0, 0, 10, 2, 0, 0, 0, 0, 0, 0, 0, 2, 0, 0, 0, 1, 0, 0, 0, 2, 1,
-];
-
-// The entry of `load local a=5 b=TRUE` at 13.
-const LOAD: [u8; 59] = [
-    0, 0, 0, 0, 0, 0, 0, 13, 8, 0, 0, 0, 0, 0, 0, 0, 5, 108, 111, 99, 97, 108, 0, 0, 0, 0, 0, 0, 0,
-    2, 0, 0, 0, 0, 0, 0, 0, 1, 97, 0, 0, 0, 0, 0, 0, 0, 0, 5, 0, 0, 0, 0, 0, 0, 0, 1, 98, 1, 1,
-];
 
 #[test]
 fn a_hold(rt: HostRuntime) -> Result<(), Fail> {
@@ -25,8 +15,8 @@ fn a_hold(rt: HostRuntime) -> Result<(), Fail> {
     };
     let mut out = Text::new(rt.alloc());
     entry.put(&mut out)?;
-    assert!(rt; out.bytes() == HOLD.as_slice());
-    let taken = Entry::take(rt.alloc(), &HOLD, 0);
+    assert!(rt; out.bytes() == HOLD);
+    let taken = Entry::take(rt.alloc(), HOLD, 0);
     assert!(rt; taken == Ok((entry, 26)));
     Ok(())
 }
@@ -43,13 +33,14 @@ fn a_load_report(rt: HostRuntime) -> Result<(), Fail> {
     };
     let mut out = Text::new(rt.alloc());
     entry.put(&mut out)?;
-    assert!(rt; out.bytes() == LOAD.as_slice());
+    assert!(rt; out.bytes() == LOAD);
     Ok(())
 }
 
 #[test]
 fn faults(rt: HostRuntime) {
     assert!(rt; bool::take(rt.alloc(), &[2], 0) == Err(TakeFault::Range(0)));
+    assert!(rt; <Option<bool> as Canon>::take(rt.alloc(), &[2, 0], 0) == Err(TakeFault::Range(0)));
     assert!(rt; Value::take(rt.alloc(), &[3], 0) == Err(TakeFault::Tag(0)));
     assert!(rt; Entry::take(rt.alloc(), &HOLD[..25], 0) == Err(TakeFault::Short));
     let falling = [0, 0, 0, 0, 0, 0, 0, 2, 9, 0, 9, 0];

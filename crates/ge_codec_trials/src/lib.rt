@@ -4,7 +4,11 @@
 #[cfg(test)]
 mod changes;
 #[cfg(test)]
+mod clusters;
+#[cfg(test)]
 mod entries;
+#[cfg(test)]
+mod fields;
 #[cfg(test)]
 mod snapshots;
 #[cfg(test)]

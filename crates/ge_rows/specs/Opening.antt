@@ -1,5 +1,5 @@
 -- The cluster before the first command, and the values of attributes that a body leaves out.
-use Rattle.std.specs.Prelude.{ℕ, ◌^◌, ◌-◌, List, [], ◌∷◌, fold, codes}
+use Rattle.std.specs.Prelude.{ℕ, ◌^◌, ◌-◌, List, [], ◌∷◌, ◌++◌, fold, codes}
 use Rattle.ge_collections.specs.Keyed.{put_text}
 use Rattle.ge_rows.specs.declared.cluster.Cluster.{Cluster}
 use Rattle.ge_rows.specs.declared.hosts.HostRow.{HostRow}
@@ -8,6 +8,7 @@ use Rattle.ge_rows.specs.declared.queues.QueueRow.{QueueRow}
 use Rattle.ge_rows.specs.declared.settings.Sched.{Sched}
 use Rattle.ge_rows.specs.declared.settings.SortMethod.TheVariants.{Load}
 use Rattle.ge_rows.specs.declared.values.Value.TheVariants.{Amount}
+use Rattle.ge_rows.specs.OpeningComplexes.{time_limits, memory_limits, opening_complexes}
 
 -- the amount that stands for INFINITY
 abbrev pub infinity : ℕ
@@ -23,8 +24,7 @@ plain_attr x = record { plain = x; overrides = [] }
 
 -- the sixteen limits of a queue, in the order of queue_conf
 abbrev pub limit_names : List (List ℕ)
-limit_names = codes "s_rt" ∷ codes "h_rt" ∷ codes "s_cpu" ∷ codes "h_cpu" ∷ codes "s_fsize" ∷ codes "h_fsize" ∷ codes "s_data" ∷ codes "h_data"
-    ∷ codes "s_stack" ∷ codes "h_stack" ∷ codes "s_core" ∷ codes "h_core" ∷ codes "s_rss" ∷ codes "h_rss" ∷ codes "s_vmem" ∷ codes "h_vmem" ∷ []
+limit_names = time_limits ++ memory_limits
 
 -- these limits, each INFINITY, beside those that stand
 abbrev pub with_limits : List (List ℕ × Attr ℕ) → List (List ℕ) → List (List ℕ × Attr ℕ)
@@ -76,14 +76,14 @@ default_sched = record {
 abbrev pub bare_host : HostRow
 bare_host = record { values = []; load = [] }
 
--- before the first command: two hosts, one queue with two slots, and root as the manager
+-- before the first command: the complexes, two hosts, one queue with two slots, and root as the manager
 unfoldable pub opening_cluster : Cluster
 opening_cluster = record {
   last = 0;
   last_run = 0;
   next_job = 1;
   next_serial = 1;
-  complexes = [];
+  complexes = opening_complexes;
   hosts = (codes "global", bare_host) ∷ (codes "local", bare_host) ∷ [];
   groups = [];
   queues = (codes "all.q", record default_queue { hosts = codes "local" ∷ []; slots = plain_attr 2 }) ∷ [];

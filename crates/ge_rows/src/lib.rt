@@ -21,6 +21,7 @@ mod entries;
 mod events;
 mod hosts;
 mod jobs;
+mod opening_complexes;
 mod opening_rows;
 mod people;
 mod planned;

@@ -5,6 +5,7 @@ ghost use Rattle.ge_rows.specs.Opening.{infinity, plain_attr, limit_names, with_
 
 use crate::cluster::Cluster;
 use crate::hosts::HostRow;
+use crate::opening_complexes::opening_complexes;
 use crate::queues::{Attr, QueueRow};
 use crate::settings::{Sched, SortMethod};
 use crate::values::{INFINITY, Value};
@@ -165,13 +166,14 @@ fn opening_queues(alloc: Global) -> Result<Table<Text, QueueRow>, AllocError>
     Ok(queues)
 }
 
-/// The cluster before the first command: all moments 0, the next job and dispatch 1, the hosts `global` and
+/// The cluster before the first command: all moments 0, the next job and dispatch 1, the 26 complexes, the hosts `global` and
 /// `local`, the queue `all.q` on `local` with two slots, root as the only manager, the settings of sched_conf by
 /// default, and nothing else.
 #[tactic(auto, unfolding(crate::specs::Opening::opening_cluster))]
 pub fn opening(alloc: Global) -> Result<Cluster, AllocError>
     ensures { IfOk result (λ cluster. cluster ≡ opening_cluster) }
 {
+    let complexes = opening_complexes(alloc)?;
     let hosts = opening_hosts(alloc)?;
     let queues = opening_queues(alloc)?;
     let sched = default_sched(alloc)?;
@@ -181,7 +183,7 @@ pub fn opening(alloc: Global) -> Result<Cluster, AllocError>
         last_run: 0,
         next_job: 1,
         next_serial: 1,
-        complexes: Table::new(alloc),
+        complexes,
         hosts,
         groups: Table::new(alloc),
         queues,
