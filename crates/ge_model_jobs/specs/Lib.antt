@@ -1,0 +1,10 @@
+pub mod Holds
+pub mod Picks
+pub mod Serials
+pub mod Usage
+pub mod Accounts
+pub mod Altering
+pub mod Ending
+pub mod Configuring
+pub mod Starting
+pub mod Applying

@@ -1,0 +1,2 @@
+mod GroupRows
+mod Rows

@@ -1,0 +1,15 @@
+mod Rows
+pub mod Steps
+pub mod Form
+pub mod Runs
+pub mod Cuts
+pub mod Sets
+pub mod Turns
+pub mod Merged
+pub mod Together
+pub mod Numbers
+pub mod Unique
+pub mod Walks
+pub mod Digits
+pub mod ReadBack
+pub mod Limits

@@ -1,0 +1,4 @@
+pub mod Spans
+pub mod Sets
+pub mod Ranges
+pub mod SetText

@@ -1,0 +1,5 @@
+pub mod Faults
+pub mod Pieces
+pub mod Values
+pub mod Relops
+pub mod Complexes
