@@ -1,0 +1,7 @@
+pub mod Sorting
+pub mod Lists
+pub mod Walked
+mod Samples
+mod TicketRows
+mod ShareRows
+mod PriorityRows

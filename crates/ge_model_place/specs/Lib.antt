@@ -1,0 +1,9 @@
+pub mod Quotas
+pub mod Opening
+pub mod Limits
+pub mod Windows
+pub mod InstanceOrder
+pub mod Placement
+pub mod Choosing
+pub mod Running
+pub mod Runs
