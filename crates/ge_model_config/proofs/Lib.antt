@@ -1,0 +1,9 @@
+mod Site
+mod ObjectRows
+mod QueueRows
+mod TableRows
+mod LimitRows
+mod PrintRows
+mod UsedRows
+mod RequestRows
+mod Laws

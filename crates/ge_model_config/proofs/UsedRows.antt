@@ -1,0 +1,93 @@
+-- What is used, and what is there.
+use Rattle.std.specs.Prelude.{◌≡◌, true, false, [], ◌∷◌, Some, map, pos, codes, refl}
+use Rattle.ge_rows.specs.declared.cluster.Cluster.{Cluster}
+use Rattle.ge_rows.specs.declared.entries.ObjectKind.TheVariants as object
+use Rattle.ge_rows.specs.declared.jobs.Job.{Job}
+use Rattle.ge_rows.specs.declared.values.Value.TheVariants.{Amount}
+use Rattle.ge_model_value.specs.Complexes.{opening_complexes}
+use Rattle.ge_model_config.specs.Used.{is_used, is_there}
+use Rattle.ge_model_config.proofs.Site.{site, with_body}
+
+-- a job of a project that asks for an environment and a resource, with one task that runs in long.q on n3
+unfoldable pub one_job : Job
+one_job = record {
+  number = 1;
+  name = codes "a";
+  owner = codes "ann";
+  group = codes "staff";
+  account = codes "sge";
+  submitted = 0;
+  priority = pos 0;
+  share = 0;
+  project = codes "lab";
+  reserve = false;
+  not_before = 0;
+  deadline = 0;
+  request = record { asked = (codes "ver", Amount 5) ∷ []; queues = []; pe = Some (record { name = codes "mpi"; low = 1; high = 1 }) };
+  array = false;
+  span = record { first = 1; last = 1; step = 1 };
+  queued = [];
+  broken = [];
+  running = (1, record { serial = 1; start = 0; grants = record { at = record { queue = codes "short.q"; host = codes "n4" }; slots = 1 } ∷ []; deleting = false }) ∷ [];
+  hold = 0;
+  after = [];
+  after_each = [];
+  oticket = 0;
+  words = [];
+  script = [];
+}
+
+-- the site with the job, a share node of a project, and further objects that nothing uses
+unfoldable pub busy : Cluster
+unfolding site with_body one_job
+busy = record (with_body (with_body (with_body site (object.Queue, codes "qname calm.q\nh_rt 9,[@all=8]\ncomplex_values NONE,[n2=gpu=1]"))
+    (object.Complexes, codes "ver v INT >= YES NO 0 0\nidle i INT >= YES NO 0 0\nhot o DOUBLE >= YES NO 0 0")) (object.Quota, codes "{\nname nodes\nlimit users !@old hosts @few,!@most to slots=1\n}")) {
+      jobs = (1, one_job) ∷ [];
+      shares = (0, record { name = codes "Root"; project = false; shares = 1; children = 1 ∷ [] })
+          ∷ (1, record { name = codes "shop"; project = true; shares = 1; children = [] }) ∷ [];
+    }
+
+-- a queue with a running task
+queues_used : map (is_used busy object.Queue) (codes "short.q" ∷ codes "long.q" ∷ codes "calm.q" ∷ []) ≡ true ∷ false ∷ false ∷ []
+unfolding is_used busy
+queues_used = refl
+
+-- global, in a grant, in a hostlist, in a group alone, in an override alone, nowhere
+hosts_used : map (is_used busy object.Host) (codes "global" ∷ codes "n4" ∷ codes "local" ∷ codes "n1" ∷ codes "n2" ∷ codes "n9" ∷ []) ≡ true ∷ true ∷ true ∷ true ∷ true ∷ false ∷ []
+unfolding is_used busy
+hosts_used = refl
+
+-- in a hostlist, in the override of a limit, in a rule plain and behind !, nowhere
+groups_used : map (is_used busy object.Group) (codes "@big" ∷ codes "@all" ∷ codes "@few" ∷ codes "@most" ∷ codes "@none" ∷ []) ≡ true ∷ true ∷ true ∷ true ∷ false ∷ []
+unfolding is_used busy
+groups_used = refl
+
+-- in a pe_list, in a live job, nowhere
+environments_used : map (is_used busy object.Pe) (codes "smp" ∷ codes "mpi" ∷ codes "idle" ∷ []) ≡ true ∷ true ∷ false ∷ []
+unfolding is_used busy
+environments_used = refl
+
+-- in lists and rules, in a rule behind !, as a host group alone, nowhere
+sets_used : map (is_used busy object.Set) (codes "dev" ∷ codes "old" ∷ codes "few" ∷ codes "idle" ∷ []) ≡ true ∷ true ∷ false ∷ false ∷ []
+unfolding is_used busy
+sets_used = refl
+
+-- in an override of a queue's list, in a live job, in the share tree as a project, in the share tree as no project
+projects_used : map (is_used busy object.Project) (codes "web" ∷ codes "lab" ∷ codes "shop" ∷ codes "Root" ∷ []) ≡ true ∷ true ∷ true ∷ false ∷ []
+unfolding is_used busy
+projects_used = refl
+
+-- of the opening table, in values and rules, in an override, in a live job, nowhere
+complexes_used : map (is_used busy object.Complexes) (codes "arch" ∷ codes "mem" ∷ codes "gpu" ∷ codes "ver" ∷ codes "idle" ∷ []) ≡ true ∷ true ∷ true ∷ true ∷ false ∷ []
+unfolding is_used busy opening_complexes
+complexes_used = refl
+
+-- users, rule sets and the share tree
+never_used : is_used busy object.User (codes "ann") ∷ is_used busy object.Quota (codes "per_user") ∷ is_used busy object.Shares [] ∷ [] ≡ false ∷ false ∷ false ∷ []
+unfolding is_used busy
+never_used = refl
+
+there : is_there busy object.Queue (codes "calm.q") ∷ is_there busy object.Queue (codes "calm") ∷ is_there busy object.Managers (codes "root") ∷ is_there busy object.Managers (codes "ann") ∷ is_there busy object.Sched [] ∷ []
+    ≡ true ∷ false ∷ true ∷ false ∷ true ∷ []
+unfolding is_there busy
+there = refl

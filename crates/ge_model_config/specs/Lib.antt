@@ -1,0 +1,15 @@
+pub mod Cited
+pub mod Pairs
+pub mod Overrides
+pub mod Named
+pub mod Queues
+pub mod Objects
+pub mod Settings
+pub mod Quotas
+pub mod Columns
+pub mod Used
+pub mod Complexes
+pub mod Shares
+pub mod Reading
+pub mod Printing
+pub mod Requests

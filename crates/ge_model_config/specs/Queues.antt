@@ -1,0 +1,69 @@
+-- Queues read from a body (queue_conf).
+use Rattle.std.specs.Prelude.{ℕ, Bool, if◌then◌else◌, List, [], ◌++◌, fold, codes}
+use Rattle.ge_collections.specs.Keyed.{put_text}
+use Rattle.ge_rows.specs.Opening.{default_queue, infinity, plain_attr, limit_names}
+use Rattle.ge_rows.specs.declared.cluster.Cluster.{Cluster}
+use Rattle.ge_rows.specs.declared.queues.Attr.{Attr}
+use Rattle.ge_rows.specs.declared.queues.QueueRow.{QueueRow}
+use Rattle.ge_rows.specs.declared.values.Kind.{Kind}
+use Rattle.ge_rows.specs.declared.values.Kind.TheVariants as kind
+use Rattle.ge_rows.specs.declared.entries.Item.{Item}
+use Rattle.ge_rows.specs.declared.entries.ObjectKind.TheVariants as object
+use Rattle.ge_rows.specs.declared.entries.Item.TheVariants.{Queue}
+use Rattle.ge_model_value.specs.Pieces.{is_one_of}
+use Rattle.ge_model_value.specs.Complexes.{time_limits}
+use Rattle.ge_model_config.specs.Cited.{Read, given, none_text, number_read, names_read, is_named, is_host_or_group}
+use Rattle.ge_model_config.specs.Pairs.{values_read, any_fits, number_fits}
+use Rattle.ge_model_config.specs.Overrides.{attr_read}
+use Rattle.ge_model_config.specs.Named.{name_faults, absent_faults}
+
+-- the limits of run time and processor time are times, the others sizes
+abbrev pub limit_kind : List ℕ → Kind
+limit_kind name = if is_one_of name time_limits then kind.Time else kind.Memory
+
+-- one limit, INFINITY where the body leaves it out, put beside those that were read
+abbrev pub with_limit : Cluster → List (List ℕ × List ℕ) → Read (List (List ℕ × Attr ℕ)) → List ℕ → Read (List (List ℕ × Attr ℕ))
+with_limit c values limits name =
+    let limit = attr_read c values name (plain_attr infinity) (number_read (limit_kind name) 0 infinity) in
+    (put_text limits.0 name limit.0, limits.1 ++ limit.1)
+
+-- the sixteen limits
+abbrev pub limits_read : Cluster → List (List ℕ × List ℕ) → Read (List (List ℕ × Attr ℕ))
+limits_read c values = fold (with_limit c values) ([], []) limit_names
+
+-- the queue that a body gives: an attribute that is left out has its default
+unfoldable pub queue_read : Cluster → List (List ℕ × List ℕ) → Read QueueRow
+queue_read c values =
+    let hosts = names_read (is_host_or_group c) (given values (codes "hostlist") none_text) in
+    let seq_no = attr_read c values (codes "seq_no") default_queue.seq_no (number_read kind.Int 0 infinity) in
+    let thresholds = attr_read c values (codes "load_thresholds") default_queue.thresholds (values_read c number_fits) in
+    let pes = attr_read c values (codes "pe_list") default_queue.pes (names_read (is_named c.pes)) in
+    let users = attr_read c values (codes "user_lists") default_queue.users (names_read (is_named c.sets)) in
+    let xusers = attr_read c values (codes "xuser_lists") default_queue.xusers (names_read (is_named c.sets)) in
+    let projects = attr_read c values (codes "projects") default_queue.projects (names_read (is_named c.projects)) in
+    let xprojects = attr_read c values (codes "xprojects") default_queue.xprojects (names_read (is_named c.projects)) in
+    let amounts = attr_read c values (codes "complex_values") default_queue.values (values_read c any_fits) in
+    let slots = attr_read c values (codes "slots") default_queue.slots (number_read kind.Int 0 infinity) in
+    let limits = limits_read c values in (
+      record {
+        hosts = hosts.0;
+        seq_no = seq_no.0;
+        thresholds = thresholds.0;
+        pes = pes.0;
+        users = users.0;
+        xusers = xusers.0;
+        projects = projects.0;
+        xprojects = xprojects.0;
+        values = amounts.0;
+        slots = slots.0;
+        limits = limits.0;
+      },
+      hosts.1 ++ seq_no.1 ++ thresholds.1 ++ pes.1 ++ users.1 ++ xusers.1 ++ projects.1 ++ xprojects.1 ++ amounts.1 ++ slots.1 ++ limits.1,
+    )
+
+-- there are at most 256 queues
+unfoldable pub queue_item : Cluster → Bool → List (List ℕ × List ℕ) → Read Item
+queue_item c adding values =
+    let name = given values (codes "qname") [] in
+    let queue = queue_read c values in
+    (Queue name queue.0, name_faults object.Queue 256 c.queues adding name ++ absent_faults object.Queue values ++ queue.1)

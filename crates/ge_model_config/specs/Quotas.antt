@@ -1,0 +1,96 @@
+-- Rule sets read from a body (sge_resource_quota).
+use Rattle.std.specs.Prelude.{ℕ, Bool, true, false, not, ◌||◌, ◌==◌, nat_lt, if◌then◌else◌, List, [], ◌∷◌, ◌++◌, length, map, flat_map, fold, Option, Some, None, codes}
+use Rattle.ge_collections.specs.Keyed.{text_eq, put_text}
+use Rattle.ge_base.specs.declared.refusal.Refusal.TheVariants.{BadValue, Limit}
+use Rattle.ge_rows.specs.declared.cluster.Cluster.{Cluster}
+use Rattle.ge_rows.specs.declared.quotas.Filter.{Filter}
+use Rattle.ge_rows.specs.declared.quotas.Rule.{Rule}
+use Rattle.ge_rows.specs.declared.values.ComplexDef.{ComplexDef}
+use Rattle.ge_rows.specs.declared.values.Kind.TheVariants as kind
+use Rattle.ge_rows.specs.declared.values.Value.{Value}
+use Rattle.ge_rows.specs.declared.values.Value.TheVariants as value
+use Rattle.ge_rows.specs.declared.entries.Item.{Item}
+use Rattle.ge_rows.specs.declared.entries.ObjectKind.TheVariants as object
+use Rattle.ge_rows.specs.declared.entries.Item.TheVariants as item
+use Rattle.ge_model_script.specs.Names.{is_name}
+use Rattle.ge_model_value.specs.Faults.{when}
+use Rattle.ge_model_value.specs.Values.{value_of, amount_in}
+use Rattle.ge_model_value.specs.Complexes.{is_consumable}
+use Rattle.ge_model_grammar.specs.Bodies.{RuleLine}
+use Rattle.ge_model_config.specs.Cited.{Read, given, none_text, cited, is_named}
+use Rattle.ge_model_config.specs.Pairs.{pair_read}
+use Rattle.ge_model_config.specs.Named.{name_faults}
+
+-- the elements of a filter, plain ones and those that take away
+abbrev pub elements_of : Option Filter → List (List ℕ)
+elements_of None = []
+elements_of (Some filter) = filter.plain ++ filter.without
+
+-- among users an at sign and a name is a user set, which has to be there; all else is a pattern
+abbrev pub is_known_user : Cluster → List ℕ → Bool
+is_known_user c [] = true
+is_known_user c (b ∷ name) = not (b == 64) || is_named c.sets name
+
+-- among hosts an at sign and a name is a host group, which has to be there
+abbrev pub is_known_host : Cluster → List ℕ → Bool
+is_known_host c [] = true
+is_known_host c (b ∷ name) = not (b == 64) || is_named c.groups (b ∷ name)
+
+-- a rule limits consumables
+abbrev pub consumable_fits : Cluster → List ℕ → ComplexDef → Bool
+consumable_fits c name complex = is_consumable c name
+
+-- a table with the limit of a resource, where it could be read: of one that comes twice the last counts
+abbrev pub put_limit : List (List ℕ × ℕ) → Option (List ℕ × Value) → List (List ℕ × ℕ)
+put_limit table None = table
+put_limit table (Some pair) = put_text table pair.0 (amount_in pair.1)
+
+-- one more resource beside those that were read
+abbrev pub with_limit : Cluster → Read (List (List ℕ × ℕ)) → List ℕ × List ℕ → Read (List (List ℕ × ℕ))
+with_limit c limits pair =
+    let limit = pair_read c (consumable_fits c) pair in
+    (put_limit limits.0 limit.0, limits.1 ++ limit.1)
+
+-- a rule may have no name
+abbrev pub is_rule_name : List ℕ → Bool
+is_rule_name [] = true
+is_rule_name (b ∷ name) = is_name (b ∷ name)
+
+-- a rule: its name, its filters and what it limits
+abbrev pub rule_read : Cluster → RuleLine → Read Rule
+rule_read c line =
+    let limits = fold (with_limit c) ([], []) line.limits in (
+      record {
+        name = line.name;
+        users = line.users;
+        projects = line.projects;
+        pes = line.pes;
+        queues = line.queues;
+        hosts = line.hosts;
+        limits = limits.0;
+      },
+      when (not (is_rule_name line.name)) BadValue ++ cited (is_known_user c) (elements_of line.users) ++ cited (is_known_host c) (elements_of line.hosts) ++ limits.1,
+    )
+
+-- whether a rule set counts
+abbrev pub enabled_of : Option Value → Read Bool
+enabled_of (Some (value.Flag enabled)) = (enabled, [])
+enabled_of _ = (false, BadValue ∷ [])
+
+-- a description of NONE is none
+abbrev pub description_of : List ℕ → List ℕ
+description_of text = if text_eq text none_text then [] else text
+
+-- a rule set; there are at most 128, with 64 rules each
+unfoldable pub quota_item : Cluster → Bool → List (List ℕ × List ℕ) → List RuleLine → Read Item
+quota_item c adding values lines =
+    let name = given values (codes "name") [] in
+    let enabled = enabled_of (value_of kind.Bool (given values (codes "enabled") (codes "FALSE"))) in
+    let rules = map (rule_read c) lines in (
+      item.Quota name (record {
+        description = description_of (given values (codes "description") none_text);
+        enabled = enabled.0;
+        rules = map (λ rule. rule.0) rules;
+      }),
+      name_faults object.Quota 128 c.quotas adding name ++ enabled.1 ++ flat_map (λ rule. rule.1) rules ++ when (nat_lt 64 (length lines)) Limit,
+    )

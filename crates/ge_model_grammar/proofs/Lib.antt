@@ -1,0 +1,6 @@
+mod OptionRows
+mod SubmitRows
+mod CommandRows
+mod ConfigRows
+mod RuleRows
+mod BodyRows

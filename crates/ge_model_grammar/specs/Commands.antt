@@ -1,0 +1,193 @@
+-- The grammar of commands.
+use Rattle.std.specs.Prelude.{ℕ, true, false, ◌&&◌, if◌then◌else◌, List, [], ◌∷◌, ◌++◌, drop, Option, Some, None, option_map, codes}
+use Rattle.ge_rows.specs.Keyed.{text_eq}
+use Rattle.ge_rows.specs.declared.commands.Command.{Command}
+use Rattle.ge_rows.specs.declared.commands.Command.TheVariants as command
+use Rattle.ge_rows.specs.declared.commands.Listing.TheVariants as listing
+use Rattle.ge_rows.specs.declared.commands.Query.TheVariants as query
+use Rattle.ge_model_script.specs.Names.{is_name}
+use Rattle.ge_model_text.specs.Words.{texts_of}
+use Rattle.ge_model_value.specs.Pieces.{is_empty, before_byte, behind_byte, has_byte}
+use Rattle.ge_model_grammar.specs.Lines.{is_plain_line, text_lines, begins_with, read_each}
+use Rattle.ge_model_grammar.specs.Bodies.{grammar_of_bodies}
+use Rattle.ge_model_grammar.specs.Options.{Given}
+use Rattle.ge_model_grammar.specs.Shapes.{qsub_shapes, qalter_shapes, read_options, merged}
+use Rattle.ge_model_grammar.specs.Targets.{job_of, wide_number, jobs_of, targets_of, holds_of}
+use Rattle.ge_model_grammar.specs.Configuring.{config_of}
+
+-- the words of a line of bytes that print, blanks and tabs
+abbrev pub line_words : List ℕ → Option (List (List ℕ))
+line_words line = if is_plain_line line then texts_of line else None
+
+-- qsub
+
+-- options that no words follow
+abbrev pub options_alone : Given × List (List ℕ) → Option Given
+options_alone read = if is_empty read.1 then Some read.0 else None
+
+-- the options that words are
+abbrev pub only_options : List (List ℕ) → Option Given
+only_options words = elim (read_options qsub_shapes words) [ None ↦ None | Some read ↦ options_alone read ]
+
+-- the options behind #$ on a line
+abbrev pub line_options : List ℕ → Option Given
+line_options line = elim (line_words line) [ None ↦ None | Some words ↦ only_options words ]
+
+-- the options of a line of a script: a line that begins with #$ holds options alone
+abbrev pub options_in : List ℕ → Option Given
+options_in line = if begins_with (codes "#$") line then line_options (drop 2 line) else Some []
+
+-- the options read so far, and those of more lines of a script
+abbrev pub options_after : Given → List (List ℕ) → Option Given
+options_after so_far [] = Some so_far
+options_after so_far (line ∷ lines) = elim (options_in line) [ None ↦ None | Some given ↦ options_after (so_far ++ given) lines ]
+
+-- the options of a script, in the order of its lines
+unfoldable pub script_options : List ℕ → Option Given
+script_options script = options_after [] (text_lines script)
+
+-- qsub with the options of its script and of its line
+abbrev pub submission : List ℕ → Given → Given × List (List ℕ) → Command
+submission script in_script read = command.Submit (record { items = merged (in_script ++ read.0) }) read.1 script
+
+-- qsub: options, the command and its arguments; the lines behind are the script
+unfoldable pub submit_of : List (List ℕ) → List ℕ → Option Command
+submit_of words script =
+    elim (script_options script) [
+      | None ↦ None
+      | Some in_script ↦ option_map (submission script in_script) (read_options qsub_shapes words)
+    ]
+
+-- qalter
+
+-- qalter of these jobs with the options that count
+abbrev pub alteration : Given → List ℕ → Command
+alteration given jobs = command.Alter (record { items = merged given }) jobs
+
+-- qalter: options, and jobs
+unfoldable pub alter_of : List (List ℕ) → Option Command
+alter_of words =
+    elim (read_options qalter_shapes words) [
+      | None ↦ None
+      | Some read ↦ option_map (alteration read.0) (jobs_of read.1)
+    ]
+
+-- qdel, qmod -cj
+
+-- qdel, with -f by force
+unfoldable pub delete_of : List (List ℕ) → Option Command
+delete_of [] = None
+delete_of (word ∷ words) =
+    if text_eq word (codes "-f") then option_map (command.Delete true) (targets_of words)
+    else option_map (command.Delete false) (targets_of (word ∷ words))
+
+-- qmod, with -cj alone
+unfoldable pub clear_of : List (List ℕ) → Option Command
+clear_of [] = None
+clear_of (word ∷ words) = if text_eq word (codes "-cj") then option_map command.Clear (targets_of words) else None
+
+-- qhold, qrls
+
+-- letters behind -h, and jobs
+abbrev pub with_letters : (ℕ → List ℕ → Command) → List (List ℕ) → Option Command
+with_letters make [] = None
+with_letters make (letters ∷ words) = elim (holds_of letters) [ None ↦ None | Some bits ↦ option_map (make bits) (jobs_of words) ]
+
+-- without letters it is the hold of users
+unfoldable pub hold_of : (ℕ → List ℕ → Command) → List (List ℕ) → Option Command
+hold_of make [] = None
+hold_of make (word ∷ words) = if text_eq word (codes "-h") then with_letters make words else option_map (make 1) (jobs_of (word ∷ words))
+
+-- qstat
+
+-- qstat: jobs of all owners or of those that -u names, -j one job, -f instances, -pri priorities
+unfoldable pub show_of : List (List ℕ) → Option Command
+show_of [] = Some (command.Show (listing.All (codes "*")))
+show_of (word ∷ []) =
+    if text_eq word (codes "-f") then Some (command.Show listing.Queues)
+    else (if text_eq word (codes "-pri") then Some (command.Show listing.Prios) else None)
+show_of (word ∷ of ∷ []) =
+    if text_eq word (codes "-u") then Some (command.Show (listing.All of))
+    else (if text_eq word (codes "-j") then option_map (λ job. command.Show (listing.One job)) (job_of of) else None)
+show_of (word ∷ of ∷ other ∷ words) = None
+
+-- qacct
+
+-- qacct: sums, -o of an owner, -j the lines of a job
+unfoldable pub account_of : List (List ℕ) → Option Command
+account_of [] = Some (command.Account query.Total)
+account_of (word ∷ []) = None
+account_of (word ∷ of ∷ []) =
+    if text_eq word (codes "-o") then (if is_name of then Some (command.Account (query.Owner of)) else None)
+    else (if text_eq word (codes "-j") then option_map (λ job. command.Account (query.Job job)) (job_of of) else None)
+account_of (word ∷ of ∷ other ∷ words) = None
+
+-- load, end, orders, job
+
+-- name=value
+abbrev pub reported : List ℕ → Option (List ℕ × List ℕ)
+reported word = if has_byte 61 word && is_name (before_byte 61 word) then Some (before_byte 61 word, behind_byte 61 word) else None
+
+-- load: a host and its report
+unfoldable pub load_of : List (List ℕ) → Option Command
+load_of [] = None
+load_of (host ∷ []) = None
+load_of (host ∷ word ∷ words) = if is_name host then option_map (command.Load host) (read_each reported (word ∷ words)) else None
+
+-- the end of a dispatch, by its five numbers
+abbrev pub end_with : List ℕ → Option Command
+end_with (serial ∷ exit ∷ cpu ∷ mem ∷ io ∷ []) = Some (command.End serial exit cpu mem io)
+end_with _ = None
+
+-- end: serial, exit status, cpu, mem and io
+unfoldable pub end_of : List (List ℕ) → Option Command
+end_of words = elim (read_each wide_number words) [ None ↦ None | Some numbers ↦ end_with numbers ]
+
+-- orders: a host
+unfoldable pub orders_of : List (List ℕ) → Option Command
+orders_of (host ∷ []) = if is_name host then Some (command.Orders host) else None
+orders_of _ = None
+
+-- job: a serial
+unfoldable pub dispatch_of : List (List ℕ) → Option Command
+dispatch_of (serial ∷ []) = option_map command.JobOf (wide_number serial)
+dispatch_of _ = None
+
+-- sched
+abbrev pub run_of : List (List ℕ) → Option Command
+run_of words = if is_empty words then Some command.Sched else None
+
+-- all of them
+
+-- the commands that are one line
+abbrev pub line_command : List ℕ → List (List ℕ) → Option Command
+line_command verb words =
+    if text_eq verb (codes "qalter") then alter_of words
+    else (if text_eq verb (codes "qdel") then delete_of words
+    else (if text_eq verb (codes "qhold") then hold_of command.Hold words
+    else (if text_eq verb (codes "qrls") then hold_of command.Release words
+    else (if text_eq verb (codes "qmod") then clear_of words
+    else (if text_eq verb (codes "qstat") then show_of words
+    else (if text_eq verb (codes "qacct") then account_of words
+    else (if text_eq verb (codes "load") then load_of words
+    else (if text_eq verb (codes "end") then end_of words
+    else (if text_eq verb (codes "orders") then orders_of words
+    else (if text_eq verb (codes "job") then dispatch_of words
+    else (if text_eq verb (codes "sched") then run_of words else None)))))))))))
+
+-- the command of the words of a command line and of the text behind it
+abbrev pub command_in : List (List ℕ) → List ℕ → Option Command
+command_in [] text = None
+command_in (verb ∷ words) text =
+    if text_eq verb (codes "qsub") then submit_of words text
+    else (if text_eq verb (codes "qconf") then config_of words text
+    else (if is_empty text then line_command verb words else None))
+
+-- the command that a text is, if it is in the grammar
+unfoldable pub command_of : List ℕ → Option Command
+command_of text = elim (line_words (before_byte 10 text)) [ None ↦ None | Some words ↦ command_in words (behind_byte 10 text) ]
+
+-- all that a row of commands computes through
+unfoldable pub grammar_of_commands : Unit {0}
+unfolding grammar_of_bodies read_options merged config_of script_options submit_of alter_of delete_of clear_of hold_of show_of account_of load_of end_of orders_of dispatch_of command_of
+grammar_of_commands = tt

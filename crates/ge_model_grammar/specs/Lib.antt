@@ -1,0 +1,11 @@
+pub mod Lines
+pub mod Options
+pub mod Forms
+pub mod Shapes
+pub mod ShapeLaws
+pub mod Rules
+pub mod Attributes
+pub mod Bodies
+pub mod Targets
+pub mod Configuring
+pub mod Commands

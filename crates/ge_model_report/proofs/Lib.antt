@@ -1,0 +1,5 @@
+mod Samples
+mod ListingRows
+mod QueueRows
+mod AccountingRows
+mod OrderRows
