@@ -1,2 +1,13 @@
 mod Submissions
 mod Runs
+mod Requests
+mod ADay
+mod Reservations
+mod Running
+mod Quotas
+mod Environments
+mod Arrays
+mod Priorities
+mod Ends
+mod Groups
+mod Refusals
