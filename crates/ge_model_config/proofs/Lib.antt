@@ -1,4 +1,4 @@
-mod Site
+pub mod Site
 mod ObjectRows
 mod QueueRows
 mod TableRows
@@ -7,3 +7,30 @@ mod PrintRows
 mod UsedRows
 mod RequestRows
 mod Laws
+mod ReadBackTexts
+pub mod ReadBackBodies
+mod ReadBackLists
+mod ReadBackItems
+pub mod ReadBackNames
+mod ReadBackNumbers
+pub mod ReadBack
+mod ReadBackGroups
+mod ReadBackPeople
+mod ReadBackEnvironments
+pub mod ReadBackTables
+pub mod ReadBackObjects
+pub mod ReadBackChanged
+mod ReadBackCases
+pub mod ReadBackNamed
+mod ReadBackAmounts
+mod ReadBackValues
+mod ReadBackPrinted
+pub mod ReadBackSettings
+pub mod ReadBackSettingsRead
+mod ReadBackPairs
+mod ReadBackValueLists
+pub mod ReadBackHosts
+mod ReadBackRows
+mod ReadBackRowLines
+pub mod ReadBackComplexes
+pub mod ReadBackOpening

@@ -1,18 +1,9 @@
 -- Tables by number: which keys they have after a row is put in, taken out, or left out.
 use Rattle.std.proofs.Common.{◌≡◌, ℕ, ◌+◌, ◌≤◌, ◌<◌, ◌==◌, ◌&&◌, ◌||◌, Bool, true, false, not, cond, List, [], ◌∷◌, filter, refl, sym, ap, ◌∙◌, arith, nat_cmp, Ordering, Less, Equal, Greater}
-use Rattle.std.specs.List.{list_any}
 use Rattle.std.specs.Ordering.{is_eq, match_ordering}
 use Rattle.std.proofs.lemmas.Bool.{eqb-true, true≢false}
 use Rattle.ge_collections.specs.Keyed.{put_number, drop_number}
-
--- whether a table has a key
-abbrev pub has_key : {X : Type 0} → ℕ → List (ℕ × X) → Bool
-has_key n rows = list_any (λ row. n == row.0) rows
-
--- keys from a number on, each above the one before it
-abbrev pub KeysFrom : {X : Type 0} → ℕ → List (ℕ × X) → Type 0
-KeysFrom low [] = Unit {0}
-KeysFrom low (row ∷ rows) = (low ≤ row.0) × KeysFrom (row.0 + 1) rows
+use Rattle.ge_model_jobs.specs.Orderly.{has_key, KeysFrom}
 
 key_less : (x y : ℕ) → nat_cmp x y ≡ Less → x < y
 key_less x y h = grind arith

@@ -24,17 +24,12 @@ use Rattle.ge_model_jobs.specs.Starting.{with_start, start_task}
 use Rattle.ge_model_jobs.specs.Ending.{has_no_task, keep_job, gone, again, in_error, after_exit, end_task, with_end, without_picked, forced_lines, delete_from, cleared, clear_pick}
 use Rattle.ge_model_jobs.specs.Configuring.{with_item, without_item}
 use Rattle.ge_model_jobs.specs.Applying.{after_entry, changes_in_full}
-use Rattle.ge_model_jobs.proofs.Keys.{has_key}
-use Rattle.ge_model_jobs.proofs.Places.{IsOrderly, IsPick, start_keeps, gone_keeps, again_keeps, in_error_keeps, deleted_keeps, cleared_keeps}
-
--- all jobs of a table are orderly
-abbrev pub AllOrderly : List (ℕ × Job) → Type 0
-AllOrderly [] = Unit {0}
-AllOrderly (row ∷ rows) = IsOrderly row.1 × AllOrderly rows
+use Rattle.ge_model_jobs.specs.Orderly.{has_key, IsOrderly, AllOrderly}
+use Rattle.ge_model_jobs.proofs.Places.{IsPick, start_keeps, gone_keeps, again_keeps, in_error_keeps, deleted_keeps, cleared_keeps}
 
 -- ---- tables of jobs
 
-changed_orderly : (test : ℕ → Bool) (change : Job → Job) → ((job : Job) → IsOrderly job → IsOrderly (change job)) → (jobs : List (ℕ × Job)) → AllOrderly jobs
+pub changed_orderly : (test : ℕ → Bool) (change : Job → Job) → ((job : Job) → IsOrderly job → IsOrderly (change job)) → (jobs : List (ℕ × Job)) → AllOrderly jobs
     → AllOrderly (change_value test change jobs)
 changed_orderly test change keeps [] all = tt
 changed_orderly test change keeps (row ∷ rows) (one, all) = by (test row.0) (changed_orderly test change keeps rows all)
@@ -43,7 +38,7 @@ changed_orderly test change keeps (row ∷ rows) (one, all) = by (test row.0) (c
     by true again = (keeps row.1 one, all)
     by false again = (one, again)
 
-put_orderly : (jobs : List (ℕ × Job)) (number : ℕ) (job : Job) → IsOrderly job → AllOrderly jobs → AllOrderly (put_number jobs number job)
+pub put_orderly : (jobs : List (ℕ × Job)) (number : ℕ) (job : Job) → IsOrderly job → AllOrderly jobs → AllOrderly (put_number jobs number job)
 put_orderly [] number job one all = (one, tt)
 put_orderly (row ∷ rows) number job one (first, all) = by (nat_cmp number row.0) (put_orderly rows number job one all)
   where
@@ -70,11 +65,11 @@ keep_orderly jobs number job one all = by (has_no_task job)
     by false = put_orderly jobs number job one all
 
 -- a job of a table, if it is there
-abbrev IfOrderly : Option Job → Type 0
+abbrev pub IfOrderly : Option Job → Type 0
 IfOrderly None = Unit {0}
 IfOrderly (Some job) = IsOrderly job
 
-there_orderly : (jobs : List (ℕ × Job)) (number : ℕ) → AllOrderly jobs → IfOrderly (at_number jobs number)
+pub there_orderly : (jobs : List (ℕ × Job)) (number : ℕ) → AllOrderly jobs → IfOrderly (at_number jobs number)
 there_orderly [] number all = tt
 there_orderly (row ∷ rows) number (first, all) = by (is_at (nat_cmp number) row.0) (there_orderly rows number all)
   where
@@ -84,7 +79,7 @@ there_orderly (row ∷ rows) number (first, all) = by (is_at (nat_cmp number) ro
 
 -- ---- jobs submitted, altered, held, released and started
 
-same_places : (job new : Job) → new.queued ≡ job.queued → new.broken ≡ job.broken → new.running ≡ job.running → IsOrderly job → IsOrderly new
+pub same_places : (job new : Job) → new.queued ≡ job.queued → new.broken ≡ job.broken → new.running ≡ job.running → IsOrderly job → IsOrderly new
 same_places job new p q r one = record {
   waiting = rw p one.waiting;
   broken = rw q one.broken;
@@ -161,7 +156,7 @@ cleared_orderly jobs (pick ∷ picks) (first, fit) all =
 -- ---- tasks that end
 
 -- what a serial names is a running task of an orderly job
-abbrev IfRuns : Option (ℕ × Job × ℕ × Running) → Type 0
+abbrev pub IfRuns : Option (ℕ × Job × ℕ × Running) → Type 0
 IfRuns None = Unit {0}
 IfRuns (Some found) = IsOrderly found.1 × (has_key found.2 found.1.running ≡ true)
 
@@ -183,7 +178,7 @@ found_key serial (task ∷ running) = by (has_serial serial task) (find (has_ser
         or_second true v h = refl
         or_second false v h = h
 
-runs_there : (jobs : List (ℕ × Job)) (serial : ℕ) → AllOrderly jobs → IfRuns (running_with jobs serial)
+pub runs_there : (jobs : List (ℕ × Job)) (serial : ℕ) → AllOrderly jobs → IfRuns (running_with jobs serial)
 unfolding IfKey
 runs_there [] serial all = tt
 runs_there (job ∷ jobs) serial (one, all) = by (find (has_serial serial) job.1.running) (found_key serial job.1.running) (runs_there jobs serial all)
@@ -220,12 +215,12 @@ ended_orderly moment c serial exit cpu mem io all = by (running_with c.jobs seri
 
 -- ---- what is configured
 
-item_jobs : (moment : ℕ) (c : Cluster) (object : Item) → (with_item moment c object).jobs ≡ c.jobs
+pub item_jobs : (moment : ℕ) (c : Cluster) (object : Item) → (with_item moment c object).jobs ≡ c.jobs
 unfolding with_item
 item_jobs moment c (item.Complexes rows) = refl
 item_jobs moment c _ = refl
 
-dropped_jobs : (c : Cluster) (sort : ObjectKind) (name : List ℕ) → (without_item c sort name).jobs ≡ c.jobs
+pub dropped_jobs : (c : Cluster) (sort : ObjectKind) (name : List ℕ) → (without_item c sort name).jobs ≡ c.jobs
 unfolding without_item
 dropped_jobs c kind.Complexes name = refl
 dropped_jobs c _ name = refl

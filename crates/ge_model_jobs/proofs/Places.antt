@@ -15,22 +15,12 @@ use Rattle.ge_model_tasks.proofs.Together.{union_form, union_has, meet_form, mee
 use Rattle.ge_model_jobs.specs.Picks.{names_task, named_in, unnamed_in}
 use Rattle.ge_model_jobs.specs.Starting.{with_start, running_from}
 use Rattle.ge_model_jobs.specs.Ending.{gone, again, in_error, marked, is_unnamed, without_picked, cleared}
-use Rattle.ge_model_jobs.proofs.Keys.{has_key, KeysFrom, put_keys, put_rises, drop_keys, drop_rises, filter_keys, filter_rises}
-
--- whether no two of these hold
-abbrev pub one_at_most : Bool → Bool → Bool → Bool
-one_at_most a b c = not (a && b) && not (a && c) && not (b && c)
+use Rattle.ge_model_jobs.specs.Orderly.{has_key, KeysFrom, one_at_most, IsOrderly}
+use Rattle.ge_model_jobs.proofs.Keys.{put_keys, put_rises, drop_keys, drop_rises, filter_keys, filter_rises}
 
 -- whether a task of a job waits, is in error or runs
 abbrev pub is_task : ℕ → Job → Bool
 is_task t job = has_number t job.queued || has_number t job.broken || has_key t job.running
-
--- the sets of a job are in the form, its running tasks stand by number, and each task in one place
-pub record IsOrderly (job : Job) : Type 0 where
-  pub waiting : is_form job.queued ≡ true
-  pub broken : is_form job.broken ≡ true
-  pub keys : KeysFrom 0 job.running
-  pub places : (t : ℕ) → one_at_most (has_number t job.queued) (has_number t job.broken) (has_key t job.running) ≡ true
 
 -- a job after a change is orderly, and has no task that it didn't have
 abbrev pub Keeps : Job → Job → Type 0
@@ -125,7 +115,7 @@ abbrev pub IsPick : Option (List TaskSpan) → Type 0
 IsPick None = Unit {0}
 IsPick (Some tasks) = is_form tasks ≡ true
 
-named_form : (tasks : Option (List TaskSpan)) (set : List TaskSpan) → IsPick tasks → is_form set ≡ true → is_form (named_in tasks set) ≡ true
+pub named_form : (tasks : Option (List TaskSpan)) (set : List TaskSpan) → IsPick tasks → is_form set ≡ true → is_form (named_in tasks set) ≡ true
 named_form None set pick form = form
 named_form (Some tasks) set pick form = meet_form set tasks form pick
 

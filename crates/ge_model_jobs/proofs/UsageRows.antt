@@ -42,14 +42,6 @@ not_yet_decayed = refl
 all_decayed : decayed (2 ^ 128 - 1) 0 (2 ^ 40) ≡ 0
 all_decayed = refl
 
-whole_at_first : usage_at (used (row (codes "ann") 0 1001 ∷ [])) (codes "ann") [] 3599 ≡ 1001
-unfolding usage_at used cluster default_sched
-whole_at_first = refl
-
-half_later : usage_at (used (row (codes "ann") 0 1001 ∷ [])) (codes "ann") [] 3600 ≡ 500
-unfolding usage_at used cluster default_sched
-half_later = refl
-
 -- the rows of the user and project alone, each rounded down, and cut where they are added
 rows_added : usage_at (used (row (codes "ann") 0 3 ∷ row (codes "ann") 1 3 ∷ ((codes "ann", codes "p", 1), 9) ∷ row (codes "bob") 1 9 ∷ [])) (codes "ann") [] 7200 ≡ 1
 unfolding usage_at used cluster default_sched

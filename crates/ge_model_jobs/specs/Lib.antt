@@ -8,3 +8,4 @@ pub mod Ending
 pub mod Configuring
 pub mod Starting
 pub mod Applying
+pub mod Orderly

@@ -36,7 +36,7 @@ unfolding opening_cluster IsDistinct
 opening_is_sound = record { numbers = tt; tasks = tt; spans = tt; places = tt; next = omega arith; serials = tt; different = tt; submissions = tt; starts = tt }
 
 -- a sound cluster's jobs, at a later moment
-jobs_are_sound : (c : Cluster) (moment : ℕ) → IsSound c → c.last ≤ moment → AreSound c.next_job moment c.next_serial c.jobs
+pub jobs_are_sound : (c : Cluster) (moment : ℕ) → IsSound c → c.last ≤ moment → AreSound c.next_job moment c.next_serial c.jobs
 jobs_are_sound c moment sound later = record {
   numbers = sound.numbers;
   tasks = sound.tasks;
@@ -49,7 +49,7 @@ jobs_are_sound c moment sound later = record {
 }
 
 -- a cluster whose jobs are sound
-sound_from_jobs : (c : Cluster) → 1 ≤ c.next_serial → AreSound c.next_job c.last c.next_serial c.jobs → IsSound c
+pub sound_from_jobs : (c : Cluster) → 1 ≤ c.next_serial → AreSound c.next_job c.last c.next_serial c.jobs → IsSound c
 sound_from_jobs c next sound = record {
   numbers = sound.numbers;
   tasks = sound.tasks;
@@ -69,7 +69,7 @@ same_serials jobs number job idle =
     sym (flat_map-append job_serials jobs ((number, job) ∷ []) ∙ ap (λ s. serials_of jobs ++ s) none ∙ append-nil (serials_of jobs))
 
 -- one more job, under the next number
-job_added : (number moment serial : ℕ) (job : Job) (jobs : List (ℕ × Job)) → AreSound number moment serial jobs → HasTask (number, job) → IsSpanned (number, job) → IsParted (number, job)
+pub job_added : (number moment serial : ℕ) (job : Job) (jobs : List (ℕ × Job)) → AreSound number moment serial jobs → HasTask (number, job) → IsSpanned (number, job) → IsParted (number, job)
     → job.running ≡ [] → job.submitted ≤ moment → AreSound (number + 1) moment serial (put_number jobs number job)
 job_added number moment serial job jobs sound has spanned parted idle submitted = rw (put_last number job jobs sound.numbers) (record {
   numbers = all_append (λ j. j.0 < number + 1) jobs more (all_weaker (λ j. j.0 < number) (λ j. j.0 < number + 1) (λ j h. omega (arith, h)) jobs sound.numbers) (omega arith, tt);

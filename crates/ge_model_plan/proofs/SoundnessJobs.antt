@@ -99,7 +99,7 @@ start-HasStarted moment start e before =
     (λ waiting. all_put (λ task. task.1.start ≤ moment) start.task.task (running_from moment start) (λ key. omega arith) e.1.running before)
 
 -- a task under a new key adds its serial
-serials_put : (k : ℕ) (r : Running) (tasks : List (ℕ × Running)) → list_any (is_under k) tasks ≡ false → IsJoined r.serial (map serial_of tasks) (map serial_of (put_number tasks k r))
+pub serials_put : (k : ℕ) (r : Running) (tasks : List (ℕ × Running)) → list_any (is_under k) tasks ≡ false → IsJoined r.serial (map serial_of tasks) (map serial_of (put_number tasks k r))
 serials_put k r [] absent = here
 serials_put k r (e ∷ es) absent = by (nat_lt k e.0) (k == e.0) absent (serials_put k r es)
   where
@@ -110,7 +110,7 @@ serials_put k r (e ∷ es) absent = by (nat_lt k e.0) (k == e.0) absent (serials
     by false false absent rest = behind (rest absent)
 
 -- what waits doesn't run
-waits_alone : (a b r : Bool) → at_most_one a b r ≡ true → a ≡ true → r ≡ false
+pub waits_alone : (a b r : Bool) → at_most_one a b r ≡ true → a ≡ true → r ≡ false
 waits_alone a b false once waiting = refl
 waits_alone true true true once waiting = absurd (false≢true once)
 waits_alone true false true once waiting = absurd (false≢true once)

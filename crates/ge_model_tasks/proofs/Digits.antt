@@ -150,9 +150,13 @@ abbrev pub AreWithout : ℕ → List (List ℕ) → Type 0
 AreWithout byte [] = Unit {0}
 AreWithout byte (text ∷ texts) = (has_byte byte text ≡ false) × AreWithout byte texts
 
+-- what is joined by a byte is cut there again
+pub pieces_joined : (byte : ℕ) (text : List ℕ) (texts : List (List ℕ)) → has_byte byte text ≡ false → AreWithout byte texts → pieces_at byte (joined_by (byte ∷ []) (text ∷ texts)) ≡ text ∷ texts
+pieces_joined byte text [] none without = ap (slice_split (λ b. b == byte)) (append-nil text) ∙ slice_split_none (λ b. b == byte) text (all_fail byte text none)
+pieces_joined byte text (next ∷ more) none (other, without) =
+    slice_split_at (λ b. b == byte) text byte (next ++ flat_map (λ x. byte ∷ x) more) (all_fail byte text none) (eq-eqb byte byte refl)
+    ∙ ap (λ z. text ∷ z) (pieces_joined byte next more other without)
+
 -- what is joined by a comma is cut at the commas again
 pub joined_cut : (text : List ℕ) (texts : List (List ℕ)) → has_byte 44 text ≡ false → AreWithout 44 texts → pieces_at 44 (joined_by (44 ∷ []) (text ∷ texts)) ≡ text ∷ texts
-joined_cut text [] none without = ap (slice_split (λ b. b == 44)) (append-nil text) ∙ slice_split_none (λ b. b == 44) text (all_fail 44 text none)
-joined_cut text (next ∷ more) none (other, without) =
-    slice_split_at (λ b. b == 44) text 44 (next ++ flat_map (λ x. 44 ∷ x) more) (all_fail 44 text none) refl
-    ∙ ap (λ z. text ∷ z) (joined_cut next more other without)
+joined_cut = pieces_joined 44
