@@ -1,27 +1,59 @@
-//! The soundness of the cluster, as a law of what is answered.
+//! The soundness of the cluster, as laws of what is answered.
 //!
 //! - [`sound_clusters_stay_sound`]: the opening cluster is sound, and no event takes that away.
+//! - [`refused_events_change_nothing`]: an event is accepted or refused, and a refused one leaves all as it was.
+//! - [`the_first_path_stays_sound`]: the first by the definitions that today's functions are proved against.
 //!
-//! The function does nothing: its contract is the law.
+//! The functions do nothing: their contracts are the laws.
 #![tactic(auto)]
 
-ghost use Rattle.std.specs.Prelude.{Bool, IfSome, List};
+ghost use Rattle.std.specs.Prelude.{◌≡◌, ◌≢◌, ◌∷◌, ◌⊎◌, Bool, IfSome, List};
+ghost use Rattle.ge_base.specs.declared.refusal.Refusal.{Refusal};
 ghost use Rattle.ge_rows.specs.Opening.{opening_cluster};
 ghost use Rattle.ge_rows.specs.declared.cluster.Cluster.{Cluster};
 ghost use Rattle.ge_rows.specs.declared.events.Event.{Event};
-ghost use Rattle.ge_model_cluster.specs.Applying.{after_entry};
+ghost use Rattle.ge_model_cluster.specs.Applying.{after_entry as first_after_entry};
 ghost use Rattle.ge_model_cluster.specs.Soundness.{IsSound};
-ghost use Rattle.ge_model_plan.specs.Plan.{plan_of};
-ghost use Rattle.ge_model_plan.specs.Trace.{cluster_after};
+ghost use Rattle.ge_model_plan.specs.Plan.{plan_of as first_plan_of};
+ghost use Rattle.ge_model_plan.specs.Refusals.{refused};
+ghost use Rattle.ge_model_plan.specs.Trace.{cluster_after as first_cluster_after};
+ghost use Rattle.ge_model_jobs.specs.Applying.{after_entry};
+ghost use Rattle.ge_model_jobs.specs.Orderly.{IsOrdered};
+ghost use Rattle.ge_model_master.specs.Built.{built_plan_of};
+ghost use Rattle.ge_model_master.specs.Plan.{plan_of};
+ghost use Rattle.ge_model_master.specs.Trace.{cluster_after};
 
-/// The opening cluster is sound, and a sound cluster is sound after each entry that the plan of an event gives. So
-/// is the cluster after any trace, also one in which memory was wanting for some of the events.
+/// The opening cluster is sound, and a sound cluster whose jobs are in order is so after each entry that the plan of
+/// an event gives: the plan of every command, and that of the commands which are built. So is the cluster after any
+/// trace, also one in which memory was wanting for some of the events.
 ///
 /// In a sound cluster the number of each live job is below the next job's; each live job has a task, and each of its
 /// tasks is in its span and waits, is in error or runs, just one of these; the serials of running tasks are at least
-/// 1, below the next one, and differ; and no job was submitted and no task started after the last entry.
+/// 1, below the next one, and differ; and no job was submitted and no task started after the last entry. Its jobs are
+/// in order where they stand by rising number, and each has its sets of tasks in their one form and its running tasks
+/// by rising number.
 pub fn sound_clusters_stay_sound()
-    ensures opening { IsSound opening_cluster }
-    ensures entries { (c : Cluster) (e : Event) → IsSound c → IfSome (plan_of c e).entry (λ entry. IsSound (after_entry c entry)) }
-    ensures traces { (events : List Event) (marks : List Bool) → IsSound (cluster_after opening_cluster events marks) }
+    ensures opening { IsSound opening_cluster × IsOrdered opening_cluster }
+    ensures entries { (c : Cluster) (e : Event) → IsSound c → IsOrdered c → IfSome (plan_of c e).entry (λ entry. IsSound (after_entry c entry) × IsOrdered (after_entry c entry)) }
+    ensures built { (c : Cluster) (e : Event) → IsSound c → IsOrdered c → IfSome (built_plan_of c e).entry (λ entry. IsSound (after_entry c entry) × IsOrdered (after_entry c entry)) }
+    ensures traces { (events : List Event) (marks : List Bool) → IsSound (cluster_after plan_of opening_cluster events marks) }
+    ensures built_traces { (events : List Event) (marks : List Bool) → IsSound (cluster_after built_plan_of opening_cluster events marks) }
+{}
+
+/// Every event is accepted, with code 0, or refused: then it has no entry, and the master goes on. So a trace in which an
+/// event was refused leaves the cluster that it leaves without that event. By the plan of every command, and by that of
+/// the commands which are built.
+pub fn refused_events_change_nothing()
+    ensures answers { (c : Cluster) (e : Event) → ((plan_of c e).reply.code ≡ 0) ⊎ ((refusal : Refusal) × (plan_of c e ≡ refused refusal)) }
+    ensures built { (c : Cluster) (e : Event) → ((built_plan_of c e).reply.code ≡ 0) ⊎ ((refusal : Refusal) × (built_plan_of c e ≡ refused refusal)) }
+    ensures traces { (c : Cluster) (e : Event) (events : List Event) (mark : Bool) (marks : List Bool) → (plan_of c e).reply.code ≢ 0
+        → cluster_after plan_of c (e ∷ events) (mark ∷ marks) ≡ cluster_after plan_of c events marks }
+    ensures built_traces { (c : Cluster) (e : Event) (events : List Event) (mark : Bool) (marks : List Bool) → (built_plan_of c e).reply.code ≢ 0
+        → cluster_after built_plan_of c (e ∷ events) (mark ∷ marks) ≡ cluster_after built_plan_of c events marks }
+{}
+
+/// Soundness by the first path's definitions, of every sound cluster: they need no order of the jobs.
+pub fn the_first_path_stays_sound()
+    ensures entries { (c : Cluster) (e : Event) → IsSound c → IfSome (first_plan_of c e).entry (λ entry. IsSound (first_after_entry c entry)) }
+    ensures traces { (events : List Event) (marks : List Bool) → IsSound (first_cluster_after opening_cluster events marks) }
 {}

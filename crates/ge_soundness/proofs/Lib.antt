@@ -1,0 +1,16 @@
+pub mod Brought
+pub mod ChangesParts
+pub mod ChangesJobs
+pub mod ChangesTables
+pub mod ChangesStarts
+pub mod Changes
+pub mod PlansAnswers
+pub mod PlansRuns
+pub mod PlansRanges
+pub mod PlansSubmissions
+pub mod PlansTargets
+pub mod PlansCommands
+pub mod PlansJobs
+pub mod PlansSite
+pub mod Plans
+pub mod Traces
