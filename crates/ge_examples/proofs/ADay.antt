@@ -1,9 +1,17 @@
 -- A day of a small site: hosts, a group, an environment, two queues and a quota, and what is answered to twelve jobs.
-use Rattle.std.specs.Prelude.{◌≡◌, ◌++◌, codes, refl}
-use Rattle.ge_model_master.specs.Scripts.{written_for}
+use Rattle.std.specs.Prelude.{◌≡◌, ◌++◌, ℕ, List, [], ◌∷◌, codes, refl}
+use Rattle.ge_rows.specs.declared.cluster.Cluster.{Cluster}
+use Rattle.ge_rows.specs.declared.hosts.InstanceId.{InstanceId}
+use Rattle.ge_rows.specs.declared.tasks.TaskId.{TaskId}
+use Rattle.ge_model_site.specs.Groups.{expanded}
+use Rattle.ge_model_order.specs.Priority.{prios_at, order_of, order_of_runs}
+use Rattle.ge_model_place.specs.InstanceOrder.{instance_order}
+use Rattle.ge_model_place.specs.Running.{runs_in_full}
+use Rattle.ge_model_master.specs.Scripts.{written_for, left_by}
 
--- the site, the jobs, two runs, an end and its accounting; then the environment and a host as they are printed
-a_day : written_for (
+-- the site as it is configured, the loads of its hosts, and the jobs
+unfoldable morning : List ℕ
+morning =
     codes "@0 root root\nqconf -Ac\nmem mem MEMORY <= YES YES 1G 0\n"
     ++ codes "@0 root root\nqconf -Ae\nhostname n1\ncomplex_values mem=8G\n"
     ++ codes "@0 root root\nqconf -Ae\nhostname n2\ncomplex_values mem=8G\n"
@@ -29,6 +37,10 @@ a_day : written_for (
     ++ codes "@10 cy lab\nqsub -N later -a 5000 later.sh\n"
     ++ codes "@10 cy lab\nqsub -N held -h held.sh\n"
     ++ codes "@10 cy lab\nqsub -N last last.sh\n"
+
+-- the site, the jobs, two runs, an end and its accounting; then the environment and a host as they are printed
+a_day : written_for (
+    morning
     ++ codes "@20 root root\nsched\n"
     ++ codes "@700 root root\nend 2 0 580 0 0\n"
     ++ codes "@700 root root\nsched\n"
@@ -66,5 +78,28 @@ a_day : written_for (
     ++ codes "0 1\nann 1 680 580 0 0\n"
     ++ codes "0 6\npe_name smp\nslots 100\nuser_lists NONE\nxuser_lists NONE\nallocation_rule $pe_slots\nurgency_slots min\n"
     ++ codes "0 2\nhostname n3\ncomplex_values mem=4294967296\n"
-unfolding written_for
+unfolding written_for morning
 a_day = refl
+
+abbrev task : ℕ → ℕ → TaskId
+task job number = record { job = job; task = number }
+
+abbrev at : List ℕ → List ℕ → InstanceId
+at queue host = record { queue = queue; host = host }
+
+-- the site before its first run
+unfoldable site : Cluster
+unfolding left_by morning
+site = left_by morning
+
+-- the order of the first run: job 3 waits for job 2, job 10 for its time, and job 11 is held
+the_order_of_the_first_run : order_of site (prios_at site 20) 20
+    ≡ task 4 1 ∷ task 1 1 ∷ task 2 1 ∷ task 2 2 ∷ task 2 3 ∷ task 2 4 ∷ task 5 1 ∷ task 6 1 ∷ task 7 1 ∷ task 8 1 ∷ task 12 1 ∷ task 9 1 ∷ []
+unfolding site order_of_runs
+the_order_of_the_first_run = refl
+
+-- the order of the instances: the least loaded host first, then by seq_no
+the_order_of_the_instances : instance_order site (expanded site)
+    ≡ at (codes "long.q") (codes "n3") ∷ at (codes "short.q") (codes "n3") ∷ at (codes "long.q") (codes "n2") ∷ at (codes "long.q") (codes "n1") ∷ []
+unfolding site runs_in_full
+the_order_of_the_instances = refl

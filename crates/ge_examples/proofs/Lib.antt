@@ -1,5 +1,6 @@
 mod Submissions
 mod Runs
+mod Amounts
 mod Requests
 mod ADay
 mod Reservations

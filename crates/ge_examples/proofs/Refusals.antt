@@ -1,6 +1,7 @@
--- Each refusal, by one command that meets it.
+-- Each refusal, by one command that meets it; and that each leaves the cluster as it was.
 use Rattle.std.specs.Prelude.{◌≡◌, ◌++◌, replicate, codes, refl}
-use Rattle.ge_model_master.specs.Scripts.{written_for}
+use Rattle.ge_model_value.specs.Complexes.{opening}
+use Rattle.ge_model_master.specs.Scripts.{written_for, left_by}
 
 -- -N has a word
 an_option_without_its_word : written_for (
@@ -102,3 +103,41 @@ a_moment_before_the_last_one = refl
 a_line_too_long : written_for (codes "@0 ann staff\n" ++ replicate 65537 120 ++ codes "\n") ≡ codes "12 1\ntext too long\n"
 unfolding written_for
 a_line_too_long = refl
+
+-- commands that are refused on the opening cluster leave it
+the_opening_cluster_is_left : left_by (
+    codes "@0 ann staff\nqsub -N\n"
+    ++ codes "@0 ann staff\nqwhat\n"
+    ++ codes "@0 ann staff\n" ++ replicate 65537 120 ++ codes "\n"
+    ++ codes "@0 ann staff\nqdel 5\n"
+    ++ codes "@0 ann staff\nsched\n"
+    ++ codes "@0 root root\nqconf -Ae\nhostname local\n"
+    ++ codes "@0 root root\nqconf -de local\n"
+    ++ codes "@0 root root\nqsub -p 2000 x\n"
+    ++ codes "@0 ann staff\nqsub -l load_avg=1 x\n"
+    ++ codes "@0 ann staff\nqsub -t 1-75001 x\n")
+    ≡ opening
+unfolding left_by opening
+the_opening_cluster_is_left = refl
+
+-- those that are refused beside jobs leave these
+the_jobs_are_left : left_by (
+    codes "@10 ann staff\nqsub x\n"
+    ++ codes "@10 ann staff\nqsub -hold_jid 1 x\n"
+    ++ codes "@10 ann staff\nqalter -hold_jid 2 1\n"
+    ++ codes "@10 bob staff\nqalter 1\n"
+    ++ codes "@9 ann staff\nqstat\n"
+    ++ codes "@10 root root\nend 1 0 0 0 0\n")
+    ≡ left_by (codes "@10 ann staff\nqsub x\n" ++ codes "@10 ann staff\nqsub -hold_jid 1 x\n")
+unfolding left_by
+the_jobs_are_left = refl
+
+-- so does a second report of an end
+a_stale_report_leaves_the_rest : left_by (
+    codes "@10 ann staff\nqsub x\n"
+    ++ codes "@20 root root\nsched\n"
+    ++ codes "@50 root root\nend 1 0 12 0 0\n"
+    ++ codes "@51 root root\nend 1 0 12 0 0\n")
+    ≡ left_by (codes "@10 ann staff\nqsub x\n" ++ codes "@20 root root\nsched\n" ++ codes "@50 root root\nend 1 0 12 0 0\n")
+unfolding left_by
+a_stale_report_leaves_the_rest = refl

@@ -4,12 +4,9 @@ use Rattle.ge_model_text.specs.Words.{words_of, texts_of}
 use Rattle.ge_model_text.specs.Pattern.{pattern_covers}
 use Rattle.ge_model_text.specs.Reading.{reading}
 use Rattle.ge_model_text.specs.declared.Form.TheVariants.{Int, Time, Memory, Fixed}
-use Rattle.ge_model_text.specs.declared.ValueFault.TheVariants.{Empty, Digit, TooLarge}
+use Rattle.ge_model_text.specs.declared.ValueFault.TheVariants.{Digit, TooLarge}
 
 -- words
-
-open_quote : words_of (codes "a 'b c") ≡ Err 2
-open_quote = refl
 
 three_words : words_of (codes " a 'b c'  de") ≡ Ok (record { from = 1; to = 2 } ∷ record { from = 4; to = 7 } ∷ record { from = 10; to = 12 } ∷ [])
 three_words = refl
@@ -57,15 +54,6 @@ one_byte = refl
 
 -- amounts
 
-clock : reading Time (codes "1::1") ≡ Ok 3601
-clock = refl
-
-five_minutes : reading Time (codes "0:05:00") ≡ Ok 300
-five_minutes = refl
-
-no_end : reading Time (codes "INFINITY") ≡ Ok 281474976710655
-no_end = refl
-
 colons_alone : reading Time (codes "::") ≡ Ok 0
 colons_alone = refl
 
@@ -78,26 +66,8 @@ fourth_group = refl
 short_infinity : reading Time (codes "INFINITE") ≡ Err (Digit 7)
 short_infinity = refl
 
-one_and_a_half_gigabytes : reading Memory (codes "1.5G") ≡ Ok 1610612736
-one_and_a_half_gigabytes = refl
-
-two_thousand : reading Memory (codes "2k") ≡ Ok 2000
-two_thousand = refl
-
-two_kibibytes : reading Memory (codes "2K") ≡ Ok 2048
-two_kibibytes = refl
-
-rounded_down : reading Memory (codes "1.5") ≡ Ok 1
-rounded_down = refl
-
 rounded_after_the_factor : reading Memory (codes "0.999999K") ≡ Ok 1023
 rounded_after_the_factor = refl
-
-no_text : reading Memory [] ≡ Err Empty
-no_text = refl
-
-seventh_digit : reading Memory (codes "1.0000001") ≡ Err (Digit 8)
-seventh_digit = refl
 
 point_at_the_end : reading Memory (codes "1.") ≡ Err (Digit 2)
 point_at_the_end = refl
@@ -107,12 +77,6 @@ letter_behind_a_point = refl
 
 two_letters : reading Memory (codes "1KB") ≡ Err (Digit 2)
 two_letters = refl
-
-greatest : reading Memory (codes "281474976710655") ≡ Ok 281474976710655
-greatest = refl
-
-too_large : reading Memory (codes "281474976710656") ≡ Err TooLarge
-too_large = refl
 
 too_large_by_its_letter : reading Memory (codes "262144G") ≡ Err TooLarge
 too_large_by_its_letter = refl
