@@ -26,8 +26,9 @@ fn is_simulate(words: &Vec<String>) -> bool
 }
 
 /// Does what the words after the program's name say, and answers with the program's status: 2 exactly where the words are
-/// no line of the table of words, and then nothing is read or written. `input` and `output` are the standard streams,
-/// `a` and `b` the two areas of the spool, `door` where connections come in.
+/// no line of the table of words, and then nothing of the outside is touched. `input` and `output` are the standard
+/// streams, and all that `simulate` touches; `a` and `b` are the two areas of the spool, `door` is where connections
+/// come in.
 pub fn gridmaster<S: Source, K: Sink, D: Disk, L: Door, C: Clock>(
     alloc: Global,
     words: &Vec<String>,
@@ -39,12 +40,12 @@ pub fn gridmaster<S: Source, K: Sink, D: Disk, L: Door, C: Clock>(
     clock: &mut C,
 ) -> u8
     ensures usage { (result ≡ 2) ↔ ¬ (IsLine (map string_bytes words.now.items)) }
-    ensures unread { result ≡ 2 → S.rest input.new ≡ S.rest input.old }
-    ensures unwritten { result ≡ 2 → K.written output.new ≡ K.written output.old }
+    ensures unread { result ≡ 2 → input.new ≡ input.old }
+    ensures unwritten { result ≡ 2 → output.new ≡ output.old }
+    ensures alone { result ≡ 2 → (a.new ≡ a.old) × (b.new ≡ b.old) × (door.new ≡ door.old) × (clock.new ≡ clock.old) }
     ensures simulated { IsSimulate (map string_bytes words.now.items) → Simulates result (S.rest input.old) (S.rest input.new) (S.read_faults input.old) (S.read_faults input.new)
         (K.written output.old) (K.written output.new) (K.write_faults output.old) (K.write_faults output.new) }
-    ensures area_a { IsSimulate (map string_bytes words.now.items) → D.told a.new ≡ D.told a.old }
-    ensures area_b { IsSimulate (map string_bytes words.now.items) → D.told b.new ≡ D.told b.old }
+    ensures simulated_alone { IsSimulate (map string_bytes words.now.items) → (a.new ≡ a.old) × (b.new ≡ b.old) × (door.new ≡ door.old) × (clock.new ≡ clock.old) }
 {
     if is_simulate(words) {
         simulate(alloc, input, output)
