@@ -57,12 +57,17 @@ use Rattle.ge_model_master.specs.Submitting.{job_of, submit_plan}
 use Rattle.std.specs.Fmt.{digits}
 use Rattle.ge_model_master.specs.Trace.{output, cluster_after}
 
+-- all large definitions of the model
+unfoldable pub model_in_full : Unit {0}
+unfolding default_queue default_sched opening_cluster opening_complexes events_of rendered opening members_of expanded instances_of resolved with_job with_altered with_held with_freed after_change after_entry changes_in_full with_item without_item with_load with_end with_deleted with_cleared eligible_tasks with_run is_candidate prios_of prios_at order_of order_of_runs share_tickets_of tree_of tickets_of urgency_of instance_order counted_at demands_of reaches_threshold is_open placement run_of runs_in_full base_bookings attribute_body rule_set_body node_body complex_body body_of grammar_of_bodies script_options submit_of alter_of delete_of clear_of hold_of show_of account_of load_of end_of orders_of dispatch_of command_of grammar_of_commands config_of rule_of read_options merged complexes_item host_item group_item pe_item set_item user_item project_item printed item_at queue_read queue_item quota_item item_of items_of_bodies request_of sched_item shares_item is_used is_there line_text account_of_of_report listing_of listings_in_full orders_of_of_report task_lines alter_plan body_plan remove_plan print_plan delete_plan clear_plan hold_plan release_plan plan_of load_plan end_plan orders_plan task_plan stop_plan decisions_at sched_plan show_plan account_plan job_of submit_plan digits
+model_in_full = tt
+
 -- the output of the events of a script, from the opening cluster on
 unfoldable pub written_for : List ℕ → List ℕ
-unfolding default_queue default_sched opening_cluster opening_complexes events_of rendered opening members_of expanded instances_of resolved with_job with_altered with_held with_freed after_change after_entry changes_in_full with_item without_item with_load with_end with_deleted with_cleared eligible_tasks with_run is_candidate prios_of prios_at order_of order_of_runs share_tickets_of tree_of tickets_of urgency_of instance_order counted_at demands_of reaches_threshold is_open placement run_of runs_in_full base_bookings attribute_body rule_set_body node_body complex_body body_of grammar_of_bodies script_options submit_of alter_of delete_of clear_of hold_of show_of account_of load_of end_of orders_of dispatch_of command_of grammar_of_commands config_of rule_of read_options merged complexes_item host_item group_item pe_item set_item user_item project_item printed item_at queue_read queue_item quota_item item_of items_of_bodies request_of sched_item shares_item is_used is_there line_text account_of_of_report listing_of listings_in_full orders_of_of_report task_lines alter_plan body_plan remove_plan print_plan delete_plan clear_plan hold_plan release_plan plan_of load_plan end_plan orders_plan task_plan stop_plan decisions_at sched_plan show_plan account_plan job_of submit_plan digits
+unfolding model_in_full
 written_for script = let events = events_of script in output plan_of opening events (replicate (length events) true)
 
 -- the cluster after the events of a script, from the opening cluster on
 unfoldable pub left_by : List ℕ → Cluster
-unfolding default_queue default_sched opening_cluster opening_complexes events_of rendered opening members_of expanded instances_of resolved with_job with_altered with_held with_freed after_change after_entry changes_in_full with_item without_item with_load with_end with_deleted with_cleared eligible_tasks with_run is_candidate prios_of prios_at order_of order_of_runs share_tickets_of tree_of tickets_of urgency_of instance_order counted_at demands_of reaches_threshold is_open placement run_of runs_in_full base_bookings attribute_body rule_set_body node_body complex_body body_of grammar_of_bodies script_options submit_of alter_of delete_of clear_of hold_of show_of account_of load_of end_of orders_of dispatch_of command_of grammar_of_commands config_of rule_of read_options merged complexes_item host_item group_item pe_item set_item user_item project_item printed item_at queue_read queue_item quota_item item_of items_of_bodies request_of sched_item shares_item is_used is_there line_text account_of_of_report listing_of listings_in_full orders_of_of_report task_lines alter_plan body_plan remove_plan print_plan delete_plan clear_plan hold_plan release_plan plan_of load_plan end_plan orders_plan task_plan stop_plan decisions_at sched_plan show_plan account_plan job_of submit_plan digits
+unfolding model_in_full
 left_by script = let events = events_of script in cluster_after plan_of opening events (replicate (length events) true)

@@ -31,18 +31,18 @@ ghost use Rattle.ge_model_master.specs.Trace.{cluster_after};
 /// tasks is in its span and waits, is in error or runs, just one of these; the serials of running tasks are at least
 /// 1, below the next one, and differ; and no job was submitted and no task started after the last entry. Its jobs are
 /// in order where they stand by rising number, and each has its sets of tasks in their one form and its running tasks
-/// by rising number.
+/// by rising number, as the tables and sets of a program do.
 pub fn sound_clusters_stay_sound()
     ensures opening { IsSound opening_cluster × IsOrdered opening_cluster }
     ensures entries { (c : Cluster) (e : Event) → IsSound c → IsOrdered c → IfSome (plan_of c e).entry (λ entry. IsSound (after_entry c entry) × IsOrdered (after_entry c entry)) }
     ensures built { (c : Cluster) (e : Event) → IsSound c → IsOrdered c → IfSome (built_plan_of c e).entry (λ entry. IsSound (after_entry c entry) × IsOrdered (after_entry c entry)) }
-    ensures traces { (events : List Event) (marks : List Bool) → IsSound (cluster_after plan_of opening_cluster events marks) }
-    ensures built_traces { (events : List Event) (marks : List Bool) → IsSound (cluster_after built_plan_of opening_cluster events marks) }
+    ensures traces { (events : List Event) (marks : List Bool) → IsSound (cluster_after plan_of opening_cluster events marks) × IsOrdered (cluster_after plan_of opening_cluster events marks) }
+    ensures built_traces { (events : List Event) (marks : List Bool) → IsSound (cluster_after built_plan_of opening_cluster events marks) × IsOrdered (cluster_after built_plan_of opening_cluster events marks) }
 {}
 
-/// Every event is accepted, with code 0, or refused: then it has no entry, and the master goes on. So a trace in which an
-/// event was refused leaves the cluster that it leaves without that event. By the plan of every command, and by that of
-/// the commands which are built.
+/// Every event is accepted, with code 0, or refused: then it has no entry, and the master goes on. So from any cluster
+/// a trace that begins with a refused event leaves what the rest of it leaves. By the plan of every command, and by
+/// that of the commands which are built.
 pub fn refused_events_change_nothing()
     ensures answers { (c : Cluster) (e : Event) → ((plan_of c e).reply.code ≡ 0) ⊎ ((refusal : Refusal) × (plan_of c e ≡ refused refusal)) }
     ensures built { (c : Cluster) (e : Event) → ((built_plan_of c e).reply.code ≡ 0) ⊎ ((refusal : Refusal) × (built_plan_of c e ≡ refused refusal)) }

@@ -6,13 +6,13 @@ use std::test::Fail;
 
 /// What a run answered and wrote.
 #[derive(Drop)]
-pub struct Outcome {
-    pub status: u8,
-    pub written: Vec<u8>,
+pub(crate) struct Outcome {
+    pub(crate) status: u8,
+    pub(crate) written: Vec<u8>,
 }
 
 /// A run over a script, whose reads and writes with these numbers fail.
-pub fn run_with_faults(
+pub(crate) fn run_with_faults(
     alloc: Global,
     script: &[u8],
     reads: &[u64],
@@ -31,7 +31,7 @@ pub fn run_with_faults(
 }
 
 /// A run without faults.
-pub fn run(alloc: Global, script: &[u8]) -> Result<Outcome, AllocError> {
+pub(crate) fn run(alloc: Global, script: &[u8]) -> Result<Outcome, AllocError> {
     run_with_faults(alloc, script, &[], &[])
 }
 

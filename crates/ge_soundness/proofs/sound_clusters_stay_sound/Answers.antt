@@ -16,7 +16,7 @@ pub returns-clause-built : goal.returns-clause-built
 returns-clause-built c = entry_kept built_plan_of built_planned
 
 pub returns-clause-traces : goal.returns-clause-traces
-returns-clause-traces c = λ events marks. (trace_kept plan_of planned marks opening_cluster events (opening_is_sound, opening_ordered)).0
+returns-clause-traces c = λ events marks. trace_kept plan_of planned marks opening_cluster events (opening_is_sound, opening_ordered)
 
 pub returns-clause-built_traces : goal.returns-clause-built_traces
-returns-clause-built_traces c = λ events marks. (trace_kept built_plan_of built_planned marks opening_cluster events (opening_is_sound, opening_ordered)).0
+returns-clause-built_traces c = λ events marks. trace_kept built_plan_of built_planned marks opening_cluster events (opening_is_sound, opening_ordered)
