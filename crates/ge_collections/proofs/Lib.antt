@@ -1,2 +1,9 @@
+pub mod Alike
 pub mod Changed
 pub mod Copied
+pub mod Found
+pub mod Gathered
+pub mod Moves
+pub mod Noted
+pub mod Between
+pub mod Rows

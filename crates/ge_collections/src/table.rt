@@ -1,41 +1,76 @@
 // A map in the order of its keys, with an owner.
-ghost use Rattle.std.specs.Prelude.{◌≡◌, ℕ, ◌+◌, ◌^◌, ◌<◌, ◌≤◌, [], ◌∷◌, ◌++◌, length, IfOk, OnOk, OnErr, IsTrue, ◌↔◌, IsSome, is_some, ◌&&◌};
-ghost use Rattle.std.specs.Option.{option_copied};
+ghost use Rattle.std.specs.Prelude.{All, cond, None, Some, ◌≡◌, ℕ, ◌+◌, ◌^◌, ◌<◌, ◌≤◌, [], ◌∷◌, ◌++◌, length, IfOk, OnOk, OnErr, IsTrue, ◌↔◌, IsSome, is_some, ◌&&◌};
+ghost use Rattle.std.specs.Option.{option_copied, option_map};
 ghost use Rattle.std.specs.Cmp.Lexicographic.{pointwise, lists_equiv, lists_per};
 ghost use Rattle.std.specs.Cmp.{on_equiv, and_equiv, on_per, and_per};
 ghost use Rattle.std.specs.List.Sorted.{IsStrictlySortedBy};
 ghost use Rattle.std.specs.Map.{lookup, remove_entry, keys_of, values_of};
 ghost use Rattle.std.specs.Map.Iter.{ShowsInOrder, ShowsValuesInOrder, ShowsInReverse, deref, deref_pair, GivesInOrder};
 ghost use Rattle.std.specs.BTreeMap.{insert_entry, is_at};
-ghost use Rattle.ge_collections.specs.Changed.{change_value};
+ghost use Rattle.std.specs.BTreeMap.Range.{IsLeBy, IsLtBy, entries_between, EntryPlaces};
+ghost use Rattle.ge_collections.specs.Changed.{ChangesAt, change_value};
 
 use crate::edit::{Edit, TryEdit};
+use crate::kept::{Kept, gain, lose, make_room, shift};
+use crate::ledger::Ledger;
+use crate::moved::{make, try_make};
+use crate::row::Row;
+use crate::sums::Sums;
+use crate::twin::Twin;
 use std::alloc::{AllocError, Global};
 use std::collections::BTreeMap;
-use std::collections::btree_map::{IntoIter, Iter, Keys, Values};
+use std::collections::btree_map::{IntoIter, Iter, Keys, Range, Values};
+use std::fmt::{self, Debug, Formatter, Write};
 use std::marker::Model;
+use std::ops::RangeBounds;
 
 /// A map in the order of its keys. Contracts see the list of its pairs, whose keys strictly rise.
-#[derive(Debug, Drop)]
-pub struct Table<K: Ord, V> {
-    rows: BTreeMap<K, V>,
+///
+/// Beside its rows it keeps the sums of their weights and a ledger of their marks, so that questions about these need no
+/// walk. Where there was no memory for the ledger once, or a sum didn't fit, the same questions walk the rows: no call
+/// fails for it.
+#[derive(Drop)]
+pub struct Table<K: Ord, V: Row> {
+    pub(crate) alloc: Global,
+    pub(crate) rows: BTreeMap<K, V>,
+    pub(crate) kept: Kept<K, V::Mark>,
 }
 
-impl<K: Ord, V> Model for Table<K, V> {
-    ghost use Rattle.std.specs.Prelude.{List};
+impl<K: Ord, V: Row> Model for Table<K, V> {
+    ghost use Rattle.std.specs.Prelude.{List, All};
+    ghost use Rattle.std.specs.BTreeMap.{is_at};
+    ghost use Rattle.std.specs.Map.{lookup, values_of};
+    ghost use Rattle.ge_collections.specs.Kept.{AreSums, Tells, times_at, weight_of};
 
     ghost Value = { List (K × V) };
 
     ghost view = { λ t. t.rows.entries };
+
+    ghost invariant = { λ t.
+        AreSums t.kept.sums.whole t.kept.sums.first t.kept.sums.second (weight_of (λ row. (V.weights row).0) t.rows.entries) (weight_of (λ row. (V.weights row).1) t.rows.entries)
+        × Tells K.cmp V.Mark.cmp t.kept.ledger.whole t.kept.ledger.bearers.entries (λ mark key. times_at V.Mark.cmp V.marks mark (lookup (is_at (K.cmp key)) t.rows.entries))
+        × All V.IsOrderly (values_of t.rows.entries) };
 }
 
-impl<K: Ord, V> Table<K, V> {
+impl<K: Ord, V: Row> Table<K, V> {
     /// The table of no pairs, which takes no memory.
     pub fn new(alloc: Global) -> Table<K, V>
         ensures { result ≡ [] }
     {
         Table {
+            alloc,
             rows: BTreeMap::new(alloc),
+            kept: Kept {
+                sums: Sums {
+                    whole: true,
+                    first: 0,
+                    second: 0,
+                },
+                ledger: Ledger {
+                    whole: true,
+                    bearers: BTreeMap::new(alloc),
+                },
+            },
         }
     }
 
@@ -98,14 +133,40 @@ impl<K: Ord, V> Table<K, V> {
         self.rows.values()
     }
 
+    /// The pairs whose keys lie in a range, in the order of their keys.
+    pub fn range<R: RangeBounds<K> + Drop>(&self, range: R) -> Range<'_, K, V>
+        requires { R.is_forward range (IsLeBy K.cmp) (IsLtBy K.cmp) }
+        ensures between { R.has_bounds range → result
+            ≡ entries_between K.cmp (R.start_bound range) (R.end_bound range) self.now }
+        ensures runs { ShowsInOrder (deref_pair {K = K} {X = V}) }
+        ensures runs_back { ShowsInReverse (deref_pair {K = K} {X = V}) }
+        ensures fits { length result < 2 ^ 63 }
+        ensures rising { IsStrictlySortedBy K.cmp (keys_of self.now) }
+        ensures places { EntryPlaces self.now result }
+    {
+        self.rows.range(range)
+    }
+
+    /// Does nothing. Its clauses tell what holds of every table: its keys rise, and each row is as its own types keep it.
+    pub fn orderly(&self)
+        ensures rising { IsStrictlySortedBy K.cmp (keys_of self.now) }
+        ensures rows { All V.IsOrderly (values_of self.now) }
+    {
+        let _count = self.rows.len();
+    }
+}
+
+impl<K: Ord + Twin + Drop, V: Row> Table<K, V> {
     /// Changes the value at a key where it lies, and tells whether there is one.
     pub fn change<E: Edit<V>>(&mut self, key: &K, edit: &E) -> bool
         ensures found { IsTrue result ↔ IsSome (lookup (is_at (K.cmp key.now)) self.old) }
         ensures changed { self.new ≡ change_value (is_at (K.cmp key.now)) (E.edited edit.now) self.old }
+        ensures updates { ChangesAt K.cmp key.now (option_map (E.edited edit.now)) self.old self.new }
     {
         match self.rows.get_mut(key) {
             Some(row) => {
-                edit.edit(row);
+                let moved = make(self.alloc, edit, row);
+                shift(self.alloc, &mut self.kept, key, moved);
                 true
             }
             None => false,
@@ -120,12 +181,17 @@ impl<K: Ord, V> Table<K, V> {
         edit: &E,
     ) -> Result<bool, AllocError>
         ensures found { IfOk result (λ found. IsTrue found ↔ IsSome (lookup (is_at (K.cmp key.now)) self.old)) }
-        ensures changed { OnOk result (self.new ≡ change_value (is_at (K.cmp key.now)) (E.edited edit.now) self.old) }
+        ensures changed { OnOk result (self.new
+            ≡ change_value (is_at (K.cmp key.now)) (E.edited edit.now) self.old) }
+        ensures updates { OnOk result (ChangesAt K.cmp key.now (option_map (E.edited edit.now)) self.old self.new) }
         ensures err { OnErr result (self.new ≡ self.old) }
     {
         match self.rows.get_mut(key) {
-            Some(row) => match edit.try_edit(alloc, row) {
-                Ok(()) => Ok(true),
+            Some(row) => match try_make(alloc, edit, row) {
+                Ok(moved) => {
+                    shift(alloc, &mut self.kept, key, moved);
+                    Ok(true)
+                }
                 Err(want) => Err(want),
             },
             None => Ok(false),
@@ -133,29 +199,47 @@ impl<K: Ord, V> Table<K, V> {
     }
 }
 
-impl<K: Ord + Drop, V> Table<K, V> {
+impl<K: Ord + Drop, V: Row> Table<K, V> {
     /// Takes the pair with this key out, and gives its value.
     pub fn remove(&mut self, key: &K) -> Option<V>
         ensures value { result ≡ lookup (is_at (K.cmp key.now)) self.old }
         ensures rest { self.new ≡ remove_entry (is_at (K.cmp key.now)) self.old }
+        ensures updates { ChangesAt K.cmp key.now (λ _. None) self.old self.new }
     {
-        self.rows.remove(key)
+        match self.rows.remove(key) {
+            Some(row) => {
+                lose(self.alloc, &mut self.kept, key, &row);
+                Some(row)
+            }
+            None => None,
+        }
     }
 }
 
-impl<K: Ord + Drop, V: Drop> Table<K, V> {
+impl<K: Ord + Twin + Drop, V: Row + Drop> Table<K, V> {
     /// Puts a value at a key and gives the one that stood there. A key that stands stays as it is. A pair that
     /// finds no memory is dropped.
     pub fn insert(&mut self, key: K, value: V) -> Result<Option<V>, AllocError>
         ensures before { IfOk result (λ before. before ≡ lookup (is_at (K.cmp key)) self.old) }
         ensures ok { OnOk result (self.new ≡ insert_entry K.cmp self.old key value) }
+        ensures updates { OnOk result (ChangesAt K.cmp key (λ _. Some value) self.old self.new) }
         ensures err { OnErr result (self.new ≡ self.old) }
     {
-        Ok(self.rows.insert(key, value)?)
+        value.orderly();
+        make_room(self.alloc, &mut self.kept, &self.rows, &key);
+        gain(self.alloc, &mut self.kept, &key, &value);
+        match self.rows.insert(key, value) {
+            Ok(before) => Ok(before),
+            Err(refused) => {
+                let (key, value) = refused.value;
+                lose(self.alloc, &mut self.kept, &key, &value);
+                Err(AllocError)
+            }
+        }
     }
 }
 
-impl<K: Ord, V: PartialEq> PartialEq for Table<K, V> {
+impl<K: Ord, V: Row + PartialEq> PartialEq for Table<K, V> {
     ghost eq = { pointwise (λ p q. K.eq p.0 q.0 && V.eq p.1 q.1) };
 
     ghost laws = { lists_per (and_per (on_per (λ p. p.0) K.PartialEq.laws) (on_per (λ p. p.1) V.laws)) };
@@ -165,6 +249,12 @@ impl<K: Ord, V: PartialEq> PartialEq for Table<K, V> {
     }
 }
 
-impl<K: Ord, V: Eq> Eq for Table<K, V> {
+impl<K: Ord, V: Row + Eq> Eq for Table<K, V> {
     ghost laws = { lists_equiv (and_equiv (on_equiv (λ p. p.0) K.Eq.laws) (on_equiv (λ p. p.1) V.Eq.laws)) };
+}
+
+impl<K: Ord + Debug, V: Row + Debug> Debug for Table<K, V> {
+    fn fmt<W: Write>(&self, f: &mut Formatter<W>) -> fmt::Result {
+        f.debug_struct("Table").field("rows", &self.rows).finish()
+    }
 }

@@ -3,6 +3,7 @@ ghost use Rattle.std.specs.Prelude.{◌≡◌, ◌++◌, ◌∷◌, [], IfOk, On
 ghost use Rattle.std.specs.BTreeMap.{insert_entry};
 
 use crate::list::List;
+use crate::row::Row;
 use crate::table::Table;
 use crate::text::Text;
 use std::alloc::{AllocError, Global};
@@ -12,6 +13,12 @@ pub trait Twin: Sized {
     /// A value equal to this one.
     fn twin(&self, alloc: Global) -> Result<Self, AllocError>
         ensures { IfOk result (λ copy. copy ≡ self.now) };
+}
+
+impl Twin for () {
+    fn twin(&self, _alloc: Global) -> Result<(), AllocError> {
+        Ok(())
+    }
 }
 
 impl Twin for bool {
@@ -94,7 +101,7 @@ impl<T: Twin + Drop> Twin for List<T> {
 }
 
 // One more pair for a copy.
-fn twin_pair<K: Ord + Twin + Drop, V: Twin + Drop>(
+fn twin_pair<K: Ord + Twin + Drop, V: Row + Twin + Drop>(
     alloc: Global,
     copy: &mut Table<K, V>,
     key: &K,
@@ -108,7 +115,7 @@ fn twin_pair<K: Ord + Twin + Drop, V: Twin + Drop>(
     Ok(())
 }
 
-impl<K: Ord + Twin + Drop, V: Twin + Drop> Twin for Table<K, V> {
+impl<K: Ord + Twin + Drop, V: Row + Twin + Drop> Twin for Table<K, V> {
     fn twin(&self, alloc: Global) -> Result<Table<K, V>, AllocError> {
         let mut copy = Table::new(alloc);
         for (key, value) in self.iter() {

@@ -1,25 +1,43 @@
--- What `get_mut` lends is set to its edit, or stays.
-use Rattle.std.proofs.Common.{sym, ap, ◌∙◌}
+-- What `get_mut` lends is set to its edit, and what is kept moves with it; or both stay.
+use Rattle.std.proofs.Common.{refl, sym, ap}
 use Rattle.std.specs.BTreeMap.{is_at}
+use Rattle.std.proofs.lemmas.Map.Views.{All-values-set_value}
 use Rattle.ge_collections.proofs.Changed.{change_value-written, change_value-absent, set_value-unchanged}
+use Rattle.ge_collections.proofs.Noted.{is_there}
+use Rattle.ge_collections.proofs.Rows.{sums_set, ledger_set}
 use Rattle.ge_collections.proofs.table.Table.try_change.Goals as goal
-use Rattle.ge_collections.proofs.table.Table.try_change.Goals.{in-Some+in-Ok, in-Some+in-Err, in-None}
 
-pub returns-clause-changed : goal.returns-clause-changed
-returns-clause-changed g c =
-    let test = is_at (g.K.Ord.cmp c.args.key.now) in
-    let edited = g.E.TryEdit.edited c.args.edit.now in
-    elim c.match-get_mut.branch [
-      | in-Some+in-Ok w ↦ rw w.result-is (change_value-written test edited _ _ _ w.in-Some.row.now w.try_edit.new.row c.self.view_is (sym w.in-Some.ensures.value) (ap (λ i. i.rows.entries) w.self-inside-is ∙ (c.get_mut.follows.holds w.try_edit.new.row).0) w.in-Ok.ensures.ok)
-      | in-Some+in-Err w ↦ rw w.result-is tt
-      | in-None w ↦ rw w.result-is (change_value-absent test edited _ _ _ c.self.view_is (sym w.in-None.ensures.value) (ap (λ i. i.rows.entries) w.self-inside-is ∙ ap (λ m. m.entries) c.get_mut.follows.holds-at-none))
-    ]
+pub invariant_of-self : goal.invariant_of-self
+invariant_of-self g c =
+    let order = g.met.K.Ord.total in
+    let rows = c.self.inside.rows.entries in
+    let found = sym c.in-Some.ensures.value in
+    let written = c.get_mut.follows.holds c.try_make.new.row in
+    let moved = c.in-Ok.moved in
+    let made = c.in-Ok.ensures in (
+      sums_set _ _ _ order (λ row. (g.V.Row.weights row).0) (λ row. (g.V.Row.weights row).1) rows _ c.args.key.now c.in-Some.row.now c.try_make.new.row moved.before moved.after
+          found written.0 made.before made.after (c.shift.ensures.sums _ _ c.self.invariant.0),
+      ledger_set order g.V.Mark.Ord.cmp g.V.Row.marks rows _ c.args.key.now _ _ (λ marks. marks.lost.items) (λ marks. marks.gained.items) moved.marks c.in-Some.row.now c.try_make.new.row
+          found (written.3 (is_there _ _ found)).0 made.marks (c.shift.ensures.ledger _ c.self.invariant.1),
+      rw written.0 (All-values-set_value (is_at (g.K.Ord.cmp c.args.key.now)) g.V.Row.IsOrderly rows c.try_make.new.row c.self.invariant.2 made.orderly),
+    )
 
-pub returns-clause-err : goal.returns-clause-err
-returns-clause-err g c =
-    let test = is_at (g.K.Ord.cmp c.args.key.now) in
-    elim c.match-get_mut.branch [
-      | in-Some+in-Ok w ↦ rw w.result-is tt
-      | in-Some+in-Err w ↦ rw w.result-is (set_value-unchanged test _ _ _ w.in-Some.row.now w.try_edit.new.row c.self.view_is (sym w.in-Some.ensures.value) (ap (λ i. i.rows.entries) w.self-inside-is ∙ (c.get_mut.follows.holds w.try_edit.new.row).0) w.in-Err.ensures.err)
-      | in-None w ↦ rw w.result-is tt
-    ]
+pub invariant_of-self-in-Err : goal.invariant_of-self-in-Err
+invariant_of-self-in-Err g c =
+    rw (set_value-unchanged (is_at (g.K.Ord.cmp c.args.key.now)) _ _ _ c.in-Some.row.now c.try_make.new.row refl (sym c.in-Some.ensures.value) (c.get_mut.follows.holds c.try_make.new.row).0 c.in-Err.ensures.err)
+    c.self.invariant
+
+pub returns-in-Ok-clause-changed : goal.returns-in-Ok-clause-changed
+returns-in-Ok-clause-changed g c =
+    change_value-written (is_at (g.K.Ord.cmp c.args.key.now)) (g.E.TryEdit.edited c.args.edit.now) _ _ _ c.in-Some.row.now c.try_make.new.row
+    c.self.view_is (sym c.in-Some.ensures.value) (c.get_mut.follows.holds c.try_make.new.row).0 c.in-Ok.ensures.edited
+
+pub returns-in-Err-clause-err : goal.returns-in-Err-clause-err
+returns-in-Err-clause-err g c =
+    set_value-unchanged (is_at (g.K.Ord.cmp c.args.key.now)) _ _ _ c.in-Some.row.now c.try_make.new.row
+    c.self.view_is (sym c.in-Some.ensures.value) (c.get_mut.follows.holds c.try_make.new.row).0 c.in-Err.ensures.err
+
+pub returns-in-None-clause-changed : goal.returns-in-None-clause-changed
+returns-in-None-clause-changed g c =
+    change_value-absent (is_at (g.K.Ord.cmp c.args.key.now)) (g.E.TryEdit.edited c.args.edit.now) _ _ _
+    c.self.view_is (sym c.in-None.ensures.value) (ap (λ m. m.entries) c.get_mut.follows.holds-at-none)

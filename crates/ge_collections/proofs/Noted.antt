@@ -1,0 +1,176 @@
+-- What a ledger notes after one key is noted otherwise at one mark.
+use Rattle.std.proofs.Common.{◌≡◌, ℕ, zero, suc, ◌+◌, ◌-◌, Bool, true, false, cond, ◌&&◌, List, [], ◌∷◌, Option, Some, None, refl, sym, ap, ◌∙◌, ◌<◌, length, take, get_or, arith, add-one}
+use Rattle.std.specs.Option.{unwrap_or, IsSome}
+use Rattle.std.specs.Prelude.{Result, Ok, Err, OnOk}
+use Rattle.std.specs.Result.{is_ok}
+use Rattle.std.specs.BTreeMap.{BTreeMap, is_at}
+use Rattle.std.specs.Cmp.{IsTotalOrder}
+use Rattle.std.specs.Map.{lookup}
+use Rattle.std.specs.declared.cmp.Ordering.{Ordering}
+use Rattle.std.proofs.lemmas.Cmp.{eq_by_cmp_equiv}
+use Rattle.std.proofs.lemmas.List.Sums.{sum_by_more}
+use Rattle.ge_collections.specs.Kept.{nonzero, noted_in, Counts, only_at}
+use Rattle.ge_collections.specs.Marked.{times}
+
+module _ {K V : Type 0} where
+  lookup_same : (p r : K → Bool) → ((x : K) → p x ≡ r x) → (es : List (K × V)) → lookup p es ≡ lookup r es
+  lookup_same p r same [] = refl
+  lookup_same p r same (e ∷ es) =
+      ap (λ b. cond b (Some e.1) (lookup p es)) (same e.0) ∙ ap (λ x. cond (r e.0) (Some e.1) x) (lookup_same p r same es)
+
+  -- keys that are one find the same
+  pub lookup_one : {R : K → K → Ordering} (o : IsTotalOrder R) (key q : K) (es : List (K × V)) → is_at (R key) q ≡ true → lookup (is_at (R key)) es ≡ lookup (is_at (R q)) es
+  lookup_one {R} o key q es at = lookup_same (is_at (R key)) (is_at (R q)) (λ x. (eq_by_cmp_equiv o).congr key q x at) es
+
+  -- what is found at a key stands at each key that is the same
+  pub lookup_stays : {R : K → K → Ordering} (o : IsTotalOrder R) (key q : K) (es : List (K × V)) (found : Option V) → lookup (is_at (R key)) es ≡ found → lookup (is_at (R q)) es ≡ cond (is_at (R key) q) found (lookup (is_at (R q)) es)
+  lookup_stays {R} o key q es found is = by (is_at (R key) q) refl
+    where
+      by : (b : Bool) → is_at (R key) q ≡ b → lookup (is_at (R q)) es ≡ cond b found (lookup (is_at (R q)) es)
+      by true at = sym (lookup_one o key q es at) ∙ is
+      by false at = refl
+
+pub none_left : {V : Type 0} (xs : List V) → length xs ≡ 0 → xs ≡ []
+none_left [] h = refl
+none_left (x ∷ xs) h = absurd (omega arith)
+
+pub is_there : {V : Type 0} (o : Option V) (x : V) → o ≡ Some x → IsSome o
+is_there None x h = cc
+is_there (Some y) x h = refl
+
+pub of_ok : {A E : Type 0} (P : Type 0) (r : Result A E) → is_ok r ≡ true → OnOk r P → P
+of_ok P (Ok x) is h = h
+of_ok P (Err x) is h = cc
+
+-- a count that is noted is read again
+pub amount_noted : (n : ℕ) → unwrap_or (nonzero n) 0 ≡ n
+amount_noted zero = refl
+amount_noted (suc n) = refl
+
+-- one more is noted
+pub more_noted : (n : ℕ) → Some (n + 1) ≡ nonzero (n + 1)
+more_noted n = rw add-one refl
+
+module _ {K M : Type 0} {R : K → K → Ordering} {C : M → M → Ordering} (keys : IsTotalOrder R) (marks : IsTotalOrder C) where
+  noted_one : (found : Option (BTreeMap K ℕ)) (key q : K) → is_at (R key) q ≡ true → noted_in R found key ≡ noted_in R found q
+  noted_one None key q at = refl
+  noted_one (Some known) key q at = lookup_one keys key q known.entries at
+
+  -- a ledger after the count of a key at a mark took a step
+  pub counts_at : (step : ℕ → ℕ) (ledger after : List (M × BTreeMap K ℕ)) (mark : M) (key : K) (found left : Option (BTreeMap K ℕ)) (count : M → K → ℕ)
+      → lookup (is_at (C mark)) ledger ≡ found
+      → ((m : M) → lookup (is_at (C m)) after ≡ cond (is_at (C mark) m) left (lookup (is_at (C m)) ledger))
+      → ((q : K) → noted_in R left q ≡ cond (is_at (R key) q) (nonzero (step (unwrap_or (noted_in R found key) 0))) (noted_in R found q))
+      → Counts R C ledger count → Counts R C after (λ m q. cond (is_at (C mark) m && is_at (R key) q) (step (count m q)) (count m q))
+  counts_at step ledger after mark key found left count is shown changed counts m q =
+      ap (λ o. noted_in R o q) (shown m) ∙ by (is_at (C mark) m) (is_at (R key) q) refl refl
+    where
+      here : (p : K) → is_at (C mark) m ≡ true → noted_in R found p ≡ nonzero (count m p)
+      here p at = ap (λ o. noted_in R o p) (sym is ∙ lookup_one marks mark m ledger at) ∙ counts m p
+
+      by : (a b : Bool) → is_at (C mark) m ≡ a → is_at (R key) q ≡ b
+          → noted_in R (cond a left (lookup (is_at (C m)) ledger)) q ≡ nonzero (cond (a && b) (step (count m q)) (count m q))
+      by true true at same =
+          changed q ∙ ap (λ b. cond b (nonzero (step (unwrap_or (noted_in R found key) 0))) (noted_in R found q)) same
+          ∙ ap (λ o. nonzero (step (unwrap_or o 0))) (noted_one found key q same ∙ here q at) ∙ ap (λ n. nonzero (step n)) (amount_noted (count m q))
+      by true false at apart =
+          changed q ∙ ap (λ b. cond b (nonzero (step (unwrap_or (noted_in R found key) 0))) (noted_in R found q)) apart ∙ here q at
+      by false b at same = counts m q
+
+  -- the count of a key at a mark rises
+  pub raised : (ledger after : List (M × BTreeMap K ℕ)) (mark : M) (key : K) (found : Option (BTreeMap K ℕ)) (left : BTreeMap K ℕ)
+      → lookup (is_at (C mark)) ledger ≡ found
+      → ((m : M) → lookup (is_at (C m)) after ≡ cond (is_at (C mark) m) (Some left) (lookup (is_at (C m)) ledger))
+      → ((q : K) → lookup (is_at (R q)) left.entries ≡ cond (is_at (R key) q) (Some (unwrap_or (noted_in R found key) 0 + 1)) (noted_in R found q))
+      → (count : M → K → ℕ) → Counts R C ledger count → Counts R C after (λ m q. cond (is_at (C mark) m && is_at (R key) q) (count m q + 1) (count m q))
+  raised ledger after mark key found left is shown changed count =
+      counts_at (λ n. n + 1) ledger after mark key found (Some left) count is shown
+      (λ q. changed q ∙ ap (λ o. cond (is_at (R key) q) o (noted_in R found q)) (more_noted (unwrap_or (noted_in R found key) 0)))
+
+  -- a mark that no key had has one
+  pub raised_new : (ledger before after : BTreeMap M (BTreeMap K ℕ)) (mark copy : M) (key : K) (empty left : BTreeMap K ℕ)
+      → before ≡ ledger → copy ≡ mark → empty.entries ≡ [] → None ≡ lookup (is_at (C mark)) ledger.entries
+      → ((m : M) → lookup (is_at (C m)) after.entries ≡ cond (is_at (C copy) m) (Some left) (lookup (is_at (C m)) before.entries))
+      → ((q : K) → lookup (is_at (R q)) left.entries ≡ cond (is_at (R key) q) (Some (unwrap_or (lookup (is_at (R key)) empty.entries) 0 + 1)) (lookup (is_at (R q)) empty.entries))
+      → (count : M → K → ℕ) → Counts R C ledger.entries count → Counts R C after.entries (λ m q. cond (is_at (C mark) m && is_at (R key) q) (count m q + 1) (count m q))
+  raised_new ledger before after mark copy key empty left same one none is shown changed =
+      raised ledger.entries after.entries mark key None left (sym is)
+      (λ m. shown m ∙ ap (λ b. cond b (Some left) (lookup (is_at (C m)) before.entries)) (ap (λ k. is_at (C k) m) one) ∙ ap (λ (l : BTreeMap M (BTreeMap K ℕ)). cond (is_at (C mark) m) (Some left) (lookup (is_at (C m)) l.entries)) same)
+      (λ q. changed q ∙ ap (λ (es : List (K × ℕ)). cond (is_at (R key) q) (Some (unwrap_or (lookup (is_at (R key)) es) 0 + 1)) (lookup (is_at (R q)) es)) none)
+
+  -- the count of a key at a mark falls
+  pub lowered : (ledger after : List (M × BTreeMap K ℕ)) (mark : M) (key : K) (known left : BTreeMap K ℕ)
+      → lookup (is_at (C mark)) ledger ≡ Some known
+      → ((m : M) → lookup (is_at (C m)) after ≡ cond (is_at (C mark) m) (Some left) (lookup (is_at (C m)) ledger))
+      → ((q : K) → lookup (is_at (R q)) left.entries ≡ cond (is_at (R key) q) (nonzero (unwrap_or (lookup (is_at (R key)) known.entries) 0 - 1)) (lookup (is_at (R q)) known.entries))
+      → (count : M → K → ℕ) → Counts R C ledger count → Counts R C after (λ m q. cond (is_at (C mark) m && is_at (R key) q) (count m q - 1) (count m q))
+  lowered ledger after mark key known left is shown changed count =
+      counts_at (λ n. n - 1) ledger after mark key (Some known) (Some left) count is shown changed
+
+  -- the last key of a mark is gone
+  pub lowered_last : (ledger between after : List (M × BTreeMap K ℕ)) (mark : M) (key : K) (known left : BTreeMap K ℕ)
+      → lookup (is_at (C mark)) ledger ≡ Some known → left.entries ≡ []
+      → ((m : M) → lookup (is_at (C m)) between ≡ cond (is_at (C mark) m) (Some left) (lookup (is_at (C m)) ledger))
+      → ((m : M) → lookup (is_at (C m)) after ≡ cond (is_at (C mark) m) None (lookup (is_at (C m)) between))
+      → ((q : K) → lookup (is_at (R q)) left.entries ≡ cond (is_at (R key) q) (nonzero (unwrap_or (lookup (is_at (R key)) known.entries) 0 - 1)) (lookup (is_at (R q)) known.entries))
+      → (count : M → K → ℕ) → Counts R C ledger count → Counts R C after (λ m q. cond (is_at (C mark) m && is_at (R key) q) (count m q - 1) (count m q))
+  lowered_last ledger between after mark key known left is emptied mid shown changed count =
+      counts_at (λ n. n - 1) ledger after mark key (Some known) None count is
+      (λ m. shown m ∙ gone (is_at (C mark) m) m (mid m))
+      (λ q. sym (ap (λ (es : List (K × ℕ)). lookup (is_at (R q)) es) emptied) ∙ changed q)
+    where
+      gone : (b : Bool) (m : M) → lookup (is_at (C m)) between ≡ cond b (Some left) (lookup (is_at (C m)) ledger) → cond b None (lookup (is_at (C m)) between) ≡ cond b None (lookup (is_at (C m)) ledger)
+      gone true m h = refl
+      gone false m h = h
+
+  -- a mark that no key has loses none
+  pub lowered_none : (ledger after : BTreeMap M (BTreeMap K ℕ)) (mark : M) (key : K) → None ≡ lookup (is_at (C mark)) ledger.entries → after ≡ ledger
+      → (count : M → K → ℕ) → Counts R C ledger.entries count → Counts R C after.entries (λ m q. cond (is_at (C mark) m && is_at (R key) q) (count m q - 1) (count m q))
+  lowered_none ledger after mark key is same count =
+      counts_at (λ n. n - 1) ledger.entries after.entries mark key None None count (sym is)
+      (λ m. ap (λ (l : BTreeMap M (BTreeMap K ℕ)). lookup (is_at (C m)) l.entries) same ∙ lookup_stays marks mark m ledger.entries None (sym is))
+      (λ q. nothing (is_at (R key) q))
+    where
+      nothing : (b : Bool) → None ≡ cond b (nonzero (0 - 1)) None
+      nothing true = refl
+      nothing false = refl
+
+-- one more mark of a list is counted, and one less
+added : (a b : Bool) (n t : ℕ) → cond (a && b) (n + cond b t 0 + 1) (n + cond b t 0) ≡ n + cond b (t + cond a 1 0) 0
+added true true n t = omega arith
+added true false n t = refl
+added false true n t = omega arith
+added false false n t = refl
+
+taken : (a b : Bool) (n t : ℕ) → cond (a && b) (n - cond b t 0 - 1) (n - cond b t 0) ≡ n - cond b (t + cond a 1 0) 0
+taken true true n t = omega arith
+taken true false n t = refl
+taken false true n t = omega arith
+taken false false n t = refl
+
+module _ {M : Type 0} {C : M → M → Ordering} (order : IsTotalOrder C) where
+  times_more : (marks : List M) (i : ℕ) (x : M) → x ≡ get_or marks i x → i < length marks → (m : M)
+      → times C m (take (i + 1) marks) ≡ times C m (take i marks) + cond (is_at (C x) m) 1 0
+  times_more marks i x is lt m =
+      sum_by_more (λ y. cond (is_at (C m) y) 1 0) marks i x lt
+      ∙ ap (λ y. times C m (take i marks) + cond (is_at (C m) y) 1 0) (sym is)
+      ∙ ap (λ b. times C m (take i marks) + cond b 1 0) ((eq_by_cmp_equiv order).symm m x)
+
+module _ {K M : Type 0} {R : K → K → Ordering} {C : M → M → Ordering} (keys : IsTotalOrder R) (order : IsTotalOrder C) where
+  pub raised_more : (before start after : List (M × BTreeMap K ℕ)) (key : K) (marks : List M) (i : ℕ) (x : M) → x ≡ get_or marks i x → i < length marks
+      → ((count : M → K → ℕ) → Counts R C before count → Counts R C start (λ m q. count m q + only_at R key (times C m (take i marks)) q))
+      → ((count : M → K → ℕ) → Counts R C start count → Counts R C after (λ m q. cond (is_at (C x) m && is_at (R key) q) (count m q + 1) (count m q)))
+      → (count : M → K → ℕ) → Counts R C before count → Counts R C after (λ m q. count m q + only_at R key (times C m (take (i + 1) marks)) q)
+  raised_more before start after key marks i x is lt so_far next count known m q =
+      next (λ m q. count m q + only_at R key (times C m (take i marks)) q) (so_far count known) m q
+      ∙ ap nonzero (added (is_at (C x) m) (is_at (R key) q) (count m q) (times C m (take i marks))
+      ∙ ap (λ t. count m q + only_at R key t q) (sym (times_more order marks i x is lt m)))
+
+  pub lowered_more : (before start after : List (M × BTreeMap K ℕ)) (key : K) (marks : List M) (i : ℕ) (x : M) → x ≡ get_or marks i x → i < length marks
+      → ((count : M → K → ℕ) → Counts R C before count → Counts R C start (λ m q. count m q - only_at R key (times C m (take i marks)) q))
+      → ((count : M → K → ℕ) → Counts R C start count → Counts R C after (λ m q. cond (is_at (C x) m && is_at (R key) q) (count m q - 1) (count m q)))
+      → (count : M → K → ℕ) → Counts R C before count → Counts R C after (λ m q. count m q - only_at R key (times C m (take (i + 1) marks)) q)
+  lowered_more before start after key marks i x is lt so_far next count known m q =
+      next (λ m q. count m q - only_at R key (times C m (take i marks)) q) (so_far count known) m q
+      ∙ ap nonzero (taken (is_at (C x) m) (is_at (R key) q) (count m q) (times C m (take i marks))
+      ∙ ap (λ t. count m q - only_at R key t q) (sym (times_more order marks i x is lt m)))

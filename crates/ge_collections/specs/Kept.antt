@@ -1,0 +1,53 @@
+-- What a table keeps beside its rows: two sums, and how often the row at each key bears each mark.
+use Rattle.std.specs.Prelude.{◌≡◌, ℕ, zero, suc, Bool, true, cond, List, Option, Some, None}
+use Rattle.std.specs.List.{sum_by}
+use Rattle.std.specs.Map.{lookup, values_of}
+use Rattle.std.specs.BTreeMap.{BTreeMap, is_at}
+use Rattle.std.specs.declared.cmp.Ordering.{Ordering}
+use Rattle.ge_collections.specs.Marked.{times}
+
+-- a count that is noted only where it isn't zero
+abbrev pub nonzero : ℕ → Option ℕ
+nonzero zero = None
+nonzero (suc n) = Some (suc n)
+
+module _ {V M : Type 0} (cmp : M → M → Ordering) (marks : V → List M) where
+  -- how often a row that may not be there bears a mark
+  abbrev pub times_at : M → Option V → ℕ
+  times_at mark None = 0
+  times_at mark (Some row) = times cmp mark (marks row)
+
+module _ {K : Type 0} (order : K → K → Ordering) where
+  -- how often a key is noted among those of a mark that may not be there
+  abbrev pub noted_in : Option (BTreeMap K ℕ) → K → Option ℕ
+  noted_in None key = None
+  noted_in (Some keys) key = lookup (is_at (order key)) keys.entries
+
+  -- a number that counts at one key, and nothing elsewhere
+  abbrev pub only_at : K → ℕ → K → ℕ
+  only_at key n q = cond (is_at (order key) q) n 0
+
+module _ {K M : Type 0} (order : K → K → Ordering) (cmp : M → M → Ordering) where
+  -- how often a ledger notes a key at a mark
+  abbrev pub noted : List (M × BTreeMap K ℕ) → M → K → Option ℕ
+  noted ledger mark key = noted_in order (lookup (is_at (cmp mark)) ledger) key
+
+  -- a ledger notes these counts
+  abbrev pub Counts : List (M × BTreeMap K ℕ) → (M → K → ℕ) → Type 0
+  Counts ledger count = (mark : M) (key : K) → noted ledger mark key ≡ nonzero (count mark key)
+
+  -- a ledger that is whole notes these counts
+  abbrev pub Tells : Bool → List (M × BTreeMap K ℕ) → (M → K → ℕ) → Type 0
+  Tells whole ledger count = whole ≡ true → Counts ledger count
+
+-- the sum of the counts of keys
+abbrev pub total_in : {K : Type 0} → List (K × ℕ) → ℕ
+total_in counts = sum_by (λ n. n) (values_of counts)
+
+-- sums that are whole are these
+abbrev pub AreSums : Bool → ℕ → ℕ → ℕ → ℕ → Type 0
+AreSums whole first second a b = whole ≡ true → (first ≡ a) × (second ≡ b)
+
+-- the sum of a weight of rows
+abbrev pub weight_of : {K V : Type 0} → (V → ℕ) → List (K × V) → ℕ
+weight_of weight rows = sum_by weight (values_of rows)

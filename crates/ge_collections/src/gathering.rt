@@ -1,0 +1,130 @@
+// What a table gathers about its rows by their marks.
+ghost use Rattle.std.specs.Prelude.{◌≡◌, ℕ, IfOk};
+ghost use Rattle.std.specs.BTreeMap.{is_at};
+ghost use Rattle.std.specs.List.{filter_map};
+ghost use Rattle.std.specs.List.Sorted.{IsStrictlySortedBy};
+ghost use Rattle.std.specs.Map.{keys_of, lookup, lookup_key};
+ghost use Rattle.ge_collections.specs.Asked.{bearers_of, tally_of};
+ghost use Rattle.ge_collections.specs.Kept.{Counts, times_at, total_in};
+
+use crate::kept::learn_row;
+use crate::ledger::Ledger;
+use crate::row::Row;
+use crate::table::Table;
+use crate::twin::Twin;
+use std::alloc::{AllocError, Global};
+use std::collections::BTreeMap;
+
+/// A ledger of rows, made anew.
+pub(crate) fn ledger_of<K: Ord + Twin + Drop, V: Row>(
+    alloc: Global,
+    rows: &BTreeMap<K, V>,
+) -> Result<Ledger<K, V::Mark>, AllocError>
+    ensures { IfOk result (λ ledger. Counts K.cmp V.Mark.cmp ledger.bearers.entries (λ mark key. times_at V.Mark.cmp V.marks mark (lookup (is_at (K.cmp key)) rows.now.entries))) }
+{
+    let mut ledger = Ledger {
+        whole: true,
+        bearers: BTreeMap::new(alloc),
+    };
+    for (key, row) in rows.iter() {
+        learn_row(alloc, &mut ledger, key, row);
+    }
+    if !ledger.whole {
+        return Err(AllocError);
+    }
+    Ok(ledger)
+}
+
+// The sum of some counts. It fits, so that the test of each step never fails.
+fn sum_of<K: Ord>(keys: &BTreeMap<K, u64>) -> Result<u128, AllocError>
+    ensures sum { IfOk result (λ sum. sum ≡ total_in keys.now.entries) }
+    ensures rising { IsStrictlySortedBy K.cmp (keys_of keys.now.entries) }
+{
+    let mut sum: u128 = 0;
+    for count in keys.values() {
+        match sum.checked_add(u128::from(*count)) {
+            Some(more) => sum = more,
+            None => return Err(AllocError),
+        }
+    }
+    Ok(sum)
+}
+
+// The keys of rows that are those of some counts.
+fn own_keys<K: Ord + Twin + Drop, V>(
+    alloc: Global,
+    rows: &BTreeMap<K, V>,
+    keys: &BTreeMap<K, u64>,
+) -> Result<Vec<K>, AllocError>
+    ensures keys { IfOk result (λ list. list.items ≡ filter_map
+        (λ key. lookup_key (is_at (K.cmp key)) rows.now.entries) (keys_of keys.now.entries)) }
+    ensures rising { IsStrictlySortedBy K.cmp (keys_of keys.now.entries) }
+    ensures rows_rise { IsStrictlySortedBy K.cmp (keys_of rows.now.entries) }
+{
+    let _count = rows.len();
+    let mut list = Vec::new(alloc);
+    for key in keys.keys() {
+        if let Some((own, _row)) = rows.get_key_value(key) {
+            list.push(own.twin(alloc)?)?;
+        }
+    }
+    Ok(list)
+}
+
+// How often the rows that a ledger tells of bear a mark.
+fn tally_in<K: Ord, V: Row>(
+    rows: &BTreeMap<K, V>,
+    ledger: &Ledger<K, V::Mark>,
+    mark: &V::Mark,
+) -> Result<u128, AllocError>
+    ensures { Counts K.cmp V.Mark.cmp ledger.now.bearers.entries (λ m key. times_at V.Mark.cmp V.marks m (lookup (is_at (K.cmp key)) rows.now.entries))
+        → IfOk result (λ tally. tally ≡ tally_of V.Mark.cmp V.marks mark.now rows.now.entries) }
+{
+    let _count = rows.len();
+    match ledger.bearers.get(mark) {
+        Some(keys) => sum_of(keys),
+        None => Ok(0),
+    }
+}
+
+// The keys of the rows that a ledger tells of and that bear a mark.
+fn bearers_in<K: Ord + Twin + Drop, V: Row>(
+    alloc: Global,
+    rows: &BTreeMap<K, V>,
+    ledger: &Ledger<K, V::Mark>,
+    mark: &V::Mark,
+) -> Result<Vec<K>, AllocError>
+    ensures { Counts K.cmp V.Mark.cmp ledger.now.bearers.entries (λ m key. times_at V.Mark.cmp V.marks m (lookup (is_at (K.cmp key)) rows.now.entries))
+        → IfOk result (λ list. list.items ≡ bearers_of V.Mark.cmp V.marks mark.now rows.now.entries) }
+{
+    let _count = rows.len();
+    match ledger.bearers.get(mark) {
+        Some(keys) => own_keys(alloc, rows, keys),
+        None => Ok(Vec::new(alloc)),
+    }
+}
+
+impl<K: Ord + Twin + Drop, V: Row> Table<K, V> {
+    /// How often all rows together bear a mark. It takes no memory where what the table keeps is whole, and time for
+    /// each row that bears the mark.
+    pub fn tally(&self, alloc: Global, mark: &V::Mark) -> Result<u128, AllocError>
+        ensures { IfOk result (λ tally. tally ≡ tally_of V.Mark.cmp V.marks mark.now self.now) }
+    {
+        if self.kept.ledger.whole {
+            return tally_in::<K, V>(&self.rows, &self.kept.ledger, mark);
+        }
+        let ledger = ledger_of(alloc, &self.rows)?;
+        tally_in::<K, V>(&self.rows, &ledger, mark)
+    }
+
+    /// The keys of the rows that bear a mark, in their order.
+    pub fn bearers(&self, alloc: Global, mark: &V::Mark) -> Result<Vec<K>, AllocError>
+        ensures { IfOk result (λ list. list.items ≡ bearers_of V.Mark.cmp V.marks mark.now self.now) }
+    {
+        if self.kept.ledger.whole {
+            return bearers_in::<K, V>(alloc, &self.rows, &self.kept.ledger, mark);
+        }
+        let ledger = ledger_of(alloc, &self.rows)?;
+        bearers_in::<K, V>(alloc, &self.rows, &ledger, mark)
+    }
+}

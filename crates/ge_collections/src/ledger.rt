@@ -1,0 +1,125 @@
+// A ledger from marks to the keys of the rows that bear them, each with how often.
+ghost use Rattle.std.specs.Prelude.{◌≡◌, ℕ, ◌+◌, ◌-◌, ◌&&◌, cond, IsTrue, List};
+ghost use Rattle.std.specs.BTreeMap.{is_at};
+ghost use Rattle.ge_collections.specs.Kept.{Counts, Tells, only_at};
+ghost use Rattle.ge_collections.specs.Marked.{times};
+
+use crate::counts::{lower_count, raise_count};
+use crate::twin::Twin;
+use std::alloc::Global;
+use std::collections::BTreeMap;
+
+/// Marks, with the keys of the rows that bear them, and how often each does. It counts only where `whole` is true: want
+/// of memory and a count that doesn't fit end it.
+#[derive(Drop)]
+pub(crate) struct Ledger<K: Ord, M: Ord> {
+    pub(crate) whole: bool,
+    pub(crate) bearers: BTreeMap<M, BTreeMap<K, u64>>,
+}
+
+// A mark once more at a key, if there is memory and the count fits.
+fn raise<K: Ord + Twin + Drop, M: Ord + Twin + Drop>(
+    alloc: Global,
+    bearers: &mut BTreeMap<M, BTreeMap<K, u64>>,
+    mark: &M,
+    key: &K,
+) -> bool
+    ensures { IsTrue result → (count : M → K → ℕ) → Counts K.cmp M.cmp bearers.old.entries count
+        → Counts K.cmp M.cmp bearers.new.entries
+        (λ m q. cond (is_at (M.cmp mark.now) m && is_at (K.cmp key.now) q) (count m q
+        + 1) (count m q)) }
+{
+    if let Some(keys) = bearers.get_mut(mark) {
+        return raise_count(alloc, keys, key);
+    }
+    let Ok(mark) = mark.twin(alloc) else {
+        return false;
+    };
+    let mut keys = BTreeMap::new(alloc);
+    if !raise_count(alloc, &mut keys, key) {
+        return false;
+    }
+    bearers.insert(mark, keys).is_ok()
+}
+
+// A mark once less at a key. A mark that no key has any more is forgotten.
+fn lower<K: Ord + Drop, M: Ord + Drop>(
+    bearers: &mut BTreeMap<M, BTreeMap<K, u64>>,
+    mark: &M,
+    key: &K,
+)
+    ensures { (count : M → K → ℕ) → Counts K.cmp M.cmp bearers.old.entries count
+        → Counts K.cmp M.cmp bearers.new.entries
+        (λ m q. cond (is_at (M.cmp mark.now) m && is_at (K.cmp key.now) q) (count m q
+        - 1) (count m q)) }
+{
+    let Some(keys) = bearers.get_mut(mark) else {
+        return;
+    };
+    lower_count(keys, key);
+    if !keys.is_empty() {
+        return;
+    }
+    let _emptied = bearers.remove(mark);
+}
+
+// These marks at a key, if there is memory and the counts fit.
+fn raise_all<K: Ord + Twin + Drop, M: Ord + Twin + Drop>(
+    alloc: Global,
+    bearers: &mut BTreeMap<M, BTreeMap<K, u64>>,
+    key: &K,
+    marks: &[M],
+) -> bool
+    ensures { IsTrue result → (count : M → K → ℕ) → Counts K.cmp M.cmp bearers.old.entries count
+        → Counts K.cmp M.cmp bearers.new.entries (λ m q. count m q
+        + only_at K.cmp key.now (times M.cmp m marks.now) q) }
+{
+    for mark in marks {
+        if !raise(alloc, bearers, mark, key) {
+            return false;
+        }
+    }
+    true
+}
+
+// These marks at a key no more.
+fn lower_all<K: Ord + Drop, M: Ord + Drop>(
+    bearers: &mut BTreeMap<M, BTreeMap<K, u64>>,
+    key: &K,
+    marks: &[M],
+)
+    ensures { (count : M → K → ℕ) → Counts K.cmp M.cmp bearers.old.entries count
+        → Counts K.cmp M.cmp bearers.new.entries (λ m q. count m q
+        - only_at K.cmp key.now (times M.cmp m marks.now) q) }
+{
+    for mark in marks {
+        lower(bearers, mark, key);
+    }
+}
+
+/// The row at a key bears these marks too.
+pub(crate) fn learn<K: Ord + Twin + Drop, M: Ord + Twin + Drop>(
+    alloc: Global,
+    ledger: &mut Ledger<K, M>,
+    key: &K,
+    marks: &[M],
+)
+    ensures { (count : M → K → ℕ) → Tells K.cmp M.cmp ledger.old.whole ledger.old.bearers.entries count
+        → Tells K.cmp M.cmp ledger.new.whole ledger.new.bearers.entries (λ m q. count m q
+        + only_at K.cmp key.now (times M.cmp m marks.now) q) }
+{
+    if ledger.whole && !raise_all(alloc, &mut ledger.bearers, key, marks) {
+        ledger.whole = false;
+    }
+}
+
+/// The row at a key bears these marks no more.
+pub(crate) fn forget<K: Ord + Drop, M: Ord + Drop>(ledger: &mut Ledger<K, M>, key: &K, marks: &[M])
+    ensures { (count : M → K → ℕ) → Tells K.cmp M.cmp ledger.old.whole ledger.old.bearers.entries count
+        → Tells K.cmp M.cmp ledger.new.whole ledger.new.bearers.entries (λ m q. count m q
+        - only_at K.cmp key.now (times M.cmp m marks.now) q) }
+{
+    if ledger.whole {
+        lower_all(&mut ledger.bearers, key, marks);
+    }
+}
