@@ -1,7 +1,7 @@
 // The whole cluster.
 use crate::accounts::Line;
 use crate::hosts::HostRow;
-use crate::jobs::Job;
+use crate::jobs::{Advance, Job};
 use crate::people::{ProjectRow, ShareNode, UserRow};
 use crate::queues::{PeRow, QueueRow};
 use crate::quotas::QuotaRow;
@@ -10,49 +10,55 @@ use crate::values::ComplexDef;
 use ge_collections::{List, Table, Text, Twin, twins4};
 use std::alloc::{AllocError, Global};
 
-/// All that the master keeps.
+/// All that the master keeps. An entry of the spool changes it, and nothing else does.
 #[derive(PartialEq, Eq)]
 pub struct Cluster {
-    /// The moment of the last change, in seconds.
+    /// The moment of the last entry, in seconds.
     pub last: u64,
-    /// The moment of the last scheduling run, in seconds.
+    /// The moment of the last scheduling run, in seconds; only a run's entry changes it.
     pub last_run: u64,
-    /// The number that the next job gets.
+    /// The number that the next job gets, at least 1; only a submission's entry changes it.
     pub next_job: u32,
-    /// The number that the next dispatch gets.
+    /// The number that the next dispatch gets, at least 1; only a run's entry changes it.
     pub next_serial: u64,
-    /// The complex table by name.
+    /// The complex table by name (complex): `qconf -Ac`, `-Mc`.
     pub complexes: Table<Text, ComplexDef>,
-    /// Hosts by name; `global` stands for all.
+    /// Hosts by name; `global` stands for all (host_conf). Only `load` changes what a host reported.
     pub hosts: Table<Text, HostRow>,
-    /// Host groups: hosts and `@` groups, by the group's name with its `@`.
+    /// Host groups by name, which begins with `@`: hosts and other groups in the order written (hostgroup).
     pub groups: Table<Text, List<Text>>,
-    /// Queues by name.
+    /// Cluster queues by name (queue_conf).
     pub queues: Table<Text, QueueRow>,
-    /// Parallel environments by name.
+    /// Parallel environments by name (sge_pe).
     pub pes: Table<Text, PeRow>,
-    /// Rule sets by name.
+    /// Rule sets by name (sge_resource_quota).
     pub quotas: Table<Text, QuotaRow>,
-    /// User sets by name: users, and `@` with a user's group.
+    /// User sets by name: users, and `@` with a user's group (access_list).
     pub sets: Table<Text, List<Text>>,
-    /// Users by name.
+    /// Users with a row, by name (user).
     pub users: Table<Text, UserRow>,
-    /// Projects by name.
+    /// Projects by name (project).
     pub projects: Table<Text, ProjectRow>,
-    /// The share tree's nodes by id; the root has id 0.
+    /// The share tree's nodes by id; the root has id 0 (share_tree).
     pub shares: Table<u32, ShareNode>,
-    /// The scheduler's settings.
+    /// The scheduler's settings (sched_conf): `qconf -Msconf`.
     pub sched: Sched,
-    /// Managers.
+    /// The managers in the order in which they came: `qconf -am`, `-dm`. At least one.
     pub managers: List<Text>,
-    /// Operators.
+    /// The operators in the order in which they came: `qconf -ao`, `-do`. Managers are operators too.
     pub operators: List<Text>,
-    /// Live jobs by number.
+    /// Live jobs by number. A job that loses its last task leaves.
     pub jobs: Table<u32, Job>,
-    /// Usage by user, project and epoch.
+    /// Usage by user, project and epoch of the halftime, weighted by `usage_weight_list`. An end adds to it; a new
+    /// halftime puts it into new epochs.
     pub usage: Table<(Text, Text, u64), u128>,
-    /// Accounting lines in order.
+    /// Accounting lines in the order of the ends (accounting); only ends and deletions by force add one.
     pub lines: List<Line>,
+    /// The number that the next advance reservation gets, at least 1; only a booking's entry changes it.
+    pub next_advance: u32,
+    /// Advance reservations by number (qrsub): booked by `qrsub`, given up by `qrdel`, and taken out by a run at
+    /// whose moment they are over and no live job names them.
+    pub advances: Table<u32, Advance>,
 }
 
 impl Drop for Cluster {
@@ -78,6 +84,8 @@ impl Drop for Cluster {
             jobs: _,
             usage: _,
             lines: _,
+            next_advance: _,
+            advances: _,
         } = self;
     }
 }
@@ -112,6 +120,7 @@ impl Twin for Cluster {
             &self.usage,
             &self.lines,
         )?;
+        let advances = self.advances.twin(alloc)?;
         Ok(Cluster {
             last: self.last,
             last_run: self.last_run,
@@ -133,6 +142,8 @@ impl Twin for Cluster {
             jobs,
             usage,
             lines,
+            next_advance: self.next_advance,
+            advances,
         })
     }
 }

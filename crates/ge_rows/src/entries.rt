@@ -1,5 +1,5 @@
 // What an accepted request changes, as the spool keeps it.
-use crate::jobs::{Job, Request};
+use crate::jobs::{Advance, Job, Request};
 use crate::people::{ProjectRow, ShareNode, UserRow};
 use crate::queues::{PeRow, QueueRow};
 use crate::quotas::QuotaRow;
@@ -29,32 +29,32 @@ impl Twin for Pick {
     }
 }
 
-/// What `qalter` sets in a job; what is missing stays.
+/// What `qalter` sets in a job; what is missing stays. See the manual page qalter.
 #[derive(PartialEq, Eq)]
 pub struct Patch {
-    /// `-N`
+    /// `-N`: the new name.
     pub name: Option<Text>,
     /// The job's whole new request.
     pub request: Option<Request>,
-    /// `-p`
+    /// `-p`: the new priority, from -1023 to 1024.
     pub priority: Option<i32>,
-    /// `-js`
+    /// `-js`: the new share among jobs.
     pub share: Option<u64>,
-    /// `-P`
+    /// `-P`: the new project.
     pub project: Option<Text>,
-    /// `-R`
+    /// `-R`: whether a run may keep slots for it.
     pub reserve: Option<bool>,
-    /// `-a`, in seconds
+    /// `-a`: no task starts before this moment, in seconds.
     pub not_before: Option<u64>,
-    /// `-dl`, in seconds
+    /// `-dl`: the moment by which it should start, in seconds.
     pub deadline: Option<u64>,
-    /// `-A`
+    /// `-A`: the new account string.
     pub account: Option<Text>,
-    /// `-hold_jid`
+    /// `-hold_jid`: the new predecessors.
     pub after: Option<List<u32>>,
-    /// `-hold_jid_ad`
+    /// `-hold_jid_ad`: the new array predecessors.
     pub after_each: Option<List<u32>>,
-    /// `-ot`
+    /// `-ot`: the new override tickets.
     pub oticket: Option<u64>,
 }
 
@@ -265,28 +265,32 @@ impl Twin for Key {
 /// What an accepted request changes.
 #[derive(PartialEq, Eq)]
 pub enum Change {
-    /// A new job.
+    /// `qsub`: a new job.
     Submit(Job),
-    /// Jobs altered in order: a number and what is set.
+    /// `qalter`: jobs altered in order, each a number and what is set.
     Alter(List<(u32, Patch)>),
-    /// Hold bits set in these jobs.
+    /// `qhold`: hold bits set in these jobs.
     Hold(List<u32>, u8),
-    /// Hold bits taken from these jobs.
+    /// `qrls`: hold bits taken from these jobs.
     Release(List<u32>, u8),
-    /// Tasks deleted, by force or not.
+    /// `qdel`: tasks deleted, by force (`-f`) or not.
     Delete(List<Pick>, bool),
-    /// Error states cleared.
+    /// `qmod -cj`: tasks in error that wait again.
     Clear(List<Pick>),
-    /// A configured object added or replaced.
+    /// `qconf -A`, `-M`: a configured object added or replaced. A host keeps its load report.
     Put(Item),
-    /// A configured object removed.
+    /// `qconf -d`: a configured object removed.
     Drop(Key),
-    /// A host's load report.
+    /// `load`: a host's report; the values that it names take the place of those reported before.
     Load(Text, Table<Text, Value>),
-    /// The end of a dispatch: serial, exit status, cpu, mem, io.
+    /// `end`: the end of a dispatch: its serial, exit status, and processor time, memory, input and output as reported.
     End(u64, u32, u64, u64, u64),
-    /// A scheduling run's starts.
+    /// `sched`: a scheduling run's starts.
     Run(List<Start>),
+    /// `qrsub`: an advance reservation with its grants, booked under the next number.
+    Book(Advance),
+    /// `qrdel`: advance reservations given up, by number, each once.
+    Unbook(List<u32>),
 }
 
 impl Drop for Change {
@@ -303,6 +307,8 @@ impl Drop for Change {
             Change::Load(_, _) => {}
             Change::End(_, _, _, _, _) => {}
             Change::Run(_) => {}
+            Change::Book(_) => {}
+            Change::Unbook(_) => {}
         }
     }
 }
@@ -335,6 +341,8 @@ impl Twin for Change {
                 *first, *second, *third, *fourth, *fifth,
             )),
             Change::Run(first) => Ok(Change::Run(first.twin(alloc)?)),
+            Change::Book(first) => Ok(Change::Book(first.twin(alloc)?)),
+            Change::Unbook(first) => Ok(Change::Unbook(first.twin(alloc)?)),
         }
     }
 }

@@ -199,5 +199,7 @@ pub fn opening(alloc: Global) -> Result<Cluster, AllocError>
         jobs: Table::new(alloc),
         usage: Table::new(alloc),
         lines: List::new(alloc),
+        next_advance: 1,
+        advances: Table::new(alloc),
     })
 }

@@ -1,9 +1,10 @@
 // Values, their kinds, and the rows of the complex table: see the manual page complex.
 use ge_collections::{Text, Twin, twins2};
+use ge_limits::AMOUNTS;
 use std::alloc::{AllocError, Global};
 
 /// The amount that stands for INFINITY, 2^48 - 1.
-pub const INFINITY: u64 = 281_474_976_710_655;
+pub const INFINITY: u64 = AMOUNTS - 1;
 
 /// A value of a resource. The amount of a TIME is in seconds, of a MEMORY in bytes, of a DOUBLE in millionths.
 #[derive(Debug, Drop, PartialEq, Eq)]
@@ -29,15 +30,15 @@ impl Twin for Value {
 /// The kind of a resource.
 #[derive(Clone, Copy, Debug, PartialEq, Eq)]
 pub enum Kind {
-    /// INT
+    /// INT: whole numbers.
     Int,
-    /// TIME
+    /// TIME: seconds.
     Time,
-    /// MEMORY
+    /// MEMORY: bytes.
     Memory,
-    /// DOUBLE
+    /// DOUBLE: millionths.
     Double,
-    /// BOOL
+    /// BOOL: a truth value.
     Bool,
     /// STRING, compared byte by byte.
     Str,
@@ -52,17 +53,17 @@ pub enum Kind {
 /// A relational operator, as `==`, `!=`, `<`, `<=`, `>`, `>=`.
 #[derive(Clone, Copy, Debug, PartialEq, Eq)]
 pub enum Relop {
-    /// `==`
+    /// `==`: equal.
     Eq,
-    /// `!=`
+    /// `!=`: different.
     Ne,
-    /// `<`
+    /// `<`: what is asked is below what is there.
     Lt,
-    /// `<=`
+    /// `<=`: what is asked is at most what is there.
     Le,
-    /// `>`
+    /// `>`: what is asked is above what is there.
     Gt,
-    /// `>=`
+    /// `>=`: what is asked is at least what is there.
     Ge,
 }
 
@@ -84,24 +85,26 @@ pub enum Consumable {
     No,
     /// It is, once for each slot.
     Yes,
+    /// It is, once for each job.
+    Job,
 }
 
 /// A row of the complex table. The name stands in the table's key.
 #[derive(Drop, PartialEq, Eq)]
 pub struct ComplexDef {
-    /// The other name.
+    /// `shortcut`: the other name.
     pub shortcut: Text,
-    /// The kind of its values.
+    /// `type`: the kind of its values.
     pub kind: Kind,
-    /// How what is asked compares to what is there.
+    /// `relop`: how what is asked compares to what is there.
     pub relop: Relop,
-    /// Whether jobs may ask for it.
+    /// `requestable`: whether jobs may ask for it.
     pub requestable: Requestable,
-    /// Whether tasks consume it.
+    /// `consumable`: whether tasks consume it, and how often.
     pub consumable: Consumable,
-    /// The default: what a job that doesn't ask consumes.
+    /// `default`: what a job that doesn't ask consumes.
     pub fallback: Value,
-    /// The urgency that a request adds, in millionths.
+    /// `urgency`: the urgency that a request adds, in millionths.
     pub urgency: u64,
 }
 

@@ -1,0 +1,351 @@
+// What a table of jobs keeps of them, and what a job keeps of its running tasks.
+ghost use Rattle.std.specs.Prelude.{◌≡◌, ◌≤◌, ◌^◌, ◌++◌, [], ◌∷◌, IfOk, OnOk, map, flat_map};
+ghost use Rattle.ge_rows.specs.Marks.{mark_of, project_marks, advance_marks, run_marks, grant_marks, task_marks as marks_of_task, pe_marks, attribute_mark, own_marks};
+ghost use Rattle.ge_rows.specs.Weights.{span_size as specs_size, set_size as size_of_set, live_tasks as live_of};
+ghost use Rattle.ge_collections.specs.Marked.{is_among};
+ghost use Rattle.std.specs.Map.{keys_of, values_of};
+
+use crate::jobs::{Grant, Job, PeRequest, Running};
+use crate::marks::{JobMark, MarkSort};
+use crate::tasks::{TaskSet, TaskSpan};
+use crate::values::Value;
+use ge_collections::{Row, Table, Text};
+use std::alloc::{AllocError, Global};
+
+impl Row for Running {
+    ghost use Rattle.std.specs.Prelude.{[], ◌∷◌};
+
+    /// A serial.
+    type Mark = u64;
+
+    ghost marks = { λ task. task.serial ∷ [] };
+
+    fn weights(&self) -> (u128, u128) {
+        (0, 0)
+    }
+
+    fn bears(&self, mark: &u64) -> bool {
+        self.serial == *mark
+    }
+
+    fn marks(&self, alloc: Global) -> Result<Vec<u64>, AllocError> {
+        let mut marks = Vec::new(alloc);
+        marks.push(self.serial)?;
+        Ok(marks)
+    }
+
+    fn orderly(&self) {}
+}
+
+// One mark more.
+fn push(
+    alloc: Global,
+    marks: &mut Vec<JobMark>,
+    sort: MarkSort,
+    name: &Text,
+    other: &[u8],
+    number: u64,
+) -> Result<(), AllocError>
+    ensures { OnOk result (marks.new.items ≡ marks.old.items ++ mark_of sort name.now other.now number ∷ []) }
+{
+    let mark = JobMark::new(alloc, sort, name.bytes(), other, number)?;
+    marks.push(mark)?;
+    Ok(())
+}
+
+// The marks of a task's grants.
+fn push_grants(alloc: Global, marks: &mut Vec<JobMark>, grants: &[Grant]) -> Result<(), AllocError>
+    ensures { OnOk result (marks.new.items ≡ marks.old.items ++ flat_map grant_marks grants.now) }
+{
+    for grant in grants {
+        push(alloc, marks, MarkSort::Queue, &grant.at.queue, b"", 0)?;
+        push(alloc, marks, MarkSort::Host, &grant.at.host, b"", 0)?;
+    }
+    Ok(())
+}
+
+// The mark of the host that runs a task.
+fn push_run(
+    alloc: Global,
+    marks: &mut Vec<JobMark>,
+    serial: u64,
+    grants: &[Grant],
+) -> Result<(), AllocError>
+    ensures { OnOk result (marks.new.items ≡ marks.old.items ++ run_marks serial grants.now) }
+{
+    match grants.first() {
+        Some(grant) => push(alloc, marks, MarkSort::RunsOn, &grant.at.host, b"", serial),
+        None => Ok(()),
+    }
+}
+
+// The marks of a running task.
+fn push_task(alloc: Global, marks: &mut Vec<JobMark>, task: &Running) -> Result<(), AllocError>
+    ensures { OnOk result (marks.new.items ≡ marks.old.items ++ marks_of_task task.now) }
+{
+    let none = Text::new(alloc);
+    push(alloc, marks, MarkSort::Runs, &none, b"", 0)?;
+    push(alloc, marks, MarkSort::Serial, &none, b"", task.serial)?;
+    push_run(alloc, marks, task.serial, task.grants.items())?;
+    push_grants(alloc, marks, task.grants.items())
+}
+
+/// The marks that a running task gives its job. An edit that starts or ends one tells them to the table of jobs.
+pub fn task_marks(alloc: Global, task: &Running) -> Result<Vec<JobMark>, AllocError>
+    ensures { IfOk result (λ marks. marks.items ≡ marks_of_task task.now) }
+{
+    let mut marks = Vec::new(alloc);
+    push_task(alloc, &mut marks, task)?;
+    Ok(marks)
+}
+
+// The marks of all running tasks.
+fn push_tasks(
+    alloc: Global,
+    marks: &mut Vec<JobMark>,
+    running: &Table<u32, Running>,
+) -> Result<(), AllocError>
+    ensures { OnOk result (marks.new.items ≡ marks.old.items ++ flat_map marks_of_task (values_of running.now)) }
+{
+    for task in running.values() {
+        push_task(alloc, marks, task)?;
+    }
+    Ok(())
+}
+
+// The marks of the attributes that are asked for.
+fn push_asked(
+    alloc: Global,
+    marks: &mut Vec<JobMark>,
+    asked: &Table<Text, Value>,
+) -> Result<(), AllocError>
+    ensures { OnOk result (marks.new.items ≡ marks.old.items ++ map attribute_mark (keys_of asked.now)) }
+{
+    for name in asked.keys() {
+        push(alloc, marks, MarkSort::Attribute, name, b"", 0)?;
+    }
+    Ok(())
+}
+
+// The mark of a project, where there is one.
+fn push_project(alloc: Global, marks: &mut Vec<JobMark>, project: &Text) -> Result<(), AllocError>
+    ensures { OnOk result (marks.new.items ≡ marks.old.items ++ project_marks project.now) }
+{
+    if project.is_empty() {
+        return Ok(());
+    }
+    push(alloc, marks, MarkSort::Project, project, b"", 0)
+}
+
+// The mark of an advance reservation, where there is one.
+fn push_advance(alloc: Global, marks: &mut Vec<JobMark>, advance: u32) -> Result<(), AllocError>
+    ensures { OnOk result (marks.new.items ≡ marks.old.items ++ advance_marks advance) }
+{
+    if advance == 0 {
+        return Ok(());
+    }
+    push(
+        alloc,
+        marks,
+        MarkSort::Advance,
+        &Text::new(alloc),
+        b"",
+        u64::from(advance),
+    )
+}
+
+// The mark of a parallel environment, where one is asked for.
+fn push_pe(
+    alloc: Global,
+    marks: &mut Vec<JobMark>,
+    pe: &Option<PeRequest>,
+) -> Result<(), AllocError>
+    ensures { OnOk result (marks.new.items ≡ marks.old.items ++ pe_marks pe.now) }
+{
+    match pe {
+        Some(pe) => push(alloc, marks, MarkSort::Pe, &pe.name, b"", 0),
+        None => Ok(()),
+    }
+}
+
+// What a job names.
+fn push_own(alloc: Global, marks: &mut Vec<JobMark>, job: &Job) -> Result<(), AllocError>
+    ensures { OnOk result (marks.new.items ≡ marks.old.items ++ own_marks job.now) }
+{
+    push(
+        alloc,
+        marks,
+        MarkSort::Owner,
+        &job.owner,
+        job.name.bytes(),
+        0,
+    )?;
+    push_project(alloc, marks, &job.project)?;
+    push_advance(alloc, marks, job.advance)?;
+    push_pe(alloc, marks, &job.request.pe)?;
+    push_asked(alloc, marks, &job.request.asked)
+}
+
+// Whether one of a task's grants bears a mark.
+fn grants_bear(grants: &[Grant], mark: &JobMark) -> bool
+    ensures { result ≡ is_among (⟦<JobMark as Ord>⟧.cmp) mark.now (flat_map grant_marks grants.now) }
+{
+    for grant in grants {
+        if grant_bears(grant, mark) {
+            return true;
+        }
+    }
+    false
+}
+
+fn grant_bears(grant: &Grant, mark: &JobMark) -> bool
+    ensures { result ≡ is_among (⟦<JobMark as Ord>⟧.cmp) mark.now (grant_marks grant.now) }
+{
+    mark.is(MarkSort::Queue, grant.at.queue.bytes(), b"", 0)
+        || mark.is(MarkSort::Host, grant.at.host.bytes(), b"", 0)
+}
+
+fn run_bears(serial: u64, grants: &[Grant], mark: &JobMark) -> bool
+    ensures { result ≡ is_among (⟦<JobMark as Ord>⟧.cmp) mark.now (run_marks serial grants.now) }
+{
+    match grants.first() {
+        Some(grant) => mark.is(MarkSort::RunsOn, grant.at.host.bytes(), b"", serial),
+        None => false,
+    }
+}
+
+// Whether a running task bears a mark.
+fn task_bears(task: &Running, mark: &JobMark) -> bool
+    ensures { result ≡ is_among (⟦<JobMark as Ord>⟧.cmp) mark.now (marks_of_task task.now) }
+{
+    mark.is(MarkSort::Runs, b"", b"", 0)
+        || mark.is(MarkSort::Serial, b"", b"", task.serial)
+        || run_bears(task.serial, task.grants.items(), mark)
+        || grants_bear(task.grants.items(), mark)
+}
+
+fn tasks_bear(running: &Table<u32, Running>, mark: &JobMark) -> bool
+    ensures { result ≡ is_among (⟦<JobMark as Ord>⟧.cmp) mark.now (flat_map marks_of_task (values_of running.now)) }
+{
+    for task in running.values() {
+        if task_bears(task, mark) {
+            return true;
+        }
+    }
+    false
+}
+
+fn asked_bear(asked: &Table<Text, Value>, mark: &JobMark) -> bool
+    ensures { result ≡ is_among (⟦<JobMark as Ord>⟧.cmp) mark.now (map attribute_mark (keys_of asked.now)) }
+{
+    for name in asked.keys() {
+        if mark.is(MarkSort::Attribute, name.bytes(), b"", 0) {
+            return true;
+        }
+    }
+    false
+}
+
+fn project_bears(project: &Text, mark: &JobMark) -> bool
+    ensures { result ≡ is_among (⟦<JobMark as Ord>⟧.cmp) mark.now (project_marks project.now) }
+{
+    !project.is_empty() && mark.is(MarkSort::Project, project.bytes(), b"", 0)
+}
+
+fn advance_bears(advance: u32, mark: &JobMark) -> bool
+    ensures { result ≡ is_among (⟦<JobMark as Ord>⟧.cmp) mark.now (advance_marks advance) }
+{
+    advance != 0 && mark.is(MarkSort::Advance, b"", b"", u64::from(advance))
+}
+
+fn pe_bears(pe: &Option<PeRequest>, mark: &JobMark) -> bool
+    ensures { result ≡ is_among (⟦<JobMark as Ord>⟧.cmp) mark.now (pe_marks pe.now) }
+{
+    match pe {
+        Some(pe) => mark.is(MarkSort::Pe, pe.name.bytes(), b"", 0),
+        None => false,
+    }
+}
+
+// Whether a job names what a mark says.
+fn own_bear(job: &Job, mark: &JobMark) -> bool
+    ensures { result ≡ is_among (⟦<JobMark as Ord>⟧.cmp) mark.now (own_marks job.now) }
+{
+    mark.is(MarkSort::Owner, job.owner.bytes(), job.name.bytes(), 0)
+        || project_bears(&job.project, mark)
+        || advance_bears(job.advance, mark)
+        || pe_bears(&job.request.pe, mark)
+        || asked_bear(&job.request.asked, mark)
+}
+
+// How many numbers a span has.
+fn span_size(span: &TaskSpan) -> u128
+    ensures size { result ≡ specs_size span.now }
+    ensures bound { result ≤ 2 ^ 32 }
+{
+    let steps = span
+        .last
+        .saturating_sub(span.first)
+        .checked_div(span.step)
+        .unwrap_or(0);
+    u128::from(steps) + 1
+}
+
+// How many numbers a set has.
+fn set_size(set: &TaskSet) -> u128
+    ensures size { result ≡ size_of_set set.now }
+    ensures bound { result ≤ 2 ^ 96 }
+{
+    let mut size = 0;
+    for span in set.spans() {
+        size += span_size(span);
+    }
+    size
+}
+
+// How many tasks of a job wait, are in error or run.
+fn live_tasks(job: &Job) -> u128
+    ensures { result ≡ live_of job.now }
+{
+    set_size(&job.queued) + set_size(&job.broken) + job.running.len() as u128
+}
+
+impl Row for Job {
+    ghost use Rattle.std.specs.Prelude.{◌≡◌, true};
+    ghost use Rattle.std.specs.List.Sorted.{IsStrictlySortedBy};
+    ghost use Rattle.std.specs.Map.{keys_of};
+    ghost use Rattle.std.specs.Ordering.{nat_cmp};
+    ghost use Rattle.ge_rows.specs.Marks.{job_marks};
+    ghost use Rattle.ge_rows.specs.Weights.{live_tasks, script_bytes};
+    ghost use Rattle.ge_rows.specs.TaskSet.{is_form};
+
+    /// What it names, and what its running tasks have.
+    type Mark = JobMark;
+
+    ghost weights = { λ job. (live_tasks job, script_bytes job) };
+
+    ghost marks = { job_marks };
+
+    ghost IsOrderly = { λ job. (is_form job.queued ≡ true) × ((is_form job.broken ≡ true) × IsStrictlySortedBy nat_cmp (keys_of job.running)) };
+
+    fn weights(&self) -> (u128, u128) {
+        (live_tasks(self), self.script.len() as u128)
+    }
+
+    fn bears(&self, mark: &JobMark) -> bool {
+        own_bear(self, mark) || tasks_bear(&self.running, mark)
+    }
+
+    fn marks(&self, alloc: Global) -> Result<Vec<JobMark>, AllocError> {
+        let mut marks = Vec::new(alloc);
+        push_own(alloc, &mut marks, self)?;
+        push_tasks(alloc, &mut marks, &self.running)?;
+        Ok(marks)
+    }
+
+    fn orderly(&self) {
+        let _queued = self.queued.spans();
+        let _broken = self.broken.spans();
+        let _running = self.running.len();
+    }
+}

@@ -1,0 +1,116 @@
+// What a table of jobs finds them by, and a plan's parts.
+use ge_rows::{
+    Grant, InstanceId, Job, JobMark, List, MarkSort, Planned, Reply, Request, Row, Running, Table,
+    TaskSet, TaskSpan, Text, task_marks,
+};
+use std::alloc::{AllocError, Global};
+use std::test::Fail;
+
+// A task that runs under serial 7 on all.q at local.
+fn running(alloc: Global) -> Result<Running, AllocError> {
+    let queue = Text::from_bytes(alloc, b"all.q")?;
+    let host = Text::from_bytes(alloc, b"local")?;
+    let mut grants = List::new(alloc);
+    grants.push(Grant {
+        at: InstanceId { queue, host },
+        slots: 2,
+    })?;
+    Ok(Running {
+        serial: 7,
+        start: 20,
+        grants,
+        deleting: false,
+    })
+}
+
+// A job of ann in a project, with a script of three bytes, one running task and tasks 2, 4 and 6 waiting.
+fn job(alloc: Global) -> Result<Job, AllocError> {
+    let mut tasks = Table::new(alloc);
+    tasks.insert(1, running(alloc)?)?;
+    let mut waiting = List::new(alloc);
+    waiting.push(TaskSpan {
+        first: 2,
+        last: 6,
+        step: 2,
+    })?;
+    Ok(Job {
+        number: 1,
+        name: Text::from_bytes(alloc, b"sim")?,
+        owner: Text::from_bytes(alloc, b"ann")?,
+        group: Text::new(alloc),
+        account: Text::new(alloc),
+        submitted: 10,
+        priority: 0,
+        share: 0,
+        project: Text::from_bytes(alloc, b"p")?,
+        reserve: false,
+        not_before: 0,
+        deadline: 0,
+        request: Request {
+            asked: Table::new(alloc),
+            queues: List::new(alloc),
+            pe: None,
+        },
+        array: true,
+        span: TaskSpan {
+            first: 1,
+            last: 6,
+            step: 1,
+        },
+        queued: TaskSet::from_spans(waiting),
+        broken: TaskSet::new(alloc),
+        running: tasks,
+        hold: 0,
+        after: List::new(alloc),
+        after_each: List::new(alloc),
+        oticket: 0,
+        words: List::new(alloc),
+        script: Text::from_bytes(alloc, b"a\nb")?,
+        advance: 3,
+    })
+}
+
+#[test]
+fn the_marks_of_a_task(rt: HostRuntime) -> Result<(), Fail> {
+    let marks = task_marks(rt.alloc(), &running(rt.alloc())?)?;
+    assert_eq!(rt; marks.len(), 5);
+    let serial = JobMark::new(rt.alloc(), MarkSort::Serial, b"", b"", 7)?;
+    assert!(rt; marks[1] == serial);
+    let host = JobMark::new(rt.alloc(), MarkSort::RunsOn, b"local", b"", 7)?;
+    assert!(rt; marks[2] == host);
+    Ok(())
+}
+
+#[test]
+fn a_table_of_jobs(rt: HostRuntime) -> Result<(), Fail> {
+    let job = job(rt.alloc())?;
+    let marks = job.marks(rt.alloc())?;
+    assert_eq!(rt; marks.len(), 8);
+    let mut jobs = Table::new(rt.alloc());
+    assert!(rt; jobs.insert(1, job)?.is_none());
+    assert!(rt; jobs.totals() == (4, 3));
+    let serial = JobMark::new(rt.alloc(), MarkSort::Serial, b"", b"", 7)?;
+    assert!(rt; jobs.is_borne(&serial));
+    let owner = JobMark::new(rt.alloc(), MarkSort::Owner, b"ann", b"sim", 0)?;
+    assert!(rt; jobs.bearers(rt.alloc(), &owner)?.as_slice() == [1].as_slice());
+    let queue = JobMark::new(rt.alloc(), MarkSort::Queue, b"b.q", b"", 0)?;
+    assert!(rt; !jobs.is_borne(&queue));
+    Ok(())
+}
+
+#[test]
+fn the_parts_of_a_plan(rt: HostRuntime) -> Result<(), Fail> {
+    let plan = Planned {
+        entry: None,
+        reply: Reply {
+            code: 11,
+            lines: List::new(rt.alloc()),
+        },
+        stop: false,
+    };
+    let (entry, reply, stop) = plan.into_parts();
+    assert!(rt; entry.is_none());
+    assert_eq!(rt; reply.code, 11);
+    assert!(rt; !stop);
+    Ok(())
+}
