@@ -1,0 +1,16 @@
+pub mod ValueRows
+pub mod HostRows
+pub mod QueueRows
+pub mod PeRows
+pub mod QuotaRows
+pub mod PeopleRows
+pub mod SettingRows
+pub mod TaskRows
+pub mod JobRows
+pub mod AccountRows
+pub mod ClusterRows
+pub mod ScheduleRows
+pub mod DecisionRows
+pub mod EntryRows
+pub mod EventRows
+pub mod CommandRows
