@@ -1,4 +1,5 @@
 // A disk: bytes that outlive a stop, as far as they were synced.
+ghost use Rattle.ge_limits.specs.Limits.{area_bytes};
 ghost use Rattle.std.specs.Prelude.{◌≡◌, ◌≤◌, ◌+◌, ◌^◌, ℕ, List, length, IfOk, OnOk, OnErr};
 ghost use Rattle.ge_outside.specs.Faults.{HasCause};
 ghost use Rattle.ge_outside.specs.Disks.{StaysOrWrites};
@@ -12,7 +13,7 @@ pub trait Disk {
     /// The disk's moments, newest first, where it tells them; else none.
     ghost told: { Self → List Content };
 
-    /// How often a call has failed.
+    /// How often a call has failed. A call that answers `Ok` leaves it.
     ghost disk_faults: { Self → ℕ };
 
     /// How often the disk was synced.
@@ -24,7 +25,8 @@ pub trait Disk {
         ensures length { IfOk result (λ n. HasLength (told self.old) n) }
         ensures told { told self.new ≡ told self.old }
         ensures syncs { syncs self.new ≡ syncs self.old }
-        ensures cause { HasCause (disk_faults self.old) (disk_faults self.new) result };
+        ensures cause { HasCause (disk_faults self.old) (disk_faults self.new) result }
+        ensures no_fault { OnOk result (disk_faults self.new ≡ disk_faults self.old) };
 
     /// Fills `buf` with the bytes from `at` on, as far as there are any, and answers how many.
     fn read_at(&mut self, at: u64, buf: &mut [u8]) -> Result<usize, Failed>
@@ -32,16 +34,18 @@ pub trait Disk {
         ensures read { IfOk result (λ n. Reads (told self.old) at n buf.old buf.new) }
         ensures told { told self.new ≡ told self.old }
         ensures syncs { syncs self.new ≡ syncs self.old }
-        ensures cause { HasCause (disk_faults self.old) (disk_faults self.new) result };
+        ensures cause { HasCause (disk_faults self.old) (disk_faults self.new) result }
+        ensures no_fault { OnOk result (disk_faults self.new ≡ disk_faults self.old) };
 
     /// Writes `piece` over what stands at `at`, and past the end.
     fn write_at(&mut self, at: u64, piece: &[u8]) -> Result<(), Failed>
-        requires below_limit { at + length piece.now ≤ 2 ^ 30 }
+        requires below_limit { at + length piece.now ≤ area_bytes }
         requires within { IsWithin (told self.old) at }
         ensures written { OnOk result (told self.new ≡ told_written (told self.old) at piece.now) }
         ensures failed { OnErr result (StaysOrWrites (told self.old) (told self.new) at piece.now) }
         ensures syncs { syncs self.new ≡ syncs self.old }
-        ensures cause { HasCause (disk_faults self.old) (disk_faults self.new) result };
+        ensures cause { HasCause (disk_faults self.old) (disk_faults self.new) result }
+        ensures no_fault { OnOk result (disk_faults self.new ≡ disk_faults self.old) };
 
     /// Makes what was written outlast a stop. A sync that failed leaves it pending.
     fn sync(&mut self) -> Result<(), Failed>
@@ -49,7 +53,8 @@ pub trait Disk {
         ensures failed { OnErr result (told self.new ≡ told self.old) }
         ensures counted { syncs self.new ≤ syncs self.old + 1 }
         ensures later { syncs self.old ≤ syncs self.new }
-        ensures cause { HasCause (disk_faults self.old) (disk_faults self.new) result };
+        ensures cause { HasCause (disk_faults self.old) (disk_faults self.new) result }
+        ensures no_fault { OnOk result (disk_faults self.new ≡ disk_faults self.old) };
 
     /// The disk as it reads is one of its images.
     ghost reads_an_image: { (disk : Self) → ReadsAnImage (told disk) };

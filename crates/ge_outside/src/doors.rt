@@ -15,7 +15,7 @@ pub trait Door {
     /// The links that were given back, in order, where the door tells them.
     ghost closed: { Self → Option (List ClosedLink) };
 
-    /// How often a call of the door has failed.
+    /// How often a call of the door has failed. A call that answers `Ok` leaves it.
     ghost door_faults: { Self → ℕ };
 
     /// How many links with faults were given back.
@@ -29,7 +29,8 @@ pub trait Door {
         ensures kept { OnErr result (coming self.new ≡ coming self.old) }
         ensures closed { closed self.new ≡ closed self.old }
         ensures link_faults { link_faults self.new ≡ link_faults self.old }
-        ensures cause { HasCause (door_faults self.old) (door_faults self.new) result };
+        ensures cause { HasCause (door_faults self.old) (door_faults self.new) result }
+        ensures no_fault { OnOk result (door_faults self.new ≡ door_faults self.old) };
 
     /// Gives a link back. Where that fails the link is dropped.
     fn close(&mut self, link: Self::Link) -> Result<(), Failed>
@@ -40,5 +41,6 @@ pub trait Door {
         ensures kept { OnErr result (closed self.new ≡ closed self.old) }
         ensures uncounted { OnErr result (link_faults self.new ≡ link_faults self.old) }
         ensures coming { coming self.new ≡ coming self.old }
-        ensures cause { HasCause (door_faults self.old) (door_faults self.new) result };
+        ensures cause { HasCause (door_faults self.old) (door_faults self.new) result }
+        ensures no_fault { OnOk result (door_faults self.new ≡ door_faults self.old) };
 }

@@ -1,4 +1,5 @@
 // The past of a disk in memory.
+ghost use Rattle.ge_limits.specs.Limits.{area_bytes};
 ghost use Rattle.std.specs.Prelude.{◌≡◌, ◌≤◌, ◌+◌, ◌^◌, ◌∷◌, [], List, ℕ, length, IfOk, OnOk, OnErr};
 ghost use Rattle.ge_model_disk.specs.Disk.{settled_content, overwritten, IsWithin, told_written, told_synced};
 ghost use Rattle.ge_outside.specs.Starts.{start_of};
@@ -38,7 +39,7 @@ impl History {
 
     /// A write, with a copy of its bytes.
     fn copied(alloc: Global, at: u64, piece: &[u8]) -> Result<Write, AllocError>
-        requires { at + length piece.now ≤ 2 ^ 30 }
+        requires { at + length piece.now ≤ area_bytes }
         ensures at { IfOk result (λ write. write.at ≡ at) }
         ensures piece { IfOk result (λ write. write.piece.items ≡ piece.now) }
     {
@@ -48,7 +49,7 @@ impl History {
 
     // Makes a write and keeps it, or does neither.
     pub fn write(&mut self, alloc: Global, at: u64, piece: &[u8]) -> Result<(), AllocError>
-        requires below_limit { at + length piece.now ≤ 2 ^ 30 }
+        requires below_limit { at + length piece.now ≤ area_bytes }
         requires within { IsWithin (history_told self.old) at }
         ensures written { OnOk result (history_told self.new ≡ told_written (history_told self.old) at piece.now) }
         ensures stays { OnErr result (history_told self.new ≡ history_told self.old) }
@@ -91,7 +92,7 @@ fn keep_first(alloc: Global, first: &mut Option<Vec<u8>>, bytes: &Vec<u8>) -> Re
 
 // A write, with a copy of its bytes.
 fn copied(alloc: Global, at: u64, piece: &[u8]) -> Result<Write, AllocError>
-    requires { at + length piece.now ≤ 2 ^ 30 }
+    requires { at + length piece.now ≤ area_bytes }
     ensures at { IfOk result (λ write. write.at ≡ at) }
     ensures piece { IfOk result (λ write. write.piece.items ≡ piece.now) }
 {
@@ -107,7 +108,7 @@ fn keep_write(
     at: u64,
     piece: &[u8],
 ) -> Result<(), AllocError>
-    requires below_limit { at + length piece.now ≤ 2 ^ 30 }
+    requires below_limit { at + length piece.now ≤ area_bytes }
     requires within { at ≤ length bytes.old.items }
     ensures bytes { OnOk result (bytes.new.items ≡ overwritten bytes.old.items at piece.now) }
     ensures step { OnOk result (Keeps steps.old.items steps.new.items at piece.now) }

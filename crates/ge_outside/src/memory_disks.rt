@@ -1,4 +1,5 @@
 // A disk in memory.
+ghost use Rattle.ge_limits.specs.Limits.{area_bytes};
 ghost use Rattle.std.specs.Prelude.{◌≡◌, ◌↔◌, ◌+◌, ◌^◌, ◌≤◌, ℕ, List, length, IfOk, IsErr, OnOk, OnErr};
 ghost use Rattle.ge_model_disk.specs.Disk.{settled_content};
 ghost use Rattle.ge_outside.specs.Starts.{start_of};
@@ -68,7 +69,7 @@ impl Disk for MemDisk {
     ghost use Rattle.std.specs.Prelude.{List};
     ghost use Rattle.ge_model_disk.specs.Disk.{HasLength, IsWithin, Reads, told_written, told_synced};
     ghost use Rattle.ge_outside.specs.Disks.{StaysOrWrites};
-    ghost use Rattle.ge_outside.specs.Faults.{HasCause};
+    ghost use Rattle.ge_outside.specs.Faults.{HasCause, one_more};
     ghost use Rattle.ge_outside.specs.Schedules.{IsDue, next_call};
     ghost use Rattle.ge_outside.specs.MemoryDisks.{disk_told, disk_schedule, disk_fault_count, disk_sync_count};
     ghost use Rattle.ge_outside.specs.Images.{reads_an_image};
@@ -88,6 +89,7 @@ impl Disk for MemDisk {
         ensures told { disk_told self.new ≡ disk_told self.old }
         ensures syncs { disk_sync_count self.new ≡ disk_sync_count self.old }
         ensures cause { HasCause (disk_fault_count self.old) (disk_fault_count self.new) result }
+        ensures no_fault { OnOk result (disk_fault_count self.new ≡ disk_fault_count self.old) }
         ensures due { IsErr result ↔ IsDue (disk_schedule self.old) }
         ensures calls { disk_schedule self.new ≡ next_call (disk_schedule self.old) }
     {
@@ -105,6 +107,7 @@ impl Disk for MemDisk {
         ensures told { disk_told self.new ≡ disk_told self.old }
         ensures syncs { disk_sync_count self.new ≡ disk_sync_count self.old }
         ensures cause { HasCause (disk_fault_count self.old) (disk_fault_count self.new) result }
+        ensures no_fault { OnOk result (disk_fault_count self.new ≡ disk_fault_count self.old) }
         ensures due { IsErr result ↔ IsDue (disk_schedule self.old) }
         ensures calls { disk_schedule self.new ≡ next_call (disk_schedule self.old) }
     {
@@ -120,12 +123,13 @@ impl Disk for MemDisk {
     /// It fails at the calls that were chosen, where the write is made nevertheless, and where there is no
     /// memory, where it is not.
     fn write_at(&mut self, at: u64, piece: &[u8]) -> Result<(), Failed>
-        requires below_limit { at + length piece.now ≤ 2 ^ 30 }
+        requires below_limit { at + length piece.now ≤ area_bytes }
         requires within { IsWithin (disk_told self.old) at }
         ensures written { OnOk result (disk_told self.new ≡ told_written (disk_told self.old) at piece.now) }
         ensures failed { OnErr result (StaysOrWrites (disk_told self.old) (disk_told self.new) at piece.now) }
         ensures syncs { disk_sync_count self.new ≡ disk_sync_count self.old }
         ensures cause { HasCause (disk_fault_count self.old) (disk_fault_count self.new) result }
+        ensures no_fault { OnOk result (disk_fault_count self.new ≡ disk_fault_count self.old) }
         ensures due { IsDue (disk_schedule self.old) → IsErr result }
         ensures calls { disk_schedule self.new ≡ next_call (disk_schedule self.old) }
     {
@@ -137,13 +141,16 @@ impl Disk for MemDisk {
         Ok(())
     }
 
-    /// It fails at the calls that were chosen, and where there is no memory.
+    /// It fails at the calls that were chosen, and where there is no memory. Any other sync is counted.
     fn sync(&mut self) -> Result<(), Failed>
         ensures synced { OnOk result (disk_told self.new ≡ told_synced (disk_told self.old)) }
         ensures failed { OnErr result (disk_told self.new ≡ disk_told self.old) }
         ensures counted { disk_sync_count self.new ≤ disk_sync_count self.old + 1 }
         ensures later { disk_sync_count self.old ≤ disk_sync_count self.new }
+        ensures one_more { OnOk result (disk_sync_count self.new ≡ one_more (disk_sync_count self.old)) }
+        ensures no_more { OnErr result (disk_sync_count self.new ≡ disk_sync_count self.old) }
         ensures cause { HasCause (disk_fault_count self.old) (disk_fault_count self.new) result }
+        ensures no_fault { OnOk result (disk_fault_count self.new ≡ disk_fault_count self.old) }
         ensures due { IsDue (disk_schedule self.old) → IsErr result }
         ensures calls { disk_schedule self.new ≡ next_call (disk_schedule self.old) }
     {

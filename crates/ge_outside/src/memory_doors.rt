@@ -83,6 +83,7 @@ impl Door for MemDoor {
         ensures closed { door_closed self.new ≡ door_closed self.old }
         ensures link_faults { door_link_faults self.new ≡ door_link_faults self.old }
         ensures cause { HasCause (door_faults self.old) (door_faults self.new) result }
+        ensures no_fault { OnOk result (door_faults self.new ≡ door_faults self.old) }
         ensures due { IsErr result ↔ (IsDue (door_schedule self.old) ⊎ (door_coming self.old ≡ [])) }
         ensures counted { door_schedule self.new ≡ next_call (door_schedule self.old) }
     {
@@ -104,6 +105,7 @@ impl Door for MemDoor {
         ensures uncounted { OnErr result (door_link_faults self.new ≡ door_link_faults self.old) }
         ensures coming { door_coming self.new ≡ door_coming self.old }
         ensures cause { HasCause (door_faults self.old) (door_faults self.new) result }
+        ensures no_fault { OnOk result (door_faults self.new ≡ door_faults self.old) }
         ensures due { IsDue (door_schedule self.old) → IsErr result }
         ensures calls { door_schedule self.new ≡ next_call (door_schedule self.old) }
     {

@@ -1,5 +1,5 @@
 // A connection in memory.
-ghost use Rattle.std.specs.Prelude.{◌≡◌, ◌↔◌, ◌<◌, ◌≤◌, ◌+◌, List, [], IsTrue, vec_len, length, take, drop, Some, IfOk, IsErr, OnErr};
+ghost use Rattle.std.specs.Prelude.{◌≡◌, ◌↔◌, ◌<◌, ◌≤◌, ◌+◌, List, [], IsTrue, vec_len, length, take, drop, Some, IfOk, IsErr, OnErr, OnOk};
 ghost use Rattle.ge_outside.specs.Faults.{HasCause};
 ghost use Rattle.ge_outside.specs.Streams.{Takes, Gains};
 
@@ -83,6 +83,7 @@ impl Source for MemLink {
         ensures written { link_written self.new ≡ link_written self.old }
         ensures write_faults { link_write_faults self.new ≡ link_write_faults self.old }
         ensures cause { HasCause (link_read_faults self.old) (link_read_faults self.new) result }
+        ensures no_fault { OnOk result (link_read_faults self.new ≡ link_read_faults self.old) }
         ensures due { IsErr result ↔ IsDue (link_schedule self.old) }
         ensures counted { link_schedule self.new ≡ next_call (link_schedule self.old) }
     {
@@ -116,6 +117,7 @@ impl Sink for MemLink {
         ensures rest { link_rest self.new ≡ link_rest self.old }
         ensures read_faults { link_read_faults self.new ≡ link_read_faults self.old }
         ensures cause { HasCause (link_write_faults self.old) (link_write_faults self.new) result }
+        ensures no_fault { OnOk result (link_write_faults self.new ≡ link_write_faults self.old) }
         ensures whole { IfOk result (λ n. n ≡ length piece.now) }
         ensures due { IsDue (link_schedule self.old) → IsErr result }
         ensures counted { link_schedule self.new ≡ next_call (link_schedule self.old) }

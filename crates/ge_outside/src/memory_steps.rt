@@ -1,4 +1,5 @@
 // What a disk in memory keeps of its past.
+ghost use Rattle.ge_limits.specs.Limits.{area_bytes};
 ghost use Rattle.std.specs.Prelude.{◌+◌, ◌^◌, ◌≤◌, vec_len};
 
 /// A write: the place and the bytes.
@@ -6,7 +7,7 @@ ghost use Rattle.std.specs.Prelude.{◌+◌, ◌^◌, ◌≤◌, vec_len};
 pub struct Write {
     pub at: u64,
     pub piece: Vec<u8>,
-    ghost below_limit: { at + vec_len piece ≤ 2 ^ 30 },
+    ghost below_limit: { at + vec_len piece ≤ area_bytes },
 }
 
 /// What a call did to a disk.

@@ -49,6 +49,7 @@ impl Source for MemSource {
         ensures taken { IfOk result (λ n. Takes n (Some (source_rest self.old)) (Some (source_rest self.new)) buf.old buf.new) }
         ensures kept { OnErr result (source_rest self.new ≡ source_rest self.old) }
         ensures cause { HasCause (source_faults self.old) (source_faults self.new) result }
+        ensures no_fault { OnOk result (source_faults self.new ≡ source_faults self.old) }
         ensures due { IsErr result ↔ IsDue (source_schedule self.old) }
         ensures counted { source_schedule self.new ≡ next_call (source_schedule self.old) }
     {
@@ -149,6 +150,7 @@ impl Sink for MemSink {
         ensures gained { IfOk result (λ n. Gains (Some (sink_bytes self.old)) (Some (sink_bytes self.new)) (take n piece.now)) }
         ensures kept { OnErr result (sink_bytes self.new ≡ sink_bytes self.old) }
         ensures cause { HasCause (sink_faults self.old) (sink_faults self.new) result }
+        ensures no_fault { OnOk result (sink_faults self.new ≡ sink_faults self.old) }
         ensures whole { IfOk result (λ n. n ≡ length piece.now) }
         ensures due { IsDue (sink_schedule self.old) → IsErr result }
         ensures counted { sink_schedule self.new ≡ next_call (sink_schedule self.old) }

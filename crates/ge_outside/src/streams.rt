@@ -10,7 +10,7 @@ pub trait Source {
     /// The bytes that are left to read, where the source tells them.
     ghost rest: { Self → Option (List ℕ) };
 
-    /// How often a read has failed.
+    /// How often a read has failed. A read that answers `Ok` leaves it.
     ghost read_faults: { Self → ℕ };
 
     /// What was written to the same connection, and how often that failed: a read leaves both.
@@ -23,7 +23,8 @@ pub trait Source {
         ensures taken { IfOk result (λ n. Takes n (rest self.old) (rest self.new) buf.old buf.new) }
         ensures kept { OnErr result (rest self.new ≡ rest self.old) }
         ensures write_side { write_side self.new ≡ write_side self.old }
-        ensures cause { HasCause (read_faults self.old) (read_faults self.new) result };
+        ensures cause { HasCause (read_faults self.old) (read_faults self.new) result }
+        ensures no_fault { OnOk result (read_faults self.new ≡ read_faults self.old) };
 }
 
 /// Where bytes are written, at the end.
@@ -31,7 +32,7 @@ pub trait Sink {
     /// The bytes that were written, where the sink tells them.
     ghost written: { Self → Option (List ℕ) };
 
-    /// How often a write has failed.
+    /// How often a write has failed. A write that answers `Ok` leaves it.
     ghost write_faults: { Self → ℕ };
 
     /// What is left to read on the same connection, and how often that failed: a write leaves both.
@@ -45,11 +46,12 @@ pub trait Sink {
         ensures gained { IfOk result (λ n. Gains (written self.old) (written self.new) (take n piece.now)) }
         ensures kept { OnErr result (written self.new ≡ written self.old) }
         ensures read_side { read_side self.new ≡ read_side self.old }
-        ensures cause { HasCause (write_faults self.old) (write_faults self.new) result };
+        ensures cause { HasCause (write_faults self.old) (write_faults self.new) result }
+        ensures no_fault { OnOk result (write_faults self.new ≡ write_faults self.old) };
 }
 
-/// One connection: its bytes are read, and replies are written.
-pub trait Link: Source + Sink {
+/// One connection: its bytes are read, and replies are written. It may be let go.
+pub trait Link: Source + Sink + Drop {
     /// A read leaves what was written.
     ghost reads_leave: { (link : Self) → Self.write_side link ≡ (Self.written link, Self.write_faults link) };
 
@@ -64,6 +66,7 @@ pub fn write_all<K: Sink>(sink: &mut K, piece: &[u8]) -> Result<(), Failed>
     ensures front { OnErr result (GainsPrefix (K.written sink.old) (K.written sink.new) piece.now) }
     ensures read_side { K.read_side sink.new ≡ K.read_side sink.old }
     ensures cause { HasCause (K.write_faults sink.old) (K.write_faults sink.new) result }
+    ensures no_fault { OnOk result (K.write_faults sink.new ≡ K.write_faults sink.old) }
 {
     let mut done = 0;
     while done < piece.len() {
