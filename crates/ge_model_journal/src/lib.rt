@@ -1,8 +1,19 @@
-//! What the bytes of a journal's two areas stand for: definitions, and the two small types that they
-//! share with the code that reads an area.
+//! What the bytes of a journal's two areas stand for: definitions, and the small types that they share
+//! with the code that reads an area.
 #![tactic(auto)]
 
-/// What the header of an area says.
+/// What the header of an open area says.
+#[derive(Clone, Copy)]
+pub struct Header {
+    /// 1 or 2; what is written has 2.
+    pub format: u8,
+    /// At least 1.
+    pub generation: u64,
+    /// How many bytes its snapshot has.
+    pub size: u64,
+}
+
+/// What the first bytes of an area say.
 #[derive(Clone, Copy)]
 pub enum Head {
     /// It is not open.
@@ -11,8 +22,8 @@ pub enum Head {
     Faulty(u64),
     /// It is open, with this generation, and its snapshot passes the end.
     Overlong(u64),
-    /// It is open, with this generation and a snapshot of so many bytes.
-    Sound(u64, u64),
+    /// It is open, with this header.
+    Sound(Header),
 }
 
 /// Which of two areas counts, by their headers.
@@ -20,8 +31,8 @@ pub enum Head {
 pub enum Choice {
     /// None is open.
     Neither,
-    /// The second area or the first, with its generation and the size of its snapshot.
-    Chosen(bool, u64, u64),
+    /// The second area or the first, with its header.
+    Chosen(bool, Header),
     /// The header of this area, 0 or 1, is wrong at this place.
     Wrong(u8, u64),
 }

@@ -8,3 +8,6 @@ pub mod Settling
 pub mod Looking
 pub mod ShortAreas
 pub mod Openings
+pub mod Growing
+pub mod Places
+pub mod Written

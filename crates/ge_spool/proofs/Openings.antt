@@ -1,19 +1,19 @@
 -- Opening as a whole: what every pair of images stands for, and what is answered.
-use Rattle.std.specs.Prelude.{◌≡◌, ◌⊎◌, ℕ, Bool, true, false, ◌==◌, nat_lt, if◌then◌else◌, List, [], ◌∷◌, length, Result, Ok, Err, IfOk, refl}
+use Rattle.std.specs.Prelude.{◌≡◌, ◌⊎◌, ℕ, Bool, true, false, ◌==◌, nat_lt, if◌then◌else◌, List, [], ◌∷◌, length, Ok, Err, refl}
 use Rattle.std.proofs.Common.{◌∙◌, sym, ap, subst, inl, inr, ⊎_elim}
-use Rattle.ge_model_disk.specs.Disk.{Content, IsImageSince, read_bytes, settled_content, told_synced}
+use Rattle.ge_model_disk.specs.Disk.{Content, IsImageSince, overwritten, read_bytes, settled_content, told_synced}
 use Rattle.ge_model_journal.specs.Area.{head}
-use Rattle.ge_model_journal.specs.Journal.{meaning, meaning_by, choice, first_state, area_number}
+use Rattle.ge_model_journal.specs.Journal.{meaning, meaning_by, choice, first_state, area_number, counted_area}
+use Rattle.ge_model_journal.specs.Writing.{bytes_of_area, padded, first_opened, second_opened}
+use Rattle.ge_model_journal.specs.declared.Header.{Header}
 use Rattle.ge_model_journal.specs.declared.Head.{Head}
 use Rattle.ge_model_journal.specs.declared.Head.TheVariants.{Closed, Faulty, Overlong, Sound}
 use Rattle.ge_model_journal.specs.declared.Choice.TheVariants.{Neither, Chosen, Wrong}
-use Rattle.ge_spool.specs.Moments.{IsQuiet, Since, quiet_image, since_none, since_same, since_join, since_weaker, since_quiet}
-use Rattle.ge_spool.specs.Opening.{Tells, Opens, IsNoFrame, IsPadImage, IsFreshImage, raw_state}
-use Rattle.ge_spool.specs.Settled.{IsSettled, is_second}
+use Rattle.ge_spool.specs.Moments.{IsQuiet, Since, read_bytes-quiet, quiet_image, since_none, since_same, since_join, since_weaker, since_quiet}
+use Rattle.ge_spool.specs.Opening.{Tells, HasOpened, IsPadImage, IsFreshImage, raw_state}
+use Rattle.ge_spool.specs.Settled.{IsSettled}
 use Rattle.ge_spool.specs.declared.spool.Spool.{Spool}
 use Rattle.ge_spool.specs.declared.raw.Raw.{Raw}
-use Rattle.ge_spool.specs.declared.faults.OpenFault.{OpenFault}
-use Rattle.ge_spool.specs.declared.faults.OpenFault.TheVariants.{Disk, Frame, Bad, Memory}
 use Rattle.ge_spool.proofs.ShortAreas.{head-pad, meaning-pad, meaning-fresh}
 
 -- a sync leaves a quiet disk as it is
@@ -77,10 +77,10 @@ unfolding meaning
 meaning-wrong a b ha hb area place is_a is_b wrong =
     ap (λ ch. meaning_by ch a b) (ap (λ h. choice h (head b)) (sym is_a) ∙ ap (λ h. choice ha h) (sym is_b) ∙ wrong)
 
-both-tests : (same less : Bool) (g n h m : ℕ) → (if same then Wrong 1 2 else (if less then Chosen false g n else Chosen true h m)) ≡ Neither → ⊥
-both-tests true less g n h m e = cc
-both-tests false true g n h m e = cc
-both-tests false false g n h m e = cc
+both-tests : (same less : Bool) (x y : Header) → (if same then Wrong 1 2 else (if less then Chosen false x else Chosen true y)) ≡ Neither → ⊥
+both-tests true less x y e = cc
+both-tests false true x y e = cc
+both-tests false false x y e = cc
 
 overlong-tests : (same : Bool) → (if same then Wrong 1 2 else Wrong 1 10) ≡ Neither → ⊥
 overlong-tests true e = cc
@@ -91,21 +91,36 @@ pub choice-neither : (a b : Head) → choice a b ≡ Neither → (a ≡ Closed) 
 choice-neither Closed Closed e = (refl, refl)
 choice-neither Closed (Faulty place) e = absurd (cc)
 choice-neither Closed (Overlong other) e = absurd (cc)
-choice-neither Closed (Sound g n) e = absurd (cc)
+choice-neither Closed (Sound x) e = absurd (cc)
 choice-neither (Faulty place) b e = absurd (cc)
 choice-neither (Overlong other) b e = absurd (cc)
-choice-neither (Sound g n) Closed e = absurd (cc)
-choice-neither (Sound g n) (Faulty place) e = absurd (cc)
-choice-neither (Sound g n) (Overlong h) e = absurd (overlong-tests (g == h) e)
-choice-neither (Sound g n) (Sound h m) e = absurd (both-tests (g == h) (nat_lt h g) g n h m e)
+choice-neither (Sound x) Closed e = absurd (cc)
+choice-neither (Sound x) (Faulty place) e = absurd (cc)
+choice-neither (Sound x) (Overlong h) e = absurd (overlong-tests (x.generation == h) e)
+choice-neither (Sound x) (Sound y) e = absurd (both-tests (x.generation == y.generation) (nat_lt y.generation x.generation) x y e)
 
--- the answer where a first area was made
-pub opens-fresh : (r : Result (Spool × Raw) OpenFault) (A B : List ℕ) (a b : List Content) → IfOk r (λ opened. IsSettled opened.0 a b first_state)
-    → IfOk r (λ opened. raw_state opened.1 ≡ first_state) → IfOk r (λ opened. opened.1.area ≡ area_number (is_second opened.0)) → IsNoFrame r
-    → meaning A B ≡ Ok first_state → Opens r A B a b
-opens-fresh (Ok opened) A B a b settled raw area no_frame stands =
-    (subst (λ s. IsSettled opened.0 a b s) (sym raw) settled, stands ∙ ap (λ s. Ok s) (sym raw), area)
-opens-fresh (Err Disk) A B a b settled raw area no_frame stands = tt
-opens-fresh (Err (Frame number place)) A B a b settled raw area no_frame stands = absurd no_frame
-opens-fresh (Err (Bad number place)) A B a b settled raw area no_frame stands = no_frame
-opens-fresh (Err Memory) A B a b settled raw area no_frame stands = tt
+-- what is opened where a first area was made
+pub opened-first : (s : Spool) (raw : Raw) (A B : List ℕ) (a b : List Content) → IsSettled s a b first_state
+    → raw.format ≡ 2 → raw.generation ≡ 1 → raw.area ≡ 0 → raw.snapshot ≡ [] → raw.records ≡ [] → head A ≡ Closed → head B ≡ Closed
+    → read_bytes a ≡ overwritten A 0 (bytes_of_area 1 []) → read_bytes b ≡ padded B → HasOpened s raw A B a b
+opened-first s raw A B a b settled format generation area snapshot records closed_a closed_b reads_a reads_b =
+    let is_first : raw_state raw ≡ first_state = rw (format, generation, snapshot, records) refl in
+    record {
+      settled = subst (λ state. IsSettled s a b state) (sym is_first) settled;
+      stands = meaning-fresh A B (inl closed_a) closed_b ∙ ap (λ state. Ok state) (sym is_first);
+      area = rw (closed_a, closed_b) area;
+      first = rw (closed_a, closed_b) reads_a;
+      second = rw (closed_a, closed_b) reads_b;
+    }
+
+-- and where an area was open
+pub opened-chosen : (s : Spool) (raw : Raw) (A B : List ℕ) (a b : List Content) (second : Bool) (header : Header) → IsSettled s a b (raw_state raw)
+    → meaning A B ≡ Ok (raw_state raw) → raw.area ≡ area_number second → choice (head A) (head B) ≡ Chosen second header
+    → IsQuiet a (padded A) → IsQuiet b (padded B) → HasOpened s raw A B a b
+opened-chosen s raw A B a b second header settled stands area chosen quiet_a quiet_b = record {
+  settled = settled;
+  stands = stands;
+  area = area ∙ sym (ap (λ ch. counted_area ch) chosen);
+  first = read_bytes-quiet a (padded A) quiet_a ∙ sym (ap (λ ch. first_opened ch A) chosen);
+  second = read_bytes-quiet b (padded B) quiet_b ∙ sym (ap (λ ch. second_opened ch B) chosen);
+}

@@ -3,7 +3,9 @@ use Rattle.std.specs.Prelude.{◌≡◌, ◌⊎◌, ℕ, zero, suc, ◌+◌, ◌
 use Rattle.std.proofs.Common.{arith, ◌∙◌, sym, ap, subst, inl, inr, ⊎_elim, length-append, length-take, length-drop, append_assoc}
 use Rattle.std.proofs.lemmas.List.{get_or_append_left, take_at, drop_at, drop-append-le, take-append-drop, get_or-take, drop-take, drop-drop}
 use Rattle.std.proofs.lemmas.Bool.{le-ltb, ltb-false, ne_eqb, eqb-false, eqb-true}
-use Rattle.ge_model_journal.specs.Area.{number4, number8, head, head_of, and_found, is_bad_length, records_from, records_of}
+use Rattle.ge_model_journal.specs.Area.{number4, number8, head, head_of, is_format, is_bad_generation, and_found, is_bad_length, records_from, records_of}
+use Rattle.ge_model_journal.specs.Journal.{State, header_of}
+use Rattle.ge_model_journal.specs.declared.Header.{Header}
 use Rattle.ge_model_journal.specs.declared.Head.TheVariants.{Closed, Faulty, Overlong, Sound}
 use Rattle.ge_spool.proofs.Parts.{IsBlocks, IsArea}
 
@@ -29,11 +31,11 @@ number8-append top more at fits =
     rw (at0, at1, at2, at3, at4, at5, at6, at7) refl
 
 -- a header without a fault
-pub head_of-sound : (size : ℕ) (bytes : List ℕ) (generation n : ℕ) → 19 ≤ size → slice_index bytes 0 ≡ 1 → slice_index bytes 1 ≡ 1
-    → number8 bytes 2 ≡ generation → 0 < generation → number8 bytes 10 ≡ n → n ≤ size - 18 → head_of size bytes ≡ Sound generation n
-head_of-sound size bytes generation n long gate format field above size_field fits =
-    let positive : (generation == 0) ≡ false = ne_eqb generation 0 (λ e. omega arith) in
-    rw (le-ltb size 19 long, gate, format, field, positive, size_field, le-ltb (size - 18) n fits) refl
+pub head_of-sound : (size : ℕ) (bytes : List ℕ) (header : Header) → 19 ≤ size → slice_index bytes 0 ≡ 1 → slice_index bytes 1 ≡ header.format
+    → is_format header.format ≡ true → number8 bytes 2 ≡ header.generation → is_bad_generation header.format header.generation ≡ false
+    → number8 bytes 10 ≡ header.size → header.size ≤ size - 18 → head_of size bytes ≡ Sound header
+head_of-sound size bytes header long gate format known field good size_field fits =
+    rw (le-ltb size 19 long, gate, format, known, field, good, size_field, le-ltb (size - 18) header.size fits) refl
 
 -- one record read
 pub records_from-step : (fuel place : ℕ) (bytes body after : List ℕ) (n : ℕ) → is_bad_length bytes ≡ false → number4 bytes 0 ≡ n
@@ -87,11 +89,9 @@ records_from-blocks (body ∷ records) front gate rest (suc fuel) place is_front
     ∙ ap (λ k. Ok (body ∷ records, k)) (omega arith)
 
 -- the header of an area
-pub head-area : (bytes : List ℕ) (generation : ℕ) (snapshot : List ℕ) (records : List (List ℕ)) (end : ℕ) → IsArea bytes generation snapshot records end
-    → head bytes ≡ Sound generation (length snapshot)
+pub head-area : (bytes : List ℕ) (s : State) (end : ℕ) → IsArea bytes s end → head bytes ≡ Sound (header_of s)
 unfolding head
-head-area bytes generation snapshot records end area =
-    let after : List ℕ = area.front ++ (area.gate ∷ area.rest) in
+head-area bytes s end area =
     let t = area.is_top in
     let long : length bytes ≡ length area.top + (length area.front + suc (length area.rest)) =
     omega (arith, ap length area.whole, length-append area.top (area.front ++ (area.gate ∷ area.rest)), length-append area.front (area.gate ∷ area.rest)) in
@@ -99,32 +99,32 @@ head-area bytes generation snapshot records end area =
     get_or_append_left area.top (area.front ++ (area.gate ∷ area.rest)) 0 0 (omega (arith, t.size)) in
     let at1 : slice_index (area.top ++ (area.front ++ (area.gate ∷ area.rest))) 1 ≡ slice_index area.top 1 =
     get_or_append_left area.top (area.front ++ (area.gate ∷ area.rest)) 0 1 (omega (arith, t.size)) in
-    head_of-sound (length bytes) bytes generation (length snapshot) (omega (arith, t.size))
-    (ap (λ xs. slice_index xs 0) area.whole ∙ at0 ∙ t.gate) (ap (λ xs. slice_index xs 1) area.whole ∙ at1 ∙ t.format)
-    (ap (λ xs. number8 xs 2) area.whole ∙ number8-append area.top (area.front ++ (area.gate ∷ area.rest)) 2 (omega (arith, t.size)) ∙ t.generation_field) t.above
+    head_of-sound (length bytes) bytes (header_of s) (omega (arith, t.size))
+    (ap (λ xs. slice_index xs 0) area.whole ∙ at0 ∙ t.gate) (ap (λ xs. slice_index xs 1) area.whole ∙ at1 ∙ t.format_field) t.format_known
+    (ap (λ xs. number8 xs 2) area.whole ∙ number8-append area.top (area.front ++ (area.gate ∷ area.rest)) 2 (omega (arith, t.size)) ∙ t.generation_field) t.generation_good
     (ap (λ xs. number8 xs 10) area.whole ∙ number8-append area.top (area.front ++ (area.gate ∷ area.rest)) 10 (omega (arith, t.size)) ∙ t.size_field)
     (omega (arith, t.size))
 
 -- its snapshot
-pub snapshot-area : (bytes : List ℕ) (generation : ℕ) (snapshot : List ℕ) (records : List (List ℕ)) (end : ℕ) → IsArea bytes generation snapshot records end
-    → take (length snapshot) (drop 18 bytes) ≡ snapshot
-snapshot-area bytes generation snapshot records end area =
-    ap (λ xs. take (length snapshot) (drop 18 xs)) area.whole
-    ∙ ap (λ xs. take (length snapshot) xs) (drop-append-le 18 area.top (area.front ++ (area.gate ∷ area.rest)) (omega (arith, area.is_top.size))
+pub snapshot-area : (bytes : List ℕ) (s : State) (end : ℕ) → IsArea bytes s end
+    → take (length s.snapshot) (drop 18 bytes) ≡ s.snapshot
+snapshot-area bytes s end area =
+    ap (λ xs. take (length s.snapshot) (drop 18 xs)) area.whole
+    ∙ ap (λ xs. take (length s.snapshot) xs) (drop-append-le 18 area.top (area.front ++ (area.gate ∷ area.rest)) (omega (arith, area.is_top.size))
     ∙ ap (λ xs. xs ++ (area.front ++ (area.gate ∷ area.rest))) area.is_top.kept)
-    ∙ take_at snapshot (area.front ++ (area.gate ∷ area.rest)) (length snapshot) refl
+    ∙ take_at s.snapshot (area.front ++ (area.gate ∷ area.rest)) (length s.snapshot) refl
 
 -- and its records
-pub records_of-area : (bytes : List ℕ) (generation : ℕ) (snapshot : List ℕ) (records : List (List ℕ)) (end : ℕ) → IsArea bytes generation snapshot records end
-    → records_of (length snapshot) bytes ≡ Ok (records, end)
-records_of-area bytes generation snapshot records end area =
-    let behind : drop (18 + length snapshot) bytes ≡ area.front ++ (area.gate ∷ area.rest) =
-    ap (λ xs. drop (18 + length snapshot) xs) area.whole ∙ drop_at area.top (area.front ++ (area.gate ∷ area.rest)) (18 + length snapshot) area.is_top.size in
+pub records_of-area : (bytes : List ℕ) (s : State) (end : ℕ) → IsArea bytes s end
+    → records_of (length s.snapshot) bytes ≡ Ok (s.records, end)
+records_of-area bytes s end area =
+    let behind : drop (18 + length s.snapshot) bytes ≡ area.front ++ (area.gate ∷ area.rest) =
+    ap (λ xs. drop (18 + length s.snapshot) xs) area.whole ∙ drop_at area.top (area.front ++ (area.gate ∷ area.rest)) (18 + length s.snapshot) area.is_top.size in
     let long : length (area.front ++ (area.gate ∷ area.rest)) ≡ length area.front + suc (length area.rest) = length-append area.front (area.gate ∷ area.rest) in
-    ap (λ xs. records_from (length xs) (18 + length snapshot) xs) behind
-    ∙ records_from-blocks records area.front area.gate area.rest (length (area.front ++ (area.gate ∷ area.rest))) (18 + length snapshot)
+    ap (λ xs. records_from (length xs) (18 + length s.snapshot) xs) behind
+    ∙ records_from-blocks s.records area.front area.gate area.rest (length (area.front ++ (area.gate ∷ area.rest))) (18 + length s.snapshot)
     area.is_front area.closed (omega (arith, long))
-    ∙ ap (λ k. Ok (records, k)) (omega (arith, area.place, area.is_top.size))
+    ∙ ap (λ k. Ok (s.records, k)) (omega (arith, area.place, area.is_top.size))
 
 -- a test is one or the other
 pub either : (b : Bool) → (b ≡ true) ⊎ (b ≡ false)
@@ -136,24 +136,28 @@ positive-from zero none = absurd (none refl)
 positive-from (suc n) none = omega arith
 
 -- what a sound header says
-pub record IsHeader (size : ℕ) (bytes : List ℕ) (generation n : ℕ) : Type 0 where
+pub record IsHeader (size : ℕ) (bytes : List ℕ) (header : Header) : Type 0 where
   pub long : 19 ≤ size
   pub gate : slice_index bytes 0 ≡ 1
-  pub format : slice_index bytes 1 ≡ 1
-  pub generation_field : number8 bytes 2 ≡ generation
-  pub above : 0 < generation
-  pub size_field : number8 bytes 10 ≡ n
-  pub fits : n ≤ size - 18
+  pub format_field : slice_index bytes 1 ≡ header.format
+  pub format_known : is_format header.format ≡ true
+  pub generation_field : number8 bytes 2 ≡ header.generation
+  pub generation_good : is_bad_generation header.format header.generation ≡ false
+  pub size_field : number8 bytes 10 ≡ header.size
+  pub fits : header.size ≤ size - 18
+
+same-header : (x y : Header) → Sound x ≡ Sound y → x ≡ y
+same-header x y e = cc
 
 -- the tests of a header that is sound
-tests-sound : (closed format zero_generation past : Bool) (g n generation size : ℕ)
-    → (if closed then Closed else (if not format then Faulty 1 else (if zero_generation then Faulty 2 else (if past then Overlong g else Sound g n)))) ≡ Sound generation size
-    → (closed ≡ false) × (format ≡ true) × (zero_generation ≡ false) × (past ≡ false) × (g ≡ generation) × (n ≡ size)
-tests-sound true format z past g n generation size e = absurd (cc)
-tests-sound false false z past g n generation size e = absurd (cc)
-tests-sound false true true past g n generation size e = absurd (cc)
-tests-sound false true false true g n generation size e = absurd (cc)
-tests-sound false true false false g n generation size e = (refl, refl, refl, refl, cc, cc)
+tests-sound : (closed format bad past : Bool) (g : ℕ) (said header : Header)
+    → (if closed then Closed else (if not format then Faulty 1 else (if bad then Faulty 2 else (if past then Overlong g else Sound said)))) ≡ Sound header
+    → (closed ≡ false) × (format ≡ true) × (bad ≡ false) × (past ≡ false) × (said ≡ header)
+tests-sound true format bad past g said header e = absurd (cc)
+tests-sound false false bad past g said header e = absurd (cc)
+tests-sound false true true past g said header e = absurd (cc)
+tests-sound false true false true g said header e = absurd (cc)
+tests-sound false true false false g said header e = (refl, refl, refl, refl, same-header said header e)
 
 or-false-both : (a b : Bool) → (a || b) ≡ false → (a ≡ false) × (b ≡ false)
 or-false-both true b e = absurd (cc)
@@ -163,20 +167,23 @@ not-false : (b : Bool) → not b ≡ false → b ≡ true
 not-false true e = refl
 not-false false e = sym e
 
-pub header-sound : (size : ℕ) (bytes : List ℕ) (generation n : ℕ) → head_of size bytes ≡ Sound generation n → IsHeader size bytes generation n
-header-sound size bytes generation n sound =
-    let tests = tests-sound (nat_lt size 19 || not (slice_index bytes 0 == 1)) (slice_index bytes 1 == 1) (number8 bytes 2 == 0) (nat_lt (size - 18) (number8 bytes 10))
-    (number8 bytes 2) (number8 bytes 10) generation n sound in
+pub header-sound : (size : ℕ) (bytes : List ℕ) (header : Header) → head_of size bytes ≡ Sound header → IsHeader size bytes header
+header-sound size bytes header sound =
+    let tests = tests-sound (nat_lt size 19 || not (slice_index bytes 0 == 1)) (is_format (slice_index bytes 1)) (is_bad_generation (slice_index bytes 1) (number8 bytes 2))
+    (nat_lt (size - 18) (number8 bytes 10)) (number8 bytes 2) (record { format = slice_index bytes 1; generation = number8 bytes 2; size = number8 bytes 10 }) header sound in
     let open_tests = or-false-both (nat_lt size 19) (not (slice_index bytes 0 == 1)) tests.0 in
-    let positive : number8 bytes 2 ≡ 0 → ⊥ = eqb-false (number8 bytes 2) 0 tests.2 in
+    let format : slice_index bytes 1 ≡ header.format = ap (λ h. h.format) tests.4 in
+    let generation : number8 bytes 2 ≡ header.generation = ap (λ h. h.generation) tests.4 in
+    let snapshot : number8 bytes 10 ≡ header.size = ap (λ h. h.size) tests.4 in
     record {
       long = ltb-false size 19 open_tests.0;
       gate = eqb-true (slice_index bytes 0) 1 (not-false (slice_index bytes 0 == 1) open_tests.1);
-      format = eqb-true (slice_index bytes 1) 1 tests.1;
-      generation_field = tests.4;
-      above = rw (← tests.4) (positive-from (number8 bytes 2) positive);
-      size_field = tests.5;
-      fits = rw (← tests.5) (ltb-false (size - 18) (number8 bytes 10) tests.3);
+      format_field = format;
+      format_known = rw (← format) tests.1;
+      generation_field = generation;
+      generation_good = rw (← format, ← generation) tests.2;
+      size_field = snapshot;
+      fits = rw (← snapshot) (ltb-false (size - 18) (number8 bytes 10) tests.3);
     }
 
 -- a list of records that was read, in its parts
@@ -279,32 +286,33 @@ tail-back (suc fuel) place (gate ∷ bytes) records end e =
     (either (gate == 1))
 
 -- whatever is read as an open area has its parts
-pub area-back : (bytes : List ℕ) (generation n : ℕ) (records : List (List ℕ)) (end : ℕ) → head bytes ≡ Sound generation n → records_of n bytes ≡ Ok (records, end)
-    → IsArea bytes generation (take n (drop 18 bytes)) records end
+pub area-back : (bytes : List ℕ) (header : Header) (records : List (List ℕ)) (end : ℕ) → head bytes ≡ Sound header → records_of header.size bytes ≡ Ok (records, end)
+    → IsArea bytes (record { format = header.format; generation = header.generation; snapshot = take header.size (drop 18 bytes); records = records }) end
 unfolding head
-area-back bytes generation n records end sound read =
-    let header = header-sound (length bytes) bytes generation n sound in
-    let tail = tail-back (length (drop (18 + n) bytes)) (18 + n) (drop (18 + n) bytes) records end read in
-    let top : List ℕ = take (18 + n) bytes in
-    let size : length (take (18 + n) bytes) ≡ 18 + n = omega (arith, length-take (18 + n) bytes, header.long, header.fits) in
-    let snapshot_size : length (take n (drop 18 bytes)) ≡ n = omega (arith, length-take n (drop 18 bytes), length-drop 18 bytes, header.long, header.fits) in
-    let back : take (18 + n) bytes ++ drop (18 + n) bytes ≡ bytes = take-append-drop (18 + n) bytes in
-    let at0 : slice_index (take (18 + n) bytes) 0 ≡ slice_index bytes 0 = get_or-take (18 + n) bytes 0 0 (omega arith) in
-    let at1 : slice_index (take (18 + n) bytes) 1 ≡ slice_index bytes 1 = get_or-take (18 + n) bytes 1 0 (omega arith) in
+area-back bytes header records end sound read =
+    let said = header-sound (length bytes) bytes header sound in
+    let tail = tail-back (length (drop (18 + header.size) bytes)) (18 + header.size) (drop (18 + header.size) bytes) records end read in
+    let top : List ℕ = take (18 + header.size) bytes in
+    let size : length (take (18 + header.size) bytes) ≡ 18 + header.size = omega (arith, length-take (18 + header.size) bytes, said.long, said.fits) in
+    let snapshot_size : length (take header.size (drop 18 bytes)) ≡ header.size = omega (arith, length-take header.size (drop 18 bytes), length-drop 18 bytes, said.long, said.fits) in
+    let back : take (18 + header.size) bytes ++ drop (18 + header.size) bytes ≡ bytes = take-append-drop (18 + header.size) bytes in
+    let at0 : slice_index (take (18 + header.size) bytes) 0 ≡ slice_index bytes 0 = get_or-take (18 + header.size) bytes 0 0 (omega arith) in
+    let at1 : slice_index (take (18 + header.size) bytes) 1 ≡ slice_index bytes 1 = get_or-take (18 + header.size) bytes 1 0 (omega arith) in
     record {
-      top = take (18 + n) bytes;
+      top = take (18 + header.size) bytes;
       front = tail.front;
       gate = tail.gate;
       rest = tail.rest;
-      whole = sym back ∙ ap (λ xs. take (18 + n) bytes ++ xs) tail.whole;
+      whole = sym back ∙ ap (λ xs. take (18 + header.size) bytes ++ xs) tail.whole;
       is_top = record {
         size = omega (arith, size, snapshot_size);
-        gate = at0 ∙ header.gate;
-        format = at1 ∙ header.format;
-        generation_field = sym (number8-append (take (18 + n) bytes) (drop (18 + n) bytes) 2 (omega (arith, size))) ∙ ap (λ xs. number8 xs 2) back ∙ header.generation_field;
-        above = header.above;
-        size_field = sym (number8-append (take (18 + n) bytes) (drop (18 + n) bytes) 10 (omega (arith, size))) ∙ ap (λ xs. number8 xs 10) back ∙ header.size_field ∙ sym snapshot_size;
-        kept = drop-take 18 n bytes;
+        gate = at0 ∙ said.gate;
+        format_field = at1 ∙ said.format_field;
+        format_known = said.format_known;
+        generation_field = sym (number8-append (take (18 + header.size) bytes) (drop (18 + header.size) bytes) 2 (omega (arith, size))) ∙ ap (λ xs. number8 xs 2) back ∙ said.generation_field;
+        generation_good = said.generation_good;
+        size_field = sym (number8-append (take (18 + header.size) bytes) (drop (18 + header.size) bytes) 10 (omega (arith, size))) ∙ ap (λ xs. number8 xs 10) back ∙ said.size_field ∙ sym snapshot_size;
+        kept = drop-take 18 header.size bytes;
       };
       is_front = tail.is_front;
       closed = tail.closed;

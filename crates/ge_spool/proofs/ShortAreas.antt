@@ -3,14 +3,16 @@ use Rattle.std.specs.Prelude.{◌≡◌, ℕ, ◌+◌, ◌-◌, ◌<◌, ◌≤�
 use Rattle.std.proofs.Common.{arith, ◌∙◌, sym, ap, subst, inl, inr, ⊎_elim, eq-eqb}
 use Rattle.std.proofs.lemmas.Bool.{lt-ltb, le-ltb, cases_lt}
 use Rattle.ge_model_disk.specs.Disk.{Content, HasLength, overwritten}
-use Rattle.ge_model_journal.specs.Area.{number8, head, records_from, records_of}
-use Rattle.ge_model_journal.specs.Journal.{meaning, meaning_by, choice, picked, state_of, area_number, first_state}
+use Rattle.ge_model_journal.specs.Area.{number8, head, is_format, is_bad_generation, records_from, records_of}
+use Rattle.ge_model_journal.specs.Journal.{State, meaning, meaning_by, choice, picked, state_of, area_number, first_state}
+use Rattle.ge_model_journal.specs.Writing.{padded}
+use Rattle.ge_model_journal.specs.declared.Header.{Header}
 use Rattle.ge_model_journal.specs.declared.Head.{Head}
 use Rattle.ge_model_journal.specs.declared.Head.TheVariants.{Closed, Faulty, Overlong, Sound}
 use Rattle.ge_model_journal.specs.declared.Choice.{Choice}
 use Rattle.ge_model_journal.specs.declared.Choice.TheVariants.{Neither, Chosen, Wrong}
 use Rattle.ge_spool.specs.Moments.{IsQuiet, Torn}
-use Rattle.ge_spool.specs.Opening.{padded, IsPadImage, IsFreshImage, FindsIn, FindsInRest, Opens}
+use Rattle.ge_spool.specs.Opening.{IsPadImage, IsFreshImage, FindsIn, FindsInRest, Opens}
 use Rattle.ge_spool.specs.Pieces.{IsSnapshotPiece}
 use Rattle.ge_spool.specs.Reads.{IsHeadOf}
 use Rattle.ge_spool.specs.Steps.{IsRefillImage}
@@ -47,29 +49,29 @@ head-pad bytes image (inl same) = ap head same
 head-pad bytes image (inr short) = head-short image short.1 ∙ sym (head-short bytes short.0)
 
 -- and the bytes of an area that is open
-pub sound-pad : (bytes image : List ℕ) (generation n : ℕ) → head bytes ≡ Sound generation n → IsPadImage bytes image → image ≡ bytes
+pub sound-pad : (bytes image : List ℕ) (header : Header) → head bytes ≡ Sound header → IsPadImage bytes image → image ≡ bytes
 unfolding head
-sound-pad bytes image generation n sound (inl same) = same
-sound-pad bytes image generation n sound (inr short) = absurd (omega (arith, (header-sound (length bytes) bytes generation n sound).long, short.0))
+sound-pad bytes image header sound (inl same) = same
+sound-pad bytes image header sound (inr short) = absurd (omega (arith, (header-sound (length bytes) bytes header sound).long, short.0))
 
-by-choice : (a b c d : List ℕ) (ch : Choice) → ((second : Bool) (generation n : ℕ) → ch ≡ Chosen second generation n → picked second c d ≡ picked second a b)
+by-choice : (a b c d : List ℕ) (ch : Choice) → ((second : Bool) (header : Header) → ch ≡ Chosen second header → picked second c d ≡ picked second a b)
     → meaning_by ch c d ≡ meaning_by ch a b
 by-choice a b c d Neither same = refl
 by-choice a b c d (Wrong area place) same = refl
-by-choice a b c d (Chosen second generation n) same = rw (same second generation n refl) refl
+by-choice a b c d (Chosen second header) same = rw (same second header refl) refl
 
-picked-pad : (second : Bool) (a b c d : List ℕ) (generation n : ℕ) → picked second (head a) (head b) ≡ Sound generation n → IsPadImage a c → IsPadImage b d
+picked-pad : (second : Bool) (a b c d : List ℕ) (header : Header) → picked second (head a) (head b) ≡ Sound header → IsPadImage a c → IsPadImage b d
     → picked second c d ≡ picked second a b
-picked-pad false a b c d generation n sound pad_a pad_b = sound-pad a c generation n sound pad_a
-picked-pad true a b c d generation n sound pad_a pad_b = sound-pad b d generation n sound pad_b
+picked-pad false a b c d header sound pad_a pad_b = sound-pad a c header sound pad_a
+picked-pad true a b c d header sound pad_a pad_b = sound-pad b d header sound pad_b
 
 -- two areas stand for the same while they are padded
 pub meaning-pad : (a b c d : List ℕ) → IsPadImage a c → IsPadImage b d → meaning c d ≡ meaning a b
 unfolding meaning
 meaning-pad a b c d pad_a pad_b =
     rw (head-pad a c pad_a, head-pad b d pad_b)
-    (by-choice a b c d (choice (head a) (head b)) (λ second generation n chosen.
-    picked-pad second a b c d generation n (choice-back (head a) (head b) second generation n chosen).0 pad_a pad_b))
+    (by-choice a b c d (choice (head a) (head b)) (λ second header chosen.
+    picked-pad second a b c d header (choice-back (head a) (head b) second header chosen).0 pad_a pad_b))
 
 -- while the first one is made they stand for a journal in which nothing was written
 pub meaning-fresh : (c d : List ℕ) → IsFreshImage c → head d ≡ Closed → meaning c d ≡ Ok first_state
@@ -87,13 +89,13 @@ pub head-length : (told : List Content) (size : ℕ) (h : Head) → IsHeadOf tol
 head-length [] size h said = tt
 head-length (now ∷ earlier) size h said = said.0
 
-closed-test : (closed format zero_generation past : Bool) (g n : ℕ)
-    → (if closed then Closed else (if not format then Faulty 1 else (if zero_generation then Faulty 2 else (if past then Overlong g else Sound g n)))) ≡ Closed → closed ≡ true
-closed-test true format z past g n e = refl
-closed-test false false z past g n e = absurd (cc)
-closed-test false true true past g n e = absurd (cc)
-closed-test false true false true g n e = absurd (cc)
-closed-test false true false false g n e = absurd (cc)
+closed-test : (closed format bad past : Bool) (g : ℕ) (said : Header)
+    → (if closed then Closed else (if not format then Faulty 1 else (if bad then Faulty 2 else (if past then Overlong g else Sound said)))) ≡ Closed → closed ≡ true
+closed-test true format bad past g said e = refl
+closed-test false false bad past g said e = absurd (cc)
+closed-test false true true past g said e = absurd (cc)
+closed-test false true false true g said e = absurd (cc)
+closed-test false true false false g said e = absurd (cc)
 
 not-true : (b : Bool) → not b ≡ true → b ≡ false
 not-true true e = sym e
@@ -104,8 +106,8 @@ closed-gate : (bytes : List ℕ) → head bytes ≡ Closed → 19 ≤ length byt
 unfolding head
 closed-gate bytes closed long =
     let either_way : (nat_lt (length bytes) 19 || not (slice_index bytes 0 == 1)) ≡ true =
-    closed-test (nat_lt (length bytes) 19 || not (slice_index bytes 0 == 1)) (slice_index bytes 1 == 1) (number8 bytes 2 == 0) (nat_lt (length bytes - 18) (number8 bytes 10))
-    (number8 bytes 2) (number8 bytes 10) closed in
+    closed-test (nat_lt (length bytes) 19 || not (slice_index bytes 0 == 1)) (is_format (slice_index bytes 1)) (is_bad_generation (slice_index bytes 1) (number8 bytes 2))
+    (nat_lt (length bytes - 18) (number8 bytes 10)) (number8 bytes 2) (record { format = slice_index bytes 1; generation = number8 bytes 2; size = number8 bytes 10 }) closed in
     not-true (slice_index bytes 0 == 1) (rw (le-ltb (length bytes) 19 long) at either_way)
 
 -- after padding the gate of an area that isn't open is closed
@@ -124,18 +126,18 @@ lower-zero : (h : Head) → IsLower h 0 → h ≡ Closed
 lower-zero Closed lower = refl
 lower-zero (Faulty place) lower = absurd lower
 lower-zero (Overlong other) lower = absurd lower
-lower-zero (Sound other n) lower = absurd (omega (arith, lower))
+lower-zero (Sound other) lower = absurd (omega (arith, lower))
 
 -- each moment of padding an area that isn't open
 pub fresh-pad : (bytes image : List ℕ) → head bytes ≡ Closed → IsPadImage bytes image → IsFreshImage image
 fresh-pad bytes image closed pad = inl (head-pad bytes image pad ∙ closed)
 
 -- and of filling it
-pub fresh-fill : (bytes image piece : List ℕ) → head bytes ≡ Closed → IsSnapshotPiece piece [] → number8 piece 1 ≡ 1 → IsRefillImage false piece (padded bytes) image → IsFreshImage image
-fresh-fill bytes image piece closed is_piece generation left =
+pub fresh-fill : (bytes image piece : List ℕ) → head bytes ≡ Closed → IsSnapshotPiece piece 1 [] → IsRefillImage false piece (padded bytes) image → IsFreshImage image
+fresh-fill bytes image piece closed is_piece left =
     ⊎_elim (λ lower. inl (lower-zero (head image) lower))
-    (λ area. inr (head-area image 1 [] [] 18 area, records_of-area image 1 [] [] 18 area))
-    (behind-closed (padded bytes) image piece [] 1 0 (padded-some bytes) (padded-closed bytes closed) is_piece generation (omega arith) left)
+    (λ area. inr (head-area image first_state 18 area, records_of-area image first_state 18 area))
+    (behind-closed (padded bytes) image piece [] 1 0 (padded-some bytes) (padded-closed bytes closed) is_piece (omega arith) left)
 
 -- the same, by the flag
 padded-picked : (second : Bool) (a b : List ℕ) → picked second (padded a) (padded b) ≡ padded (picked second a b)
@@ -147,13 +149,13 @@ head-picked false a b = refl
 head-picked true a b = refl
 
 -- an open area is not short
-sound-long : (bytes : List ℕ) (generation n : ℕ) → head bytes ≡ Sound generation n → 19 ≤ length bytes
+sound-long : (bytes : List ℕ) (header : Header) → head bytes ≡ Sound header → 19 ≤ length bytes
 unfolding head
-sound-long bytes generation n sound = (header-sound (length bytes) bytes generation n sound).long
+sound-long bytes header sound = (header-sound (length bytes) bytes header sound).long
 
-sound-gate : (bytes : List ℕ) (generation n : ℕ) → head bytes ≡ Sound generation n → slice_index bytes 0 ≡ 1
+sound-gate : (bytes : List ℕ) (header : Header) → head bytes ≡ Sound header → slice_index bytes 0 ≡ 1
 unfolding head
-sound-gate bytes generation n sound = (header-sound (length bytes) bytes generation n sound).gate
+sound-gate bytes header sound = (header-sound (length bytes) bytes header sound).gate
 
 head-padded : (bytes : List ℕ) → head (padded bytes) ≡ head bytes
 head-padded bytes =
@@ -165,33 +167,35 @@ padded-flag : (bytes : List ℕ) (h : Head) (generation : ℕ) → head bytes �
 padded-flag bytes Closed generation is_head lower = sym (padded-closed bytes is_head)
 padded-flag bytes (Faulty place) generation is_head lower = absurd lower
 padded-flag bytes (Overlong other) generation is_head lower = absurd lower
-padded-flag bytes (Sound other n) generation is_head lower =
-    rw (padded-long bytes (sound-long bytes other n is_head)) (sym (eq-eqb (slice_index bytes 0) 1 (sound-gate bytes other n is_head)))
+padded-flag bytes (Sound other) generation is_head lower =
+    rw (padded-long bytes (sound-long bytes other is_head)) (sym (eq-eqb (slice_index bytes 0) 1 (sound-gate bytes other is_head)))
 
 -- what two areas stand for, by the one that counts
-pub meaning-chosen : (second : Bool) (a b : List ℕ) (generation n : ℕ) → picked second (head a) (head b) ≡ Sound generation n
-    → IsLower (picked second (head b) (head a)) generation
-    → meaning a b ≡ state_of (area_number second) generation (take n (drop 18 (picked second a b))) (records_of n (picked second a b))
+pub meaning-chosen : (second : Bool) (a b : List ℕ) (header : Header) → picked second (head a) (head b) ≡ Sound header
+    → IsLower (picked second (head b) (head a)) header.generation
+    → meaning a b ≡ state_of (area_number second) header (take header.size (drop 18 (picked second a b))) (records_of header.size (picked second a b))
 unfolding meaning
-meaning-chosen second a b generation n sound lower = rw (choice-lower second (head a) (head b) generation n sound lower) refl
+meaning-chosen second a b header sound lower = rw (choice-lower second (head a) (head b) header sound lower) refl
+
+-- the state of a header, with its snapshot and records
+abbrev pub read_state : Header → List ℕ → List (List ℕ) → State
+read_state header snapshot records = record { format = header.format; generation = header.generation; snapshot = snapshot; records = records }
 
 -- two areas at rest after opening
-pub opened-at-rest : (second : Bool) (told_a told_b : List Content) (a b : List ℕ) (generation n : ℕ) (snapshot : List ℕ) (records : List (List ℕ)) (end : ℕ)
-    → IsQuiet told_a (padded a) → IsQuiet told_b (padded b) → picked second (head a) (head b) ≡ Sound generation n → IsLower (picked second (head b) (head a)) generation
-    → records_of n (picked second a b) ≡ Ok (records, end) → snapshot ≡ take n (drop 18 (picked second a b))
-    → AtRest second told_a told_b (record { generation = generation; snapshot = snapshot; records = records }) end (is_sound (picked second (head b) (head a)))
-opened-at-rest second told_a told_b a b generation n snapshot records end quiet_a quiet_b sound lower listed is_snapshot =
-    let chosen : List ℕ = picked second a b in
-    let other : List ℕ = picked second b a in
-    let is_head : head (picked second a b) ≡ Sound generation n = sym (head-picked second a b) ∙ sound in
-    let whole : padded (picked second a b) ≡ picked second a b = padded-long (picked second a b) (sound-long (picked second a b) generation n is_head) in
+pub opened-at-rest : (second : Bool) (told_a told_b : List Content) (a b : List ℕ) (header : Header) (snapshot : List ℕ) (records : List (List ℕ)) (end : ℕ)
+    → IsQuiet told_a (padded a) → IsQuiet told_b (padded b) → picked second (head a) (head b) ≡ Sound header → IsLower (picked second (head b) (head a)) header.generation
+    → records_of header.size (picked second a b) ≡ Ok (records, end) → snapshot ≡ take header.size (drop 18 (picked second a b))
+    → AtRest second told_a told_b (read_state header snapshot records) end (is_sound (picked second (head b) (head a)))
+opened-at-rest second told_a told_b a b header snapshot records end quiet_a quiet_b sound lower listed is_snapshot =
+    let is_head : head (picked second a b) ≡ Sound header = sym (head-picked second a b) ∙ sound in
+    let whole : padded (picked second a b) ≡ picked second a b = padded-long (picked second a b) (sound-long (picked second a b) header is_head) in
     let quiet = subst (λ xs. IsQuiet (picked second told_a told_b) xs) (padded-picked second a b ∙ whole) (quiet-picked second told_a told_b (padded a) (padded b) quiet_a quiet_b) in
     let still = subst (λ xs. IsQuiet (picked second told_b told_a) xs) (padded-picked second b a) (quiet-picked second told_b told_a (padded b) (padded a) quiet_b quiet_a) in
-    let area = subst (λ xs. IsArea (picked second a b) generation xs records end) (sym is_snapshot) (area-back (picked second a b) generation n records end is_head listed) in
+    let area = subst (λ xs. IsArea (picked second a b) (read_state header xs records) end) (sym is_snapshot) (area-back (picked second a b) header records end is_head listed) in
     let other_head : head (padded (picked second b a)) ≡ picked second (head b) (head a) = head-padded (picked second b a) ∙ sym (head-picked second b a) in
-    at-rest second told_a told_b (picked second a b) (padded (picked second b a)) (record { generation = generation; snapshot = snapshot; records = records }) end
-    (is_sound (picked second (head b) (head a))) quiet still area (subst (λ h. IsLower h generation) (sym other_head) lower) (padded-some (picked second b a))
-    (padded-flag (picked second b a) (picked second (head b) (head a)) generation (sym (head-picked second b a)) lower)
+    at-rest second told_a told_b (picked second a b) (padded (picked second b a)) (read_state header snapshot records) end
+    (is_sound (picked second (head b) (head a))) quiet still area (subst (λ h. IsLower h header.generation) (sym other_head) lower) (padded-some (picked second b a))
+    (padded-flag (picked second b a) (picked second (head b) (head a)) header.generation (sym (head-picked second b a)) lower)
 
 -- the records behind a header
 pub records_of-rest : (n : ℕ) (bytes : List ℕ)
@@ -205,13 +209,13 @@ finds-quiet result area n [] bytes quiet found = absurd quiet
 finds-quiet result area n (now ∷ earlier) bytes quiet found = subst (λ c. FindsInRest result area n (drop 18 c.bytes)) quiet found
 
 -- a fault that was found
-pub opens-fault : (fault : OpenFault) (second : Bool) (a b : List ℕ) (told_a told_b : List Content) (generation n : ℕ)
-    → picked second (head a) (head b) ≡ Sound generation n → IsLower (picked second (head b) (head a)) generation
-    → FindsInRest (Err fault) (area_number second) n (drop 18 (picked second a b)) → Opens (Err fault) a b told_a told_b
-opens-fault Disk second a b told_a told_b generation n sound lower found = tt
-opens-fault (Frame number place) second a b told_a told_b generation n sound lower found =
-    meaning-chosen second a b generation n sound lower
-    ∙ ap (λ r. state_of (area_number second) generation (take n (drop 18 (picked second a b))) r) (sym (records_of-rest n (picked second a b)) ∙ found.1)
+pub opens-fault : (fault : OpenFault) (second : Bool) (a b : List ℕ) (told_a told_b : List Content) (header : Header)
+    → picked second (head a) (head b) ≡ Sound header → IsLower (picked second (head b) (head a)) header.generation
+    → FindsInRest (Err fault) (area_number second) header.size (drop 18 (picked second a b)) → Opens (Err fault) a b told_a told_b
+opens-fault Disk second a b told_a told_b header sound lower found = tt
+opens-fault (Frame number place) second a b told_a told_b header sound lower found =
+    meaning-chosen second a b header sound lower
+    ∙ ap (λ r. state_of (area_number second) header (take header.size (drop 18 (picked second a b))) r) (sym (records_of-rest header.size (picked second a b)) ∙ found.1)
     ∙ ap (λ k. Err (k, place)) (sym found.0)
-opens-fault (Bad number place) second a b told_a told_b generation n sound lower found = found
-opens-fault Memory second a b told_a told_b generation n sound lower found = tt
+opens-fault (Bad number place) second a b told_a told_b header sound lower found = found
+opens-fault Memory second a b told_a told_b header sound lower found = tt

@@ -5,28 +5,29 @@ use Rattle.std.proofs.lemmas.List.{take_at, drop_at, take-append-drop, take-appe
 use Rattle.std.proofs.lemmas.Bool.{eqb-true}
 use Rattle.ge_model_disk.specs.Disk.{overwritten}
 use Rattle.ge_model_journal.specs.Area.{number4}
+use Rattle.ge_model_journal.specs.Journal.{State, with_record}
 use Rattle.ge_spool.specs.Moments.{Torn}
 use Rattle.ge_spool.specs.Steps.{IsBehindImage, opened_behind}
-use Rattle.ge_spool.proofs.Parts.{IsBlocks, IsArea}
+use Rattle.ge_spool.proofs.Parts.{IsBlocks, IsTop, IsArea}
 use Rattle.ge_spool.proofs.Reading.{either, number4-append}
 use Rattle.ge_spool.specs.Pieces.{IsRecordPiece}
 
 -- how far an area goes
-pub length-area : (bytes : List ℕ) (generation : ℕ) (snapshot : List ℕ) (records : List (List ℕ)) (end : ℕ) → IsArea bytes generation snapshot records end
+pub length-area : (bytes : List ℕ) (s : State) (end : ℕ) → IsArea bytes s end
     → end < length bytes
-length-area bytes generation snapshot records end area =
+length-area bytes s end area =
     omega (arith, ap length area.whole, length-append area.top (area.front ++ (area.gate ∷ area.rest)), length-append area.front (area.gate ∷ area.rest), area.place)
 
 -- up to its last gate
-front-area : (bytes : List ℕ) (generation : ℕ) (snapshot : List ℕ) (records : List (List ℕ)) (end : ℕ) (area : IsArea bytes generation snapshot records end)
+front-area : (bytes : List ℕ) (s : State) (end : ℕ) (area : IsArea bytes s end)
     → take end bytes ≡ area.top ++ area.front
-front-area bytes generation snapshot records end area =
+front-area bytes s end area =
     ap (λ xs. take end xs) (area.whole ∙ sym (append_assoc area.top area.front (area.gate ∷ area.rest)))
     ∙ take_at (area.top ++ area.front) (area.gate ∷ area.rest) end (omega (arith, length-append area.top area.front, area.place))
 
-front-gate : (bytes : List ℕ) (generation : ℕ) (snapshot : List ℕ) (records : List (List ℕ)) (end : ℕ) (area : IsArea bytes generation snapshot records end)
+front-gate : (bytes : List ℕ) (s : State) (end : ℕ) (area : IsArea bytes s end)
     → take (end + 1) bytes ≡ area.top ++ (area.front ++ (area.gate ∷ []))
-front-gate bytes generation snapshot records end area =
+front-gate bytes s end area =
     let arranged : area.top ++ (area.front ++ (area.gate ∷ area.rest)) ≡ (area.top ++ (area.front ++ (area.gate ∷ []))) ++ area.rest =
     ap (λ xs. area.top ++ xs) (sym (append_assoc area.front (area.gate ∷ []) area.rest)) ∙ sym (append_assoc area.top (area.front ++ (area.gate ∷ [])) area.rest) in
     let size : length (area.top ++ (area.front ++ (area.gate ∷ []))) ≡ end + 1 =
@@ -34,15 +35,15 @@ front-gate bytes generation snapshot records end area =
     ap (λ xs. take (end + 1) xs) (area.whole ∙ arranged) ∙ take_at (area.top ++ (area.front ++ (area.gate ∷ []))) area.rest (end + 1) size
 
 -- A write behind the last gate, torn: the area stands.
-pub torn-behind : (bytes image : List ℕ) (generation : ℕ) (snapshot : List ℕ) (records : List (List ℕ)) (end size : ℕ) → IsArea bytes generation snapshot records end
-    → Torn (end + 1) size bytes image → IsArea image generation snapshot records end
-torn-behind bytes image generation snapshot records end size area torn = record {
+pub torn-behind : (bytes image : List ℕ) (s : State) (end size : ℕ) → IsArea bytes s end
+    → Torn (end + 1) size bytes image → IsArea image s end
+torn-behind bytes image s end size area torn = record {
   top = area.top;
   front = area.front;
   gate = area.gate;
   rest = drop (end + 1) image;
   whole = sym (take-append-drop (end + 1) image)
-      ∙ ap (λ xs. xs ++ drop (end + 1) image) (torn.front ∙ front-gate bytes generation snapshot records end area)
+      ∙ ap (λ xs. xs ++ drop (end + 1) image) (torn.front ∙ front-gate bytes s end area)
       ∙ append_assoc area.top (area.front ++ (area.gate ∷ [])) (drop (end + 1) image)
       ∙ ap (λ xs. area.top ++ xs) (append_assoc area.front (area.gate ∷ []) (drop (end + 1) image));
   is_top = area.is_top;
@@ -80,15 +81,28 @@ torn-gate bytes image at within torn =
     sym (take-append-drop at image) ∙ ap (λ xs. xs ++ drop at image) torn.front
     ∙ ap (λ xs. take at bytes ++ xs) (gate ∙ ap (λ xs. slice_index image at ∷ xs) torn.back)
 
+-- one record more leaves the header and the snapshot
+top-more : (top : List ℕ) (s : State) (body : List ℕ) → IsTop top s → IsTop top (with_record s body)
+top-more top s body t = record {
+  size = t.size;
+  gate = t.gate;
+  format_field = t.format_field;
+  format_known = t.format_known;
+  generation_field = t.generation_field;
+  generation_good = t.generation_good;
+  size_field = t.size_field;
+  kept = t.kept;
+}
+
 -- An area whose last gate was torn, in front of a whole record: it stands, or has the record more.
-pub gated-area : (bytes image : List ℕ) (generation : ℕ) (snapshot : List ℕ) (records : List (List ℕ)) (end gate : ℕ) (field body tail : List ℕ)
-    → IsArea bytes generation snapshot records end → length field ≡ 4 → number4 field 0 ≡ length body → 0 < length body
+pub gated-area : (bytes image : List ℕ) (s : State) (end gate : ℕ) (field body tail : List ℕ)
+    → IsArea bytes s end → length field ≡ 4 → number4 field 0 ≡ length body → 0 < length body
     → image ≡ take end bytes ++ (gate ∷ (field ++ (body ++ (0 ∷ tail))))
-    → ((gate == 1) ≡ true → IsArea image generation snapshot (records ++ body ∷ []) (end + 5 + length body))
-    × ((gate == 1) ≡ false → IsArea image generation snapshot records end)
-gated-area bytes image generation snapshot records end gate field body tail area width number some whole =
+    → ((gate == 1) ≡ true → IsArea image (with_record s body) (end + 5 + length body))
+    × ((gate == 1) ≡ false → IsArea image s end)
+gated-area bytes image s end gate field body tail area width number some whole =
     let arranged : image ≡ area.top ++ (area.front ++ (gate ∷ (field ++ (body ++ (0 ∷ tail))))) =
-    whole ∙ ap (λ xs. xs ++ (gate ∷ (field ++ (body ++ (0 ∷ tail))))) (front-area bytes generation snapshot records end area)
+    whole ∙ ap (λ xs. xs ++ (gate ∷ (field ++ (body ++ (0 ∷ tail))))) (front-area bytes s end area)
     ∙ append_assoc area.top area.front (gate ∷ (field ++ (body ++ (0 ∷ tail)))) in (
       λ opened. record {
         top = area.top;
@@ -99,8 +113,8 @@ gated-area bytes image generation snapshot records end gate field body tail area
             (ap (λ k. area.front ++ (k ∷ (field ++ (body ++ (0 ∷ tail))))) (eqb-true gate 1 opened)
             ∙ ap (λ xs. area.front ++ (1 ∷ xs)) (sym (append_assoc field body (0 ∷ tail)))
             ∙ sym (append_assoc area.front (1 ∷ (field ++ body)) (0 ∷ tail)));
-        is_top = area.is_top;
-        is_front = blocks-append records area.front body field area.is_front width number some;
+        is_top = top-more area.top s body area.is_top;
+        is_front = blocks-append s.records area.front body field area.is_front width number some;
         closed = refl;
         place = omega (arith, area.place, length-append area.front (1 ∷ (field ++ body)), length-append field body, width);
       },
@@ -155,27 +169,27 @@ piece-before piece body tail is_piece =
     ap (λ xs. xs ++ tail) is_piece.whole ∙ append_assoc (take 4 piece) (body ++ (0 ∷ [])) tail ∙ ap (λ xs. (take 4 piece) ++ xs) (append_assoc body (0 ∷ []) tail)
 
 -- At each moment of writing a record behind an area's last gate: the area stands, or has the record more.
-pub behind-area : (bytes image : List ℕ) (generation : ℕ) (snapshot : List ℕ) (records : List (List ℕ)) (end : ℕ) (piece body : List ℕ)
-    → IsArea bytes generation snapshot records end → IsRecordPiece piece body → IsBehindImage end piece bytes image
-    → IsArea image generation snapshot records end ⊎ IsArea image generation snapshot (records ++ body ∷ []) (end + 5 + length body)
-behind-area bytes image generation snapshot records end piece body area is_piece (inl torn) =
-    inl (torn-behind bytes image generation snapshot records end (length piece) area torn)
-behind-area bytes image generation snapshot records end piece body area is_piece (inr torn) =
-    let within = length-area bytes generation snapshot records end area in
+pub behind-area : (bytes image : List ℕ) (s : State) (end : ℕ) (piece body : List ℕ)
+    → IsArea bytes s end → IsRecordPiece piece body → IsBehindImage end piece bytes image
+    → IsArea image s end ⊎ IsArea image (with_record s body) (end + 5 + length body)
+behind-area bytes image s end piece body area is_piece (inl torn) =
+    inl (torn-behind bytes image s end (length piece) area torn)
+behind-area bytes image s end piece body area is_piece (inr torn) =
+    let within = length-area bytes s end area in
     let gate : ℕ = slice_index image end in
-    let cases = gated-area bytes image generation snapshot records end (slice_index image end) (take 4 piece) body (drop (end + 1 + length piece) bytes)
+    let cases = gated-area bytes image s end (slice_index image end) (take 4 piece) body (drop (end + 1 + length piece) bytes)
     area is_piece.width (piece-number piece body is_piece) is_piece.some
     (torn-whole bytes image end piece within torn
     ∙ ap (λ xs. take end bytes ++ (slice_index image end ∷ xs)) (piece-before piece body (drop (end + 1 + length piece) bytes) is_piece)) in
     ⊎_elim (λ opened. inr (cases.0 opened)) (λ closed. inl (cases.1 closed)) (either (slice_index image end == 1))
 
 -- and once it is done, it has it
-pub behind-done : (bytes : List ℕ) (generation : ℕ) (snapshot : List ℕ) (records : List (List ℕ)) (end : ℕ) (piece body : List ℕ)
-    → IsArea bytes generation snapshot records end → IsRecordPiece piece body
-    → IsArea (opened_behind end piece bytes) generation snapshot (records ++ body ∷ []) (end + 5 + length body)
-behind-done bytes generation snapshot records end piece body area is_piece =
-    let within = length-area bytes generation snapshot records end area in
-    let cases = gated-area bytes (opened_behind end piece bytes) generation snapshot records end 1 (take 4 piece) body (drop (end + 1 + length piece) bytes)
+pub behind-done : (bytes : List ℕ) (s : State) (end : ℕ) (piece body : List ℕ)
+    → IsArea bytes s end → IsRecordPiece piece body
+    → IsArea (opened_behind end piece bytes) (with_record s body) (end + 5 + length body)
+behind-done bytes s end piece body area is_piece =
+    let within = length-area bytes s end area in
+    let cases = gated-area bytes (opened_behind end piece bytes) s end 1 (take 4 piece) body (drop (end + 1 + length piece) bytes)
     area is_piece.width (piece-number piece body is_piece) is_piece.some
     (opened-whole bytes end piece within ∙ ap (λ xs. take end bytes ++ (1 ∷ xs)) (piece-before piece body (drop (end + 1 + length piece) bytes) is_piece)) in
     cases.0 refl

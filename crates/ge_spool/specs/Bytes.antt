@@ -1,5 +1,6 @@
 -- What is ready to be written.
 use Rattle.std.specs.Prelude.{ℕ, List}
+use Rattle.ge_model_journal.specs.Area.{number8}
 use Rattle.ge_spool.specs.Pieces.{body_in, snapshot_in}
 use Rattle.ge_spool.specs.declared.pieces.RecordBytes.{RecordBytes}
 use Rattle.ge_spool.specs.declared.pieces.SnapshotBytes.{SnapshotBytes}
@@ -12,6 +13,6 @@ record_body r = body_in r.piece.items
 abbrev pub snapshot_of : SnapshotBytes → List ℕ
 snapshot_of s = snapshot_in s.piece.items
 
--- the piece that is written of it
-abbrev pub snapshot_piece : SnapshotBytes → List ℕ
-snapshot_piece s = s.piece.items
+-- the generation in the header before it
+abbrev pub header_generation : SnapshotBytes → ℕ
+header_generation s = number8 s.piece.items 1

@@ -8,11 +8,11 @@ abbrev pub is_sound : Head → Bool
 is_sound Closed = false
 is_sound (Faulty place) = false
 is_sound (Overlong generation) = false
-is_sound (Sound generation size) = true
+is_sound (Sound header) = true
 
 -- an area with this header doesn't count beside one of a generation
 abbrev pub IsLower : Head → ℕ → Type 0
 IsLower Closed generation = Unit {0}
 IsLower (Faulty place) generation = ⊥
 IsLower (Overlong other) generation = ⊥
-IsLower (Sound other size) generation = other < generation
+IsLower (Sound header) generation = header.generation < generation

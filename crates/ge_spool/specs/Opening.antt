@@ -1,8 +1,9 @@
 -- What opening a journal reads and leaves.
-use Rattle.std.specs.Prelude.{◌≡◌, ◌⊎◌, ℕ, ◌+◌, ◌<◌, ◌≤◌, nat_lt, if◌then◌else◌, List, [], ◌∷◌, length, take, drop, Result, Ok, Err}
-use Rattle.ge_model_disk.specs.Disk.{Content, overwritten}
-use Rattle.ge_model_journal.specs.Area.{head, records_from, records_of}
-use Rattle.ge_model_journal.specs.Journal.{State, meaning, area_number}
+use Rattle.std.specs.Prelude.{◌≡◌, ◌⊎◌, ℕ, ◌+◌, ◌^◌, ◌<◌, ◌≤◌, List, [], ◌∷◌, length, take, drop, Result, Ok, Err}
+use Rattle.ge_model_disk.specs.Disk.{Content, read_bytes}
+use Rattle.ge_model_journal.specs.Area.{head, records_from, records_of, end_from}
+use Rattle.ge_model_journal.specs.Journal.{State, first_state, header_of, choice, meaning, area_number, counted_area}
+use Rattle.ge_model_journal.specs.Writing.{first_opened, second_opened}
 use Rattle.ge_model_journal.specs.declared.Head.TheVariants.{Closed, Sound}
 use Rattle.ge_spool.specs.Settled.{IsSettled}
 use Rattle.ge_spool.specs.declared.spool.Spool.{Spool}
@@ -15,11 +16,6 @@ use Rattle.ge_spool.specs.declared.finding.Found.{Found}
 abbrev pub Tells : List Content → Type 0
 Tells [] = ⊥
 Tells (now ∷ earlier) = Unit {0}
-
--- a disk that tells anything holds what a read gives, with nothing pending
-abbrev pub IsStill : List Content → Type 0
-IsStill [] = Unit {0}
-IsStill (now ∷ earlier) = now ≡ record { synced = now.bytes; bytes = now.bytes; pending = []; longest = length now.bytes }
 
 -- What was found in bytes that follow a header, with a snapshot of so many of them; or the place of what is wrong.
 abbrev pub FindsInRest : Result Found OpenFault → ℕ → ℕ → List ℕ → Type 0
@@ -35,9 +31,10 @@ abbrev pub FindsIn : Result Found OpenFault → ℕ → ℕ → List Content →
 FindsIn result area n [] = Unit {0}
 FindsIn result area n (now ∷ earlier) = FindsInRest result area n (drop 18 now.bytes)
 
--- a list that was found ends within an area of this length, behind its records
+-- a list that was found ends within an area of this length, right behind its records
 abbrev pub FitsFound : Found → ℕ → Type 0
-FitsFound found size = (found.end < size) × (length found.records ≤ found.end)
+FitsFound found size =
+    (found.end < size) × (length found.records ≤ found.end) × (found.end ≡ end_from (18 + length found.snapshot) found.records)
 
 -- an answer that blames a disk has a reason, and bodies are never blamed
 abbrev pub Blames : {T : Type 0} → Result T OpenFault → Type 0 → Type 0
@@ -60,27 +57,40 @@ IsNoFrame (Err (Frame area place)) = ⊥
 IsNoFrame (Err (Bad area place)) = ⊥
 IsNoFrame (Err Memory) = Unit {0}
 
--- an area below 19 bytes gets a closed gate
-abbrev pub padded : List ℕ → List ℕ
-padded bytes = if nat_lt (length bytes) 19 then overwritten bytes 0 (0 ∷ []) else bytes
-
--- and while it does, it is what it was, or short still
+-- while an area below 19 bytes gets a closed gate, it is what it was, or short still
 abbrev pub IsPadImage : List ℕ → List ℕ → Type 0
 IsPadImage bytes image = (image ≡ bytes) ⊎ ((length bytes < 19) × (length image < 19))
 
 -- what an area may hold that is made the first one: it isn't open, or it is open with nothing in it
 abbrev pub IsFreshImage : List ℕ → Type 0
-IsFreshImage image = (head image ≡ Closed) ⊎ ((head image ≡ Sound 1 0) × (records_of 0 image ≡ Ok ([], 18)))
+IsFreshImage image = (head image ≡ Closed) ⊎ ((head image ≡ Sound (header_of first_state)) × (records_of 0 image ≡ Ok ([], 18)))
 
 -- the state that was read
 abbrev pub raw_state : Raw → State
-raw_state raw = record { generation = raw.generation; snapshot = raw.snapshot; records = raw.records }
+raw_state raw = record { format = raw.format; generation = raw.generation; snapshot = raw.snapshot; records = raw.records }
 
--- What opening answers where the areas read as these bytes: a settled journal with what they stand for, and the area that counts; or
--- the place of the first field that is wrong.
+-- What opening leaves where the areas read as these bytes: a journal at rest with what they stand for, the area that counts, and what
+-- the areas read now.
+pub record HasOpened (s : Spool) (raw : Raw) (read_a read_b : List ℕ) (a b : List Content) : Type 0 where
+  pub settled : IsSettled s a b (raw_state raw)
+  pub stands : meaning read_a read_b ≡ Ok (raw_state raw)
+  pub area : raw.area ≡ counted_area (choice (head read_a) (head read_b))
+  pub first : read_bytes a ≡ first_opened (choice (head read_a) (head read_b)) read_a
+  pub second : read_bytes b ≡ second_opened (choice (head read_a) (head read_b)) read_b
+
+-- A journal that was opened keeps what was read, for disks that tell nothing too. The list ends behind its records, so the place of each
+-- of them is the sum of the sizes before it.
+pub record Agrees (s : Spool) (raw : Raw) : Type 0 where
+  pub area : raw.area ≡ area_number s.second
+  pub format : raw.format ≡ s.format
+  pub generation : raw.generation ≡ s.generation
+  pub count : length raw.records ≡ s.records
+  pub end : s.end ≡ end_from (18 + length raw.snapshot) raw.records
+  pub below : s.end < 2 ^ 63
+
+-- What opening answers where the areas read as these bytes: a journal, or the place of the first field that is wrong.
 abbrev pub Opens : Result (Spool × Raw) OpenFault → List ℕ → List ℕ → List Content → List Content → Type 0
-Opens (Ok opened) read_a read_b a b =
-    IsSettled opened.0 a b (raw_state opened.1) × (meaning read_a read_b ≡ Ok (raw_state opened.1)) × (opened.1.area ≡ area_number opened.0.second)
+Opens (Ok opened) read_a read_b a b = HasOpened opened.0 opened.1 read_a read_b a b
 Opens (Err Disk) read_a read_b a b = Unit {0}
 Opens (Err (Frame area place)) read_a read_b a b = meaning read_a read_b ≡ Err (area, place)
 Opens (Err (Bad area place)) read_a read_b a b = ⊥

@@ -1,7 +1,7 @@
 -- What reading an area answers.
-use Rattle.std.specs.Prelude.{◌≡◌, ℕ, ◌-◌, ◌<◌, ◌≤◌, List, [], ◌∷◌, ◌++◌, length, Result, Ok, Err}
+use Rattle.std.specs.Prelude.{◌≡◌, ℕ, ◌-◌, ◌≤◌, true, List, [], ◌∷◌, ◌++◌, length, Result, Ok, Err}
 use Rattle.ge_model_disk.specs.Disk.{Content}
-use Rattle.ge_model_journal.specs.Area.{head}
+use Rattle.ge_model_journal.specs.Area.{head, is_format}
 use Rattle.ge_model_journal.specs.declared.Head.{Head}
 use Rattle.ge_model_journal.specs.declared.Head.TheVariants.{Closed, Faulty, Overlong, Sound}
 use Rattle.ge_spool.specs.declared.faults.OpenFault.{OpenFault}
@@ -30,4 +30,4 @@ abbrev pub FitsHead : ℕ → Head → Type 0
 FitsHead size Closed = Unit {0}
 FitsHead size (Faulty place) = Unit {0}
 FitsHead size (Overlong generation) = Unit {0}
-FitsHead size (Sound generation n) = (19 ≤ size) × (0 < generation) × (n ≤ size - 18)
+FitsHead size (Sound header) = (19 ≤ size) × (header.size ≤ size - 18) × (is_format header.format ≡ true)

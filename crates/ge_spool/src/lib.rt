@@ -3,7 +3,8 @@
 //! for good. No checksum is needed: a record counts by its gate, a byte that is written alone, after a sync
 //! of everything behind it.
 //!
-//! - [`Spool`]: the journal; it is opened, appended to and compacted.
+//! - [`Spool`]: the journal; it is opened, appended to and compacted. It reads areas of the formats 1 and 2,
+//!   and writes the second, [`WRITTEN_FORMAT`].
 //! - [`RecordBytes`], [`SnapshotBytes`]: what is written, made before any disk is touched.
 //! - [`Raw`]: what was read at opening.
 //! - [`OpenFault`], [`AppendFault`]: why a call fails.
@@ -25,7 +26,7 @@ mod surveying;
 pub use faults::{AppendFault, OpenFault};
 pub use pieces::{RecordBytes, SnapshotBytes};
 pub use raw::Raw;
-pub use spool::Spool;
+pub use spool::{Spool, WRITTEN_FORMAT};
 
 #[cfg(test)]
 mod tests;

@@ -1,16 +1,16 @@
 // Opening a journal.
 ghost use Rattle.std.specs.Prelude.{◌≡◌, ◌⊎◌, ◌+◌, ◌-◌, ◌^◌, ◌<◌, ◌≤◌, ℕ, false, List, [], length, IfOk, OnOk};
 ghost use Rattle.ge_model_disk.specs.Disk.{HasLength, IsWithin, IsImageSince, read_bytes, told_synced};
-ghost use Rattle.ge_model_journal.specs.Area.{number8};
-ghost use Rattle.ge_model_journal.specs.Journal.{State, first_state, picked, area_number, meaning};
+ghost use Rattle.ge_model_journal.specs.Area.{is_format};
+ghost use Rattle.ge_model_journal.specs.Journal.{picked, area_number, meaning};
+ghost use Rattle.ge_model_journal.specs.Writing.{padded};
 ghost use Rattle.ge_model_journal.specs.declared.Head.TheVariants.{Closed, Sound};
-ghost use Rattle.ge_model_journal.specs.declared.Choice.TheVariants.{Chosen};
 ghost use Rattle.ge_outside.specs.Faults.{Rose};
 ghost use Rattle.ge_spool.specs.Heads.{IsLower, is_sound};
 ghost use Rattle.ge_spool.specs.Moments.{IsQuiet, Since};
-ghost use Rattle.ge_spool.specs.Opening.{Tells, Opens, Blames, IsNoFrame, IsPadImage, IsFreshImage, OnFrame, FindsIn, FitsFound, padded, raw_state};
+ghost use Rattle.ge_spool.specs.Opening.{Tells, Opens, Agrees, Blames, IsNoFrame, IsPadImage, IsFreshImage, OnFrame, FindsIn, FitsFound};
 ghost use Rattle.ge_spool.specs.Reads.{IsHeadOf, FitsHead};
-ghost use Rattle.ge_spool.specs.Settled.{IsSettled, HasRoom, HasCauseOfTwo, is_second, is_dead};
+ghost use Rattle.ge_spool.specs.Settled.{HasRoom, Grows, HasCauseOfTwo, is_dead};
 ghost use Rattle.ge_spool.specs.Pieces.{IsSnapshotPiece};
 ghost use Rattle.ge_spool.specs.Steps.{refilled};
 
@@ -19,9 +19,9 @@ use crate::laying::write_behind;
 use crate::padding::pad;
 use crate::searching::find;
 use crate::surveying::{choose, look};
-use crate::{OpenFault, Raw, SnapshotBytes, Spool};
+use crate::{OpenFault, Raw, SnapshotBytes, Spool, WRITTEN_FORMAT};
 use ge_collections::Text;
-use ge_model_journal::{Choice, Head};
+use ge_model_journal::{Choice, Head, Header};
 use ge_outside::{Disk, Failed};
 use std::alloc::Global;
 
@@ -35,8 +35,7 @@ fn make_first<D: Disk>(
 ) -> Result<(), Failed>
     requires closed_a { IsHeadOf (D.told a.old) size_a Closed }
     requires closed_b { IsHeadOf (D.told b.old) size_b Closed }
-    requires is_piece { IsSnapshotPiece piece.now [] }
-    requires generation { number8 piece.now 1 ≡ 1 }
+    requires is_piece { IsSnapshotPiece piece.now 1 [] }
     requires short { length piece.now ≡ 18 }
     ensures since_a { (bytes : List ℕ) → IsQuiet (D.told a.old) bytes → Since (D.told a.old) (D.told a.new) IsFreshImage }
     ensures since_b { (bytes : List ℕ) → IsQuiet (D.told b.old) bytes → Since (D.told b.old) (D.told b.new) (IsPadImage bytes) }
@@ -45,6 +44,7 @@ fn make_first<D: Disk>(
     ensures some_a { OnOk result (IsWithin (D.told a.new) 1) }
     ensures reaches_a { OnOk result (IsWithin (D.told a.new) 19) }
     ensures some_b { OnOk result (IsWithin (D.told b.new) 1) }
+    ensures grows { Grows (D.told a.old) (D.told a.new) (D.told b.old) (D.told b.new) }
     ensures syncs { D.syncs a.new + D.syncs b.new ≤ D.syncs a.old + D.syncs b.old + 4 }
     ensures syncs_a { D.syncs a.old ≤ D.syncs a.new }
     ensures syncs_b { D.syncs b.old ≤ D.syncs b.new }
@@ -69,11 +69,11 @@ fn open_fresh<D: Disk>(
     ensures since_a { (bytes : List ℕ) → IsQuiet (D.told a.old) bytes → Since (D.told a.old) (D.told a.new) IsFreshImage }
     ensures since_b { (bytes : List ℕ) → IsQuiet (D.told b.old) bytes → Since (D.told b.old) (D.told b.new) (IsPadImage bytes) }
     ensures opened { (bytes_a bytes_b : List ℕ) → IsQuiet (D.told a.old) bytes_a → IsQuiet (D.told b.old) bytes_b
-        → IfOk result (λ opened. IsSettled opened.0 (D.told a.new) (D.told b.new) first_state) }
-    ensures raw { IfOk result (λ opened. raw_state opened.1 ≡ first_state) }
-    ensures area { IfOk result (λ opened. opened.1.area ≡ area_number (is_second opened.0)) }
+        → Opens result bytes_a bytes_b (D.told a.new) (D.told b.new) }
+    ensures agrees { IfOk result (λ opened. Agrees opened.0 opened.1) }
     ensures room { IfOk result (λ opened. HasRoom opened.0 (D.told a.new) (D.told b.new)) }
     ensures alive { IfOk result (λ opened. is_dead opened.0 ≡ false) }
+    ensures grows { Grows (D.told a.old) (D.told a.new) (D.told b.old) (D.told b.new) }
     ensures syncs { D.syncs a.new + D.syncs b.new ≤ D.syncs a.old + D.syncs b.old + 4 }
     ensures syncs_a { D.syncs a.old ≤ D.syncs a.new }
     ensures syncs_b { D.syncs b.old ≤ D.syncs b.new }
@@ -89,6 +89,7 @@ fn open_fresh<D: Disk>(
     }
     let spool = Spool {
         second: false,
+        format: WRITTEN_FORMAT,
         generation: 1,
         records: 0,
         end: 18,
@@ -110,6 +111,7 @@ fn pad_both<D: Disk>(a: &mut D, b: &mut D, size_a: u64, size_b: u64) -> Result<(
     ensures some_b { OnOk result (IsWithin (D.told b.new) 1) }
     ensures stays_a { (place : ℕ) → IsWithin (D.told a.old) place → IsWithin (D.told a.new) place }
     ensures stays_b { (place : ℕ) → IsWithin (D.told b.old) place → IsWithin (D.told b.new) place }
+    ensures grows { Grows (D.told a.old) (D.told a.new) (D.told b.old) (D.told b.new) }
     ensures syncs { D.syncs a.new + D.syncs b.new ≤ D.syncs a.old + D.syncs b.old + 2 }
     ensures syncs_a { D.syncs a.old ≤ D.syncs a.new }
     ensures syncs_b { D.syncs b.old ≤ D.syncs b.new }
@@ -169,7 +171,7 @@ fn is_open(head: Head) -> bool
     ensures { result ≡ is_sound head }
 {
     match head {
-        Head::Sound(_, _) => true,
+        Head::Sound(_) => true,
         _ => false,
     }
 }
@@ -181,7 +183,7 @@ fn open_chosen<D: Disk>(
     b: &mut D,
     look_a: (u64, Head),
     look_b: (u64, Head),
-    choice: (bool, u64, u64),
+    choice: (bool, Header),
 ) -> Result<(Spool, Raw), OpenFault>
     requires head_a { IsHeadOf (D.told a.old) look_a.0 look_a.1 }
     requires head_b { IsHeadOf (D.told b.old) look_b.0 look_b.1 }
@@ -189,15 +191,17 @@ fn open_chosen<D: Disk>(
     requires fits_b { FitsHead look_b.0 look_b.1 }
     requires bound_a { look_a.0 ≤ 2 ^ 63 }
     requires bound_b { look_b.0 ≤ 2 ^ 63 }
-    requires chosen { picked choice.0 look_a.1 look_b.1 ≡ Sound choice.1 choice.2 }
-    requires lower { IsLower (picked choice.0 look_b.1 look_a.1) choice.1 }
+    requires chosen { picked choice.0 look_a.1 look_b.1 ≡ Sound choice.1 }
+    requires lower { IsLower (picked choice.0 look_b.1 look_a.1) choice.1.generation }
     ensures since_a { (bytes : List ℕ) → IsQuiet (D.told a.old) bytes → Since (D.told a.old) (D.told a.new) (IsPadImage bytes) }
     ensures since_b { (bytes : List ℕ) → IsQuiet (D.told b.old) bytes → Since (D.told b.old) (D.told b.new) (IsPadImage bytes) }
     ensures opened { (bytes_a bytes_b : List ℕ) → IsQuiet (D.told a.old) bytes_a → IsQuiet (D.told b.old) bytes_b
         → Opens result bytes_a bytes_b (D.told a.new) (D.told b.new) }
+    ensures agrees { IfOk result (λ opened. Agrees opened.0 opened.1) }
     ensures unwritten { OnFrame result ((D.told a.new ≡ D.told a.old) × (D.told b.new ≡ D.told b.old)) }
     ensures room { IfOk result (λ opened. HasRoom opened.0 (D.told a.new) (D.told b.new)) }
     ensures alive { IfOk result (λ opened. is_dead opened.0 ≡ false) }
+    ensures grows { Grows (D.told a.old) (D.told a.new) (D.told b.old) (D.told b.new) }
     ensures syncs { D.syncs a.new + D.syncs b.new ≤ D.syncs a.old + D.syncs b.old + 2 }
     ensures syncs_a { D.syncs a.old ≤ D.syncs a.new }
     ensures syncs_b { D.syncs b.old ≤ D.syncs b.new }
@@ -205,13 +209,13 @@ fn open_chosen<D: Disk>(
     ensures faults_b { D.disk_faults b.old ≤ D.disk_faults b.new }
     ensures blames { Blames result (Rose (D.disk_faults a.old) (D.disk_faults a.new) ⊎ Rose (D.disk_faults b.old) (D.disk_faults b.new)) }
 {
-    let (second, generation, snapshot_size) = choice;
+    let (second, header) = choice;
     let (size_a, head_a) = look_a;
     let (size_b, head_b) = look_b;
     let size = pick(second, size_a, size_b);
     let other_head = pick(second, head_b, head_a);
     let other_open = is_open(other_head);
-    let found = match find_chosen(alloc, second, a, b, size, snapshot_size) {
+    let found = match find_chosen(alloc, second, a, b, size, header.size) {
         Ok(found) => found,
         Err(fault) => return Err(fault),
     };
@@ -220,14 +224,16 @@ fn open_chosen<D: Disk>(
     }
     let spool = Spool {
         second,
-        generation,
+        format: header.format,
+        generation: header.generation,
         records: found.records.len() as u64,
         end: found.end,
         other_open,
         dead: false,
     };
     let raw = Raw {
-        generation,
+        format: header.format,
+        generation: header.generation,
         area: number_of(second),
         snapshot: found.snapshot,
         records: found.records,
@@ -247,6 +253,7 @@ fn survey<D: Disk>(a: &mut D, b: &mut D) -> Result<((u64, Head), (u64, Head)), F
     ensures bound_b { IfOk result (λ looks. looks.1.0 ≤ 2 ^ 63) }
     ensures since_a { (D.told a.new ≡ D.told a.old) ⊎ (D.told a.new ≡ told_synced (D.told a.old)) }
     ensures since_b { (D.told b.new ≡ D.told b.old) ⊎ (D.told b.new ≡ told_synced (D.told b.old)) }
+    ensures grows { Grows (D.told a.old) (D.told a.new) (D.told b.old) (D.told b.new) }
     ensures syncs { D.syncs a.new + D.syncs b.new ≤ D.syncs a.old + D.syncs b.old + 2 }
     ensures syncs_a { D.syncs a.old ≤ D.syncs a.new }
     ensures syncs_b { D.syncs b.old ≤ D.syncs b.new }
@@ -261,9 +268,10 @@ fn survey<D: Disk>(a: &mut D, b: &mut D) -> Result<((u64, Head), (u64, Head)), F
 
 impl Spool {
     /// Opens the journal in two areas, which it syncs and reads. It answers a journal at rest with what it
-    /// holds; where none of the areas is open, the first is made, in generation 1 with nothing in it. Where a
-    /// header or the records of the area that counts are wrong, it answers the first place that is, and has
-    /// written nothing. A stop at any moment leaves what the areas stood for.
+    /// holds, in the format 1 or 2; where none of the areas is open, the first is made, in format 2 and generation
+    /// 1 with nothing in it. An area below 19 bytes gets a closed gate, and nothing else is written. Where a header
+    /// or the records of the area that counts are wrong, it answers the first place that is, and has written
+    /// nothing. A stop at any moment leaves what the areas stood for.
     pub fn open<D: Disk>(alloc: Global, a: &mut D, b: &mut D) -> Result<(Spool, Raw), OpenFault>
         ensures opened { Tells (D.told a.old) → Tells (D.told b.old)
             → Opens result (read_bytes (D.told a.old)) (read_bytes (D.told b.old)) (D.told a.new) (D.told b.new) }
@@ -273,10 +281,12 @@ impl Spool {
             → (c d : List ℕ) → IsImageSince (length (D.told a.old)) (D.told a.new) c → IsImageSince (length (D.told b.old)) (D.told b.new) d
             → meaning c d ≡ meaning bytes_a bytes_b }
 
+        ensures agrees { IfOk result (λ opened. Agrees opened.0 opened.1) }
         ensures unwritten { OnFrame result ((D.told a.new ≡ told_synced (D.told a.old)) × (D.told b.new ≡ told_synced (D.told b.old))) }
         ensures room { IfOk result (λ opened. HasRoom opened.0 (D.told a.new) (D.told b.new)) }
         ensures alive { IfOk result (λ opened. is_dead opened.0 ≡ false) }
         ensures blames { Blames result (Rose (D.disk_faults a.old) (D.disk_faults a.new) ⊎ Rose (D.disk_faults b.old) (D.disk_faults b.new)) }
+        ensures grows { Grows (D.told a.old) (D.told a.new) (D.told b.old) (D.told b.new) }
         ensures syncs { D.syncs a.new + D.syncs b.new ≤ D.syncs a.old + D.syncs b.old + 6 }
         ensures syncs_a { D.syncs a.old ≤ D.syncs a.new }
         ensures syncs_b { D.syncs b.old ≤ D.syncs b.new }
@@ -289,14 +299,9 @@ impl Spool {
         match choose(look_a.1, look_b.1) {
             Choice::Wrong(area, place) => Err(OpenFault::Frame(area, place)),
             Choice::Neither => open_fresh(alloc, a, b, look_a.0, look_b.0),
-            Choice::Chosen(second, generation, size) => open_chosen(
-                alloc,
-                a,
-                b,
-                look_a,
-                look_b,
-                (second, generation, size),
-            ),
+            Choice::Chosen(second, header) => {
+                open_chosen(alloc, a, b, look_a, look_b, (second, header))
+            }
         }
     }
 }

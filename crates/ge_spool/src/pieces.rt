@@ -4,6 +4,7 @@ ghost use Rattle.byteorder.specs.Endian.{big_bytes};
 ghost use Rattle.ge_model_journal.specs.Area.{number8};
 ghost use Rattle.ge_spool.specs.Pieces.{IsRecordPiece, IsSnapshotPiece, body_in, snapshot_in};
 
+use crate::WRITTEN_FORMAT;
 use byteorder::{BigEndian, ByteOrder};
 use ge_collections::Text;
 use std::alloc::{AllocError, Global};
@@ -56,14 +57,16 @@ fn piece_of(alloc: Global, body: &[u8]) -> Result<Vec<u8>, AllocError>
 #[derive(Drop)]
 pub struct SnapshotBytes {
     piece: Vec<u8>,
-    ghost is_piece: { IsSnapshotPiece piece.items (snapshot_in piece.items) },
+    ghost is_piece: { IsSnapshotPiece piece.items (number8 piece.items 1) (snapshot_in piece.items) },
 }
 
 impl SnapshotBytes {
-    ghost use Rattle.ge_spool.specs.Bytes.{snapshot_of, snapshot_piece};
+    ghost use Rattle.ge_spool.specs.Bytes.{snapshot_of, header_generation};
 
+    /// The bytes of a snapshot, in generation 1 until it is written in another one.
     pub fn new(alloc: Global, snapshot: &Text) -> Result<SnapshotBytes, AllocError>
-        ensures { IfOk result (λ snapshot_bytes. snapshot_of snapshot_bytes ≡ snapshot.now) }
+        ensures snapshot { IfOk result (λ snapshot_bytes. snapshot_of snapshot_bytes ≡ snapshot.now) }
+        ensures generation { IfOk result (λ snapshot_bytes. header_generation snapshot_bytes ≡ 1) }
     {
         let piece = snapshot_piece_of(alloc, snapshot.bytes())?;
         Ok(SnapshotBytes { piece })
@@ -72,7 +75,7 @@ impl SnapshotBytes {
     // Sets the generation in the header.
     pub(crate) fn set_generation(&mut self, generation: u64)
         ensures snapshot { snapshot_of self.new ≡ snapshot_of self.old }
-        ensures generation { number8 (snapshot_piece self.new) 1 ≡ generation }
+        ensures generation { header_generation self.new ≡ generation }
     {
         let size = self.piece.len() - 18;
         put_header(self.piece.as_mut_slice(), generation, size as u64);
@@ -80,8 +83,7 @@ impl SnapshotBytes {
 
     // What is written.
     pub(crate) fn piece(&self) -> &[u8]
-        ensures value { result.now ≡ snapshot_piece self.now }
-        ensures is_piece { IsSnapshotPiece result.now (snapshot_of self.now) }
+        ensures is_piece { IsSnapshotPiece result.now (header_generation self.now) (snapshot_of self.now) }
         ensures long { length result.now ≡ 18 + length (snapshot_of self.now) }
     {
         self.piece.as_slice()
@@ -91,16 +93,16 @@ impl SnapshotBytes {
 // Writes the format, a generation and the size of a snapshot.
 fn put_header(piece: &mut [u8], generation: u64, size: u64)
     requires { 17 ≤ length piece.old }
-    ensures { piece.new ≡ (1 ∷ (big_bytes 8 generation ++ big_bytes 8 size)) ++ drop 17 piece.old }
+    ensures { piece.new ≡ (2 ∷ (big_bytes 8 generation ++ big_bytes 8 size)) ++ drop 17 piece.old }
 {
-    piece[0] = 1;
+    piece[0] = WRITTEN_FORMAT;
     BigEndian::write_u64(&mut piece[1..], generation);
     BigEndian::write_u64(&mut piece[9..], size);
 }
 
 // The piece of a snapshot, in generation 1.
 fn snapshot_piece_of(alloc: Global, snapshot: &[u8]) -> Result<Vec<u8>, AllocError>
-    ensures is_piece { IfOk result (λ piece. IsSnapshotPiece piece.items snapshot.now) }
+    ensures is_piece { IfOk result (λ piece. IsSnapshotPiece piece.items 1 snapshot.now) }
     ensures snapshot { IfOk result (λ piece. snapshot_in piece.items ≡ snapshot.now) }
 {
     let mut piece = Vec::from_slice(alloc, &[0; 17])?;

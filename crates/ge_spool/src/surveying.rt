@@ -1,13 +1,13 @@
 // Reading an area: its header first, and then the records of the one that counts.
 ghost use Rattle.std.specs.Prelude.{◌≡◌, ◌==◌, ◌+◌, ◌^◌, ◌<◌, ◌≤◌, ℕ, true, false, List, length, IfOk, MatchOption};
-ghost use Rattle.ge_model_journal.specs.Area.{head_of, is_bad_length, number4, records_from};
+ghost use Rattle.ge_model_journal.specs.Area.{head_of, is_format, is_bad_generation, is_bad_length, number4, records_from, end_from};
 ghost use Rattle.ge_model_journal.specs.Journal.{choice};
 ghost use Rattle.ge_outside.specs.Faults.{HasCause};
 ghost use Rattle.ge_spool.specs.Reads.{ReadsRecords, IsHeadOf, FitsHead};
 
 use crate::OpenFault;
 use ge_collections::{List, Text};
-use ge_model_journal::{Choice, Head};
+use ge_model_journal::{Choice, Head, Header};
 use ge_outside::{Disk, Failed};
 use std::alloc::Global;
 
@@ -16,6 +16,20 @@ fn is_open_gate(gate: u8) -> bool
     ensures { result ≡ (gate == 1) }
 {
     gate == 1
+}
+
+// Whether there is such a format.
+fn is_format(format: u8) -> bool
+    ensures { result ≡ is_format format }
+{
+    format == 1 || format == 2
+}
+
+// Whether no area has such a generation: in format 1 the greatest number ends all compactions.
+fn is_bad_generation(format: u8, generation: u64) -> bool
+    ensures { result ≡ is_bad_generation format generation }
+{
+    generation == 0 || (format == 1 && generation == u64::MAX)
 }
 
 // What the first bytes of an area of this length say.
@@ -46,18 +60,22 @@ fn head_in(size: u64, header: &[u8; 18]) -> Head
     if size < 19 || !is_open_gate(gate) {
         return Head::Closed;
     }
-    if format != 1 {
+    if !is_format(format) {
         return Head::Faulty(1);
     }
     let generation = u64::from_be_bytes([g0, g1, g2, g3, g4, g5, g6, g7]);
-    if generation == 0 {
+    if is_bad_generation(format, generation) {
         return Head::Faulty(2);
     }
     let snapshot = u64::from_be_bytes([n0, n1, n2, n3, n4, n5, n6, n7]);
     if size - 18 < snapshot {
         return Head::Overlong(generation);
     }
-    Head::Sound(generation, snapshot)
+    Head::Sound(Header {
+        format,
+        generation,
+        size: snapshot,
+    })
 }
 
 /// Which area counts, by the headers of both.
@@ -71,16 +89,18 @@ pub fn choose(a: Head, b: Head) -> Choice
             Head::Faulty(place) => Choice::Wrong(1, place),
             Head::Overlong(_) => Choice::Wrong(1, 10),
             Head::Closed => Choice::Neither,
-            Head::Sound(generation, size) => Choice::Chosen(true, generation, size),
+            Head::Sound(header) => Choice::Chosen(true, header),
         },
-        Head::Sound(generation, size) => match b {
+        Head::Sound(header) => match b {
             Head::Faulty(place) => Choice::Wrong(1, place),
-            Head::Overlong(other) if generation == other => Choice::Wrong(1, 2),
+            Head::Overlong(other) if header.generation == other => Choice::Wrong(1, 2),
             Head::Overlong(_) => Choice::Wrong(1, 10),
-            Head::Closed => Choice::Chosen(false, generation, size),
-            Head::Sound(other, _) if generation == other => Choice::Wrong(1, 2),
-            Head::Sound(other, _) if other < generation => Choice::Chosen(false, generation, size),
-            Head::Sound(other, other_size) => Choice::Chosen(true, other, other_size),
+            Head::Closed => Choice::Chosen(false, header),
+            Head::Sound(other) if header.generation == other.generation => Choice::Wrong(1, 2),
+            Head::Sound(other) if other.generation < header.generation => {
+                Choice::Chosen(false, header)
+            }
+            Head::Sound(other) => Choice::Chosen(true, other),
         },
     }
 }
@@ -112,6 +132,7 @@ pub fn read_records(
     ensures end { IfOk result (λ read. start ≤ read.1) }
     ensures fits { IfOk result (λ read. read.1 < start + length bytes.now) }
     ensures count { IfOk result (λ read. start + length read.0 ≤ read.1) }
+    ensures places { IfOk result (λ read. read.1 ≡ end_from start read.0) }
 {
     let mut records = List::new(alloc);
     let mut rest = bytes;

@@ -1,7 +1,8 @@
 use Rattle.std.proofs.Common.{sym}
 use Rattle.ge_model_journal.specs.declared.Head.TheVariants.{Closed}
+use Rattle.ge_model_journal.specs.Writing.{padded}
 use Rattle.ge_spool.specs.Moments.{since_weaker, since_join}
-use Rattle.ge_spool.specs.Opening.{padded, IsPadImage, IsFreshImage}
+use Rattle.ge_spool.specs.Opening.{IsPadImage, IsFreshImage}
 use Rattle.ge_spool.specs.Steps.{IsBehindImage}
 use Rattle.ge_spool.proofs.ShortAreas.{quiet-head, fresh-pad, fresh-fill}
 use Rattle.ge_spool.proofs.opening.make_first.Goals as goal
@@ -28,7 +29,7 @@ returns-in_err-write_behind-clause-since_a g c = λ bytes quiet.
     since_join (g.D.Disk.told c.args.a.now) (g.D.Disk.told c.pad.new.disk) (g.D.Disk.told c.write_behind.new.disk) IsFreshImage padding
     (since_weaker (g.D.Disk.told c.pad.new.disk) (g.D.Disk.told c.write_behind.new.disk) (IsBehindImage 0 c.args.piece.now (padded bytes)) IsFreshImage
     (c.write_behind.ensures.since (padded bytes) (c.in_ok-pad.ensures.quiet bytes quiet))
-    (λ image h. fresh-fill bytes image c.args.piece.now closed c.requires.is_piece c.requires.generation h))
+    (λ image h. fresh-fill bytes image c.args.piece.now closed c.requires.is_piece h))
 
 pub returns-clause-since_a : goal.returns-clause-since_a
 returns-clause-since_a g c = λ bytes quiet.
@@ -38,4 +39,4 @@ returns-clause-since_a g c = λ bytes quiet.
     since_join (g.D.Disk.told c.args.a.now) (g.D.Disk.told c.pad.new.disk) (g.D.Disk.told c.write_behind.new.disk) IsFreshImage padding
     (since_weaker (g.D.Disk.told c.pad.new.disk) (g.D.Disk.told c.write_behind.new.disk) (IsBehindImage 0 c.args.piece.now (padded bytes)) IsFreshImage
     (c.write_behind.ensures.since (padded bytes) (c.in_ok-pad.ensures.quiet bytes quiet))
-    (λ image h. fresh-fill bytes image c.args.piece.now closed c.requires.is_piece c.requires.generation h))
+    (λ image h. fresh-fill bytes image c.args.piece.now closed c.requires.is_piece h))

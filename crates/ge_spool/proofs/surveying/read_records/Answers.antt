@@ -3,6 +3,7 @@ use Rattle.std.proofs.lemmas.Bool.{eqb-true}
 use Rattle.ge_model_journal.specs.Area.{records_from}
 use Rattle.ge_spool.specs.Reads.{and_records}
 use Rattle.ge_spool.proofs.Looking.{records-more, records-end, records-bad, records-missing, no-items}
+use Rattle.ge_spool.proofs.Places.{end-found}
 use Rattle.ge_spool.proofs.surveying.read_records.Goals as goal
 
 pub returns-then-not-is_open_gate-clause-read : goal.returns-then-not-is_open_gate-clause-read
@@ -23,6 +24,11 @@ returns-in_default-body_length-clause-read c =
     let so_far = subst (λ rest. and_records c.loop-gate.records (records_from fuel c.loop-gate.place rest) ≡ all) parts.0 c.loop-gate.invariant.0.2 in
     let opened = eqb-true c.in-Some.gate.now 1 (sym c.is_open_gate.ensures ∙ c.if-not-is_open_gate.false) in
     (refl, records-bad fuel c.loop-gate.place c.in-Some.gate.now c.in-Some.after.now c.loop-gate.records all enough opened c.in_default-body_length.ensures so_far)
+
+-- the list ends behind its records
+pub returns-then-not-is_open_gate-clause-places : goal.returns-then-not-is_open_gate-clause-places
+returns-then-not-is_open_gate-clause-places c =
+    end-found (length c.args.bytes.now) c.args.start c.args.bytes.now c.loop-gate.records c.loop-gate.place (returns-then-not-is_open_gate-clause-read c)
 
 pub loop-gate-preserved : goal.loop-gate-preserved
 loop-gate-preserved c =

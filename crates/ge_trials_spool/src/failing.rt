@@ -5,7 +5,7 @@ ghost use Rattle.ge_spool.specs.Settled.{KeepsRoom};
 
 use ge_collections::Text;
 use ge_outside::MemDisk;
-use ge_spool::{Raw, RecordBytes, SnapshotBytes, Spool};
+use ge_spool::{Raw, RecordBytes, SnapshotBytes, Spool, WRITTEN_FORMAT};
 use std::alloc::{AllocError, Global};
 use std::test::Fail;
 
@@ -38,7 +38,7 @@ fn make_step(
         return Ok(spool.compact(a, b, &mut snapshot).is_ok());
     }
     let text = body(alloc, step)?;
-    if text.is_empty() || text.len() > 9 {
+    if text.is_empty() || text.len() > 9 || spool.format() != WRITTEN_FORMAT {
         return Ok(false);
     }
     let record = RecordBytes::new(alloc, &text)?;

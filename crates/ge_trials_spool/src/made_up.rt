@@ -42,7 +42,8 @@ type Opened = Result<(Spool, Raw), OpenFault>;
 fn is_same(first: &Opened, second: &Opened) -> bool {
     match (first, second) {
         (Ok((_, raw)), Ok((_, other))) => {
-            raw.generation == other.generation
+            raw.format == other.format
+                && raw.generation == other.generation
                 && raw.area == other.area
                 && raw.snapshot == other.snapshot
                 && raw.records == other.records

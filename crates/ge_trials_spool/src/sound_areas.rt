@@ -1,7 +1,7 @@
 // Areas that are right, though some look odd: what opening reads, and what it leaves.
 use crate::areas::{bytes_of, disk_of};
 use ge_outside::MemDisk;
-use ge_spool::Spool;
+use ge_spool::{Raw, Spool};
 use std::alloc::Global;
 use std::process::Abort;
 use std::test::Fail;
@@ -10,6 +10,7 @@ use std::test::Fail;
 struct Row {
     a: &'static str,
     b: &'static str,
+    format: u8,
     generation: u64,
     area: u8,
     snapshot: &'static str,
@@ -24,39 +25,59 @@ const NONE_OPEN: &'static [Row] = &[
     Row {
         a: "",
         b: "",
+        format: 2,
         generation: 1,
         area: 0,
         snapshot: "",
         records: &[],
-        a_after: "01 01 0000000000000001 0000000000000000 00",
+        a_after: "01 02 0000000000000001 0000000000000000 00",
         b_after: "00",
     },
     // gates that are not 1, with anything behind them
     Row {
         a: "00 03 0000000000000000 ffffffffffffffff 01 05",
         b: "07 01 0000000000000009 0000000000000000 00",
+        format: 2,
         generation: 1,
         area: 0,
         snapshot: "",
         records: &[],
-        a_after: "01 01 0000000000000001 0000000000000000 00 05",
+        a_after: "01 02 0000000000000001 0000000000000000 00 05",
         b_after: "07 01 0000000000000009 0000000000000000 00",
     },
     // one byte less than an open area
     Row {
         a: "01 01 0000000000000005 0000000000000000",
         b: "01 03 0000000000000000 ffffffffffffffff",
+        format: 2,
         generation: 1,
         area: 0,
         snapshot: "",
         records: &[],
-        a_after: "01 01 0000000000000001 0000000000000000 00",
+        a_after: "01 02 0000000000000001 0000000000000000 00",
         b_after: "00 03 0000000000000000 ffffffffffffffff",
     },
     // a single byte
     Row {
         a: "01",
         b: "01",
+        format: 2,
+        generation: 1,
+        area: 0,
+        snapshot: "",
+        records: &[],
+        a_after: "01 02 0000000000000001 0000000000000000 00",
+        b_after: "00",
+    },
+];
+
+// Where one is open, it counts.
+const ONE_OPEN: &'static [Row] = &[
+    // a fresh area of each format, which stays as it is
+    Row {
+        a: "01 01 0000000000000001 0000000000000000 00",
+        b: "",
+        format: 1,
         generation: 1,
         area: 0,
         snapshot: "",
@@ -64,14 +85,22 @@ const NONE_OPEN: &'static [Row] = &[
         a_after: "01 01 0000000000000001 0000000000000000 00",
         b_after: "00",
     },
-];
-
-// Where one is open, it counts.
-const ONE_OPEN: &'static [Row] = &[
+    Row {
+        a: "01 02 0000000000000001 0000000000000000 00",
+        b: "",
+        format: 2,
+        generation: 1,
+        area: 0,
+        snapshot: "",
+        records: &[],
+        a_after: "01 02 0000000000000001 0000000000000000 00",
+        b_after: "00",
+    },
     // beside an empty area, which gets a closed gate
     Row {
         a: "",
         b: "01 01 0000000000000001 0000000000000000 00",
+        format: 1,
         generation: 1,
         area: 1,
         snapshot: "",
@@ -83,6 +112,7 @@ const ONE_OPEN: &'static [Row] = &[
     Row {
         a: "01 01 0000000000000001 0000000000000000 01 00000001 07 00",
         b: "01 03 0000000000000000",
+        format: 1,
         generation: 1,
         area: 0,
         snapshot: "",
@@ -94,6 +124,7 @@ const ONE_OPEN: &'static [Row] = &[
     Row {
         a: "07 03 0000000000000009 ffffffffffffffff 01 00000000 00",
         b: "01 01 0000000000000002 0000000000000003 040506 00",
+        format: 1,
         generation: 2,
         area: 1,
         snapshot: "040506",
@@ -105,6 +136,7 @@ const ONE_OPEN: &'static [Row] = &[
     Row {
         a: "01 01 0000000000000001 0000000000000000 01 00000001 07 07 00000000 01",
         b: "00",
+        format: 1,
         generation: 1,
         area: 0,
         snapshot: "",
@@ -116,6 +148,7 @@ const ONE_OPEN: &'static [Row] = &[
     Row {
         a: "01 01 0000000000000001 0000000000000000 00 00000001 07 01 00000001 08 00",
         b: "00",
+        format: 1,
         generation: 1,
         area: 0,
         snapshot: "",
@@ -127,6 +160,7 @@ const ONE_OPEN: &'static [Row] = &[
     Row {
         a: "01 01 0000000000000001 0000000000000002 0101 01 00000003 010101 01 00000001 01 00",
         b: "00",
+        format: 1,
         generation: 1,
         area: 0,
         snapshot: "0101",
@@ -142,6 +176,7 @@ const BOTH_OPEN: &'static [Row] = &[
     Row {
         a: "01 01 0000000000000001 0000000000000000 01 00000000 00",
         b: "01 01 0000000000000002 0000000000000000 01 00000002 0708 00",
+        format: 1,
         generation: 2,
         area: 1,
         snapshot: "",
@@ -153,6 +188,7 @@ const BOTH_OPEN: &'static [Row] = &[
     Row {
         a: "01 01 0000000000000003 0000000000000001 05 00",
         b: "01 01 0000000000000002 0000000000000003 040506",
+        format: 1,
         generation: 3,
         area: 0,
         snapshot: "05",
@@ -164,6 +200,7 @@ const BOTH_OPEN: &'static [Row] = &[
     Row {
         a: "01 01 0000000000000100 0000000000000000 00",
         b: "01 01 00000000000000ff 0000000000000000 00",
+        format: 1,
         generation: 256,
         area: 0,
         snapshot: "",
@@ -173,15 +210,60 @@ const BOTH_OPEN: &'static [Row] = &[
     },
     Row {
         a: "01 01 00000000ffffffff 0000000000000000 00",
-        b: "01 01 ffffffffffffffff 0000000000000000 00",
+        b: "01 02 ffffffffffffffff 0000000000000000 00",
+        format: 2,
         generation: 18_446_744_073_709_551_615,
         area: 1,
         snapshot: "",
         records: &[],
         a_after: "01 01 00000000ffffffff 0000000000000000 00",
-        b_after: "01 01 ffffffffffffffff 0000000000000000 00",
+        b_after: "01 02 ffffffffffffffff 0000000000000000 00",
+    },
+    // an area of the first format beside its compaction, and the other way around
+    Row {
+        a: "01 01 0000000000000001 0000000000000000 01 00000001 07 00",
+        b: "01 02 0000000000000002 0000000000000001 05 00",
+        format: 2,
+        generation: 2,
+        area: 1,
+        snapshot: "05",
+        records: &[],
+        a_after: "01 01 0000000000000001 0000000000000000 01 00000001 07 00",
+        b_after: "01 02 0000000000000002 0000000000000001 05 00",
+    },
+    Row {
+        a: "01 01 0000000000000003 0000000000000000 01 00000001 07 00",
+        b: "01 02 0000000000000002 0000000000000001 05 00",
+        format: 1,
+        generation: 3,
+        area: 0,
+        snapshot: "",
+        records: &["07"],
+        a_after: "01 01 0000000000000003 0000000000000000 01 00000001 07 00",
+        b_after: "01 02 0000000000000002 0000000000000001 05 00",
+    },
+    // the greatest generation of the first format
+    Row {
+        a: "01 01 fffffffffffffffe 0000000000000000 00",
+        b: "01 02 0000000000000002 0000000000000001 05 00",
+        format: 1,
+        generation: 18_446_744_073_709_551_614,
+        area: 0,
+        snapshot: "",
+        records: &[],
+        a_after: "01 01 fffffffffffffffe 0000000000000000 00",
+        b_after: "01 02 0000000000000002 0000000000000001 05 00",
     },
 ];
+
+// Whether the area that counts, its format and its generation are those of a row.
+fn is_header(spool: &Spool, raw: &Raw, row: &Row) -> bool {
+    raw.area == row.area
+        && raw.format == row.format
+        && raw.generation == row.generation
+        && spool.format() == row.format
+        && spool.generation() == row.generation
+}
 
 // Opens each pair of areas, and then what that left.
 fn opens_each(rt: &impl Abort, alloc: Global, rows: &'static [Row]) -> Result<(), Fail> {
@@ -190,13 +272,12 @@ fn opens_each(rt: &impl Abort, alloc: Global, rows: &'static [Row]) -> Result<()
         let mut b = disk_of(alloc, row.b, 0)?;
         for _ in 0..2 {
             let (spool, raw) = Spool::open(alloc, &mut a, &mut b)?;
-            assert_eq!(rt;
-                raw.generation,
-                row.generation,
+            assert!(rt;
+                is_header(&spool, &raw, row),
                 "areas {} and {}",
-                row.a, row.b
+                row.a,
+                row.b
             );
-            assert_eq!(rt; raw.area, row.area, "areas {} and {}", row.a, row.b);
             assert_eq!(rt;
                 raw.snapshot.bytes(),
                 bytes_of(alloc, row.snapshot)?.as_slice()
