@@ -49,7 +49,7 @@ bool_canonical = led_canonical (bounded_canonical 2 Range (omega arith)) (bounde
 -- ---- texts
 
 -- bytes are below 256, one by one
-all_bytes : (xs : List ℕ) → AreBytes xs → IsTrue (list_all (λ b. nat_lt b 256) xs)
+pub all_bytes : (xs : List ℕ) → AreBytes xs → IsTrue (list_all (λ b. nat_lt b 256) xs)
 all_bytes [] are = refl
 all_bytes (x ∷ xs) are = and_of _ _ (lt-ltb x 256 (are 0)) (all_bytes xs (λ k. are (suc k)))
 

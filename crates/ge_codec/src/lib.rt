@@ -13,5 +13,5 @@ mod rows;
 mod tables;
 mod texts;
 
-pub use canon::Canon;
+pub use canon::{Canon, Format, Format1, Format2};
 pub use ge_model_codec::TakeFault;

@@ -1,5 +1,6 @@
 // Lists.
-ghost use Rattle.std.specs.Prelude.{◌≡◌, ◌++◌, ◌≤◌, length, flat_map, IfOk, OnOk, OnErr};
+ghost use Rattle.std.specs.Prelude.{◌≡◌, ◌++◌, ◌≤◌, length, flat_map, IfOk, OnOk, OnErr, IsTrue};
+ghost use Rattle.std.specs.List.{list_all};
 ghost use Rattle.ge_model_codec.specs.Reading.{Reads};
 ghost use Rattle.ge_model_codec.specs.Code.{items_at};
 ghost use Rattle.ge_codec.specs.Fronts.{IsFront};
@@ -14,6 +15,7 @@ use std::alloc::{AllocError, Global};
 #[tactic(auto, using(crate::specs::Fronts::front_is))]
 pub(crate) fn put_items<T: Canon>(items: &[T], out: &mut Text) -> Result<(), AllocError>
     ensures ok { OnOk result (out.new ≡ out.old ++ flat_map T.code.write items.now) }
+    ensures fits { OnOk result (IsTrue (list_all T.code.fits items.now)) }
     ensures err { OnErr result (IsFront out.old out.new) }
 {
     for item in items {

@@ -1,5 +1,5 @@
 // Pairs, options, and the parts of rows.
-ghost use Rattle.std.specs.Prelude.{◌≡◌, ◌++◌, ◌∷◌, [], List, ℕ, OnOk, OnErr};
+ghost use Rattle.std.specs.Prelude.{◌≡◌, ◌++◌, ◌∷◌, [], List, ℕ, Bool, true, ◌&&◌, OnOk, OnErr, IsTrue};
 ghost use Rattle.ge_codec.specs.Fronts.{IsFront};
 
 use crate::canon::Canon;
@@ -12,13 +12,19 @@ use std::alloc::{AllocError, Global};
 pub(crate) trait Fields {
     ghost written: { Self → List ℕ };
 
+    // Whether each is a value of its type.
+    ghost fit: { Self → Bool };
+
     fn put_all(&self, out: &mut Text) -> Result<(), AllocError>
         ensures ok { OnOk result (out.new ≡ out.old ++ written self.now) }
+        ensures fits { OnOk result (IsTrue (fit self.now)) }
         ensures err { OnErr result (IsFront out.old out.new) };
 }
 
 impl Fields for () {
     ghost written = { λ u. [] };
+
+    ghost fit = { λ u. true };
 
     fn put_all(&self, _out: &mut Text) -> Result<(), AllocError> {
         Ok(())
@@ -27,6 +33,8 @@ impl Fields for () {
 
 impl<A: Canon> Fields for &A {
     ghost written = { λ a. A.code.write a.now };
+
+    ghost fit = { λ a. A.code.fits a.now };
 
     fn put_all(&self, out: &mut Text) -> Result<(), AllocError> {
         let value: &A = *self;
@@ -37,6 +45,8 @@ impl<A: Canon> Fields for &A {
 impl<A: Fields, B: Fields> Fields for (A, B) {
     ghost written = { λ p. A.written p.0 ++ B.written p.1 };
 
+    ghost fit = { λ p. A.fit p.0 && B.fit p.1 };
+
     #[tactic(auto, using(crate::specs::Fronts::front_is))]
     fn put_all(&self, out: &mut Text) -> Result<(), AllocError> {
         self.0.put_all(out)?;
@@ -44,9 +54,52 @@ impl<A: Fields, B: Fields> Fields for (A, B) {
     }
 }
 
+impl<A: Fields, B: Fields, C: Fields> Fields for (A, B, C) {
+    ghost written = { λ p. A.written p.0 ++ (B.written p.1 ++ C.written p.2) };
+
+    ghost fit = { λ p. A.fit p.0 && (B.fit p.1 && C.fit p.2) };
+
+    #[tactic(auto, using(crate::specs::Fronts::front_is))]
+    fn put_all(&self, out: &mut Text) -> Result<(), AllocError> {
+        self.0.put_all(out)?;
+        self.1.put_all(out)?;
+        self.2.put_all(out)
+    }
+}
+
+impl<A: Fields, B: Fields, C: Fields, D: Fields> Fields for (A, B, C, D) {
+    ghost written = { λ p. A.written p.0 ++ (B.written p.1 ++ (C.written p.2 ++ D.written p.3)) };
+
+    ghost fit = { λ p. A.fit p.0 && (B.fit p.1 && (C.fit p.2 && D.fit p.3)) };
+
+    #[tactic(auto, using(crate::specs::Fronts::front_is))]
+    fn put_all(&self, out: &mut Text) -> Result<(), AllocError> {
+        self.0.put_all(out)?;
+        self.1.put_all(out)?;
+        self.2.put_all(out)?;
+        self.3.put_all(out)
+    }
+}
+
+impl<A: Fields, B: Fields, C: Fields, D: Fields, E: Fields> Fields for (A, B, C, D, E) {
+    ghost written = { λ p. A.written p.0 ++ (B.written p.1 ++ (C.written p.2 ++ (D.written p.3 ++ E.written p.4))) };
+
+    ghost fit = { λ p. A.fit p.0 && (B.fit p.1 && (C.fit p.2 && (D.fit p.3 && E.fit p.4))) };
+
+    #[tactic(auto, using(crate::specs::Fronts::front_is))]
+    fn put_all(&self, out: &mut Text) -> Result<(), AllocError> {
+        self.0.put_all(out)?;
+        self.1.put_all(out)?;
+        self.2.put_all(out)?;
+        self.3.put_all(out)?;
+        self.4.put_all(out)
+    }
+}
+
 // A tag byte and the fields of a variant.
 pub(crate) fn put_variant<F: Fields>(tag: u8, fields: &F, out: &mut Text) -> Result<(), AllocError>
     ensures ok { OnOk result (out.new ≡ out.old ++ (tag ∷ F.written fields.now)) }
+    ensures fits { OnOk result (IsTrue (F.fit fields.now)) }
     ensures err { OnErr result (IsFront out.old out.new) }
 {
     out.push(tag)?;
@@ -99,7 +152,7 @@ impl<A: Canon + Drop, B: Canon + Drop, C: Canon> Canon for (A, B, C) {
     ghost canonical = { triple_canonical A.canonical B.canonical C.canonical };
 
     fn put(&self, out: &mut Text) -> Result<(), AllocError> {
-        (&self.0, (&self.1, &self.2)).put_all(out)
+        (&self.0, &self.1, &self.2).put_all(out)
     }
 
     #[tactic(auto, using(crate::specs::Passing::fault_passes_made))]
@@ -107,6 +160,47 @@ impl<A: Canon + Drop, B: Canon + Drop, C: Canon> Canon for (A, B, C) {
         let (parts, end) = <(A, (B, C))>::take(alloc, bytes, at)?;
         let (first, (second, third)) = parts;
         Ok(((first, second, third), end))
+    }
+}
+
+impl<A: Canon + Drop, B: Canon + Drop, C: Canon + Drop, D: Canon> Canon for (A, B, C, D) {
+    ghost use Rattle.ge_model_codec.specs.Code.{quadruple_code};
+    ghost use Rattle.ge_codec.specs.Laws.{quadruple_canonical};
+
+    ghost code = { quadruple_code A.code B.code C.code D.code };
+
+    ghost canonical = { quadruple_canonical A.canonical B.canonical C.canonical D.canonical };
+
+    fn put(&self, out: &mut Text) -> Result<(), AllocError> {
+        (&self.0, &self.1, &self.2, &self.3).put_all(out)
+    }
+
+    #[tactic(auto, using(crate::specs::Passing::fault_passes_made))]
+    fn take(alloc: Global, bytes: &[u8], at: usize) -> Result<((A, B, C, D), usize), TakeFault> {
+        let (parts, end) = <(A, (B, (C, D)))>::take(alloc, bytes, at)?;
+        let (first, (second, (third, fourth))) = parts;
+        Ok(((first, second, third, fourth), end))
+    }
+}
+
+impl<A: Canon + Drop, B: Canon + Drop, C: Canon + Drop, D: Canon + Drop, E: Canon> Canon
+    for (A, B, C, D, E) {
+    ghost use Rattle.ge_model_codec.specs.Code.{quintuple_code};
+    ghost use Rattle.ge_codec.specs.Laws.{quintuple_canonical};
+
+    ghost code = { quintuple_code A.code B.code C.code D.code E.code };
+
+    ghost canonical = { quintuple_canonical A.canonical B.canonical C.canonical D.canonical E.canonical };
+
+    fn put(&self, out: &mut Text) -> Result<(), AllocError> {
+        (&self.0, &self.1, &self.2, &self.3, &self.4).put_all(out)
+    }
+
+    #[tactic(auto, using(crate::specs::Passing::fault_passes_made))]
+    fn take(alloc: Global, bytes: &[u8], at: usize) -> Result<((A, B, C, D, E), usize), TakeFault> {
+        let (parts, end) = <(A, (B, (C, (D, E))))>::take(alloc, bytes, at)?;
+        let (first, (second, (third, (fourth, fifth)))) = parts;
+        Ok(((first, second, third, fourth, fifth), end))
     }
 }
 

@@ -1,6 +1,7 @@
 // The rows: each a struct of its fields in order, or a tag and the variant's fields.
 mod cluster;
 mod entries;
+mod items;
 mod jobs;
 mod queues;
 mod settings;

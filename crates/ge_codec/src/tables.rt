@@ -1,19 +1,20 @@
 // Tables.
 ghost use Rattle.std.specs.Prelude.{◌≡◌, ◌++◌, ◌∷◌, [], ◌≤◌, length, flat_map, IfOk, OnOk, OnErr, IsTrue};
+ghost use Rattle.std.specs.List.{list_all};
 ghost use Rattle.std.specs.Option.{option_copied};
 ghost use Rattle.ge_model_codec.specs.Reading.{Reads};
-ghost use Rattle.ge_model_codec.specs.Code.{is_next, entry_at, entries_at, pair_code};
+ghost use Rattle.ge_model_codec.specs.Code.{is_next, is_rising, entry_at, entries_at, pair_code, table_code};
 ghost use Rattle.ge_codec.specs.Fronts.{IsFront};
 ghost use Rattle.ge_codec.specs.Taking.{TakesEntry, last_key};
 
-use crate::canon::Canon;
+use crate::canon::{Canon, Format, Format2};
 use crate::pairs::Fields;
 use ge_model_codec::TakeFault;
-use ge_rows::{Table, Text};
+use ge_rows::{Row, Table, Text, Twin};
 use std::alloc::{AllocError, Global};
 
 // The last key of a table.
-fn last_key<K: Ord, V>(table: &Table<K, V>) -> Option<&K>
+fn last_key<K: Ord, V: Row>(table: &Table<K, V>) -> Option<&K>
     ensures { option_copied result ≡ last_key table.now }
 {
     match table.keys().next_back() {
@@ -23,7 +24,7 @@ fn last_key<K: Ord, V>(table: &Table<K, V>) -> Option<&K>
 }
 
 // Whether a key stands above all keys of a table.
-fn is_next<K: Ord, V>(table: &Table<K, V>, key: &K) -> bool
+fn is_next<K: Ord, V: Row>(table: &Table<K, V>, key: &K) -> bool
     ensures { result ≡ is_next K.cmp (last_key table.now) key.now }
 {
     match last_key(table) {
@@ -33,14 +34,14 @@ fn is_next<K: Ord, V>(table: &Table<K, V>, key: &K) -> bool
 }
 
 // A pair behind those of the table.
-fn read_entry<K: Canon + Ord + Drop, V: Canon>(
+fn read_entry<K: Canon + Ord + Drop, V: Row, F: Format<V>>(
     alloc: Global,
     bytes: &[u8],
     at: usize,
     table: &Table<K, V>,
 ) -> Result<((K, V), usize), TakeFault>
     requires { at ≤ length bytes.now }
-    ensures read { Reads result (entry_at K.Ord.cmp K.code V.code (last_key table.now) bytes.now at) }
+    ensures read { Reads result (entry_at K.Ord.cmp K.code F.code (last_key table.now) bytes.now at) }
     ensures within { IfOk result (λ p. p.1 ≤ length bytes.now) }
     ensures above { IfOk result (λ p. IsTrue (is_next K.Ord.cmp (last_key table.now) p.0.0)) }
 {
@@ -48,12 +49,12 @@ fn read_entry<K: Canon + Ord + Drop, V: Canon>(
     if !is_next(table, &key) {
         return Err(TakeFault::Range(at));
     }
-    let (value, end) = V::take(alloc, bytes, mid)?;
+    let (value, end) = F::take(alloc, bytes, mid)?;
     Ok(((key, value), end))
 }
 
 // A pair put behind those of a table, above whose keys its own stands.
-fn put_last<K: Ord + Drop, V: Drop>(
+fn put_last<K: Ord + Twin + Drop, V: Row + Drop>(
     table: &mut Table<K, V>,
     key: K,
     value: V,
@@ -67,36 +68,36 @@ fn put_last<K: Ord + Drop, V: Drop>(
 }
 
 // One more pair.
-fn take_entry<K: Canon + Ord + Drop, V: Canon + Drop>(
+fn take_entry<K: Canon + Ord + Twin + Drop, V: Row + Drop, F: Format<V>>(
     alloc: Global,
     bytes: &[u8],
     at: usize,
     table: &mut Table<K, V>,
 ) -> Result<usize, TakeFault>
     requires { at ≤ length bytes.now }
-    ensures taken { TakesEntry K.Ord.cmp K.code V.code bytes.now at table.old table.new result }
+    ensures taken { TakesEntry K.Ord.cmp K.code F.code bytes.now at table.old table.new result }
     ensures within { IfOk result (λ end. end ≤ length bytes.now) }
 {
-    let ((key, value), end) = read_entry(alloc, bytes, at, table)?;
+    let ((key, value), end) = read_entry::<K, V, F>(alloc, bytes, at, table)?;
     put_last(table, key, value)?;
     Ok(end)
 }
 
 // So many pairs, one behind the other.
-fn take_entries<K: Canon + Ord + Drop, V: Canon + Drop>(
+fn take_entries<K: Canon + Ord + Twin + Drop, V: Row + Drop, F: Format<V>>(
     alloc: Global,
     bytes: &[u8],
     at: usize,
     count: u64,
 ) -> Result<(Table<K, V>, usize), TakeFault>
     requires { at ≤ length bytes.now }
-    ensures read { Reads result (entries_at K.Ord.cmp K.code V.code count None bytes.now at) }
+    ensures read { Reads result (entries_at K.Ord.cmp K.code F.code count None bytes.now at) }
     ensures within { IfOk result (λ p. p.1 ≤ length bytes.now) }
 {
     let mut table = Table::new(alloc);
     let mut end = at;
     for turn in 0..count {
-        match take_entry(alloc, bytes, end, &mut table) {
+        match take_entry::<K, V, F>(alloc, bytes, end, &mut table) {
             Ok(next) => end = next,
             Err(fault) => return Err(fault),
         }
@@ -104,9 +105,25 @@ fn take_entries<K: Canon + Ord + Drop, V: Canon + Drop>(
     Ok((table, end))
 }
 
+// A table whose values are read in a format.
+#[tactic(auto, using(crate::specs::Passing::fault_passes))]
+pub(crate) fn take_table<K: Canon + Ord + Twin + Drop, V: Row + Drop, F: Format<V>>(
+    alloc: Global,
+    bytes: &[u8],
+    at: usize,
+) -> Result<(Table<K, V>, usize), TakeFault>
+    requires { at ≤ length bytes.now }
+    ensures read { Reads result ((table_code K.Ord.cmp K.code F.code).read bytes.now at) }
+    ensures within { IfOk result (λ p. p.1 ≤ length bytes.now) }
+{
+    let (count, mid) = u64::take(alloc, bytes, at)?;
+    take_entries::<K, V, F>(alloc, bytes, mid, count)
+}
+
 // One more pair's bytes.
 fn put_entry<K: Canon, V: Canon>(key: &K, value: &V, out: &mut Text) -> Result<(), AllocError>
     ensures ok { OnOk result (out.new ≡ out.old ++ (pair_code K.code V.code).write (key.now, value.now)) }
+    ensures fits { OnOk result (IsTrue ((pair_code K.code V.code).fits (key.now, value.now))) }
     ensures err { OnErr result (IsFront out.old out.new) }
 {
     (key, value).put_all(out)
@@ -114,11 +131,12 @@ fn put_entry<K: Canon, V: Canon>(key: &K, value: &V, out: &mut Text) -> Result<(
 
 // The pairs' bytes.
 #[tactic(auto, using(crate::specs::Fronts::front_is))]
-fn put_entries<K: Canon + Ord, V: Canon>(
+fn put_entries<K: Canon + Ord, V: Canon + Row>(
     table: &Table<K, V>,
     out: &mut Text,
 ) -> Result<(), AllocError>
     ensures ok { OnOk result (out.new ≡ out.old ++ flat_map (pair_code K.code V.code).write table.now) }
+    ensures fits { OnOk result (IsTrue (list_all (pair_code K.code V.code).fits table.now)) }
     ensures err { OnErr result (IsFront out.old out.new) }
 {
     for (key, value) in table.iter() {
@@ -127,7 +145,14 @@ fn put_entries<K: Canon + Ord, V: Canon>(
     Ok(())
 }
 
-impl<K: Canon + Ord + Drop, V: Canon + Drop> Canon for Table<K, V> {
+// A table's keys strictly rise.
+fn has_rising_keys<K: Ord, V: Row>(table: &Table<K, V>)
+    ensures { IsTrue (is_rising K.cmp None table.now) }
+{
+    let _count = table.len();
+}
+
+impl<K: Canon + Ord + Twin + Drop, V: Canon + Row + Drop> Canon for Table<K, V> {
     ghost use Rattle.ge_model_codec.specs.Code.{table_code};
     ghost use Rattle.ge_codec.specs.Entries.{table_canonical};
 
@@ -136,13 +161,12 @@ impl<K: Canon + Ord + Drop, V: Canon + Drop> Canon for Table<K, V> {
     ghost canonical = { table_canonical K.Ord.cmp K.code V.code K.canonical V.canonical };
 
     fn put(&self, out: &mut Text) -> Result<(), AllocError> {
+        has_rising_keys(self);
         (self.len() as u64).put(out)?;
         put_entries(self, out)
     }
 
-    #[tactic(auto, using(crate::specs::Passing::fault_passes))]
     fn take(alloc: Global, bytes: &[u8], at: usize) -> Result<(Table<K, V>, usize), TakeFault> {
-        let (count, mid) = u64::take(alloc, bytes, at)?;
-        take_entries(alloc, bytes, mid, count)
+        take_table::<K, V, Format2>(alloc, bytes, at)
     }
 }

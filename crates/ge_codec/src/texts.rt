@@ -1,5 +1,6 @@
 // Bools and texts.
-ghost use Rattle.std.specs.Prelude.{◌≡◌, ◌≤◌, ◌<◌, length, IfOk};
+ghost use Rattle.std.specs.Prelude.{◌≡◌, ◌≤◌, ◌<◌, length, nat_lt, IfOk, IsTrue};
+ghost use Rattle.std.specs.List.{list_all};
 ghost use Rattle.ge_model_codec.specs.Reading.{Reads};
 ghost use Rattle.ge_model_codec.specs.Code.{bounded_code};
 ghost use Rattle.ge_model_codec.specs.declared.TakeFault.TheVariants.{Range, Tag};
@@ -62,6 +63,13 @@ impl Canon for bool {
     }
 }
 
+// Bytes are numbers below 256.
+fn are_bytes(bytes: &[u8])
+    ensures { IsTrue (list_all (λ b. nat_lt b 256) bytes.now) }
+{
+    let _count = bytes.len();
+}
+
 impl Canon for Text {
     ghost use Rattle.ge_model_codec.specs.Code.{text_code};
     ghost use Rattle.ge_codec.specs.Parts.{text_canonical};
@@ -71,6 +79,7 @@ impl Canon for Text {
     ghost canonical = { text_canonical };
 
     fn put(&self, out: &mut Text) -> Result<(), AllocError> {
+        are_bytes(self.bytes());
         (self.len() as u64).put(out)?;
         out.append(self.bytes())
     }

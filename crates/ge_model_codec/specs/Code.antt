@@ -148,9 +148,27 @@ infixr 40 ◌⊗◌
 abbrev pub ◌⊗◌ : {X Y : Type 0} → Code X → Code Y → Code (X × Y)
 ◌⊗◌ first rest = pair_code first rest
 
--- three values, one behind the other
+-- three, four and five values, one behind the other: a row of many fields is written in such blocks
 abbrev pub triple_code : {X Y Z : Type 0} → Code X → Code Y → Code Z → Code (X × Y × Z)
 triple_code a b c = row_code (a ⊗ b ⊗ c) (λ t. (t.0, (t.1, t.2))) (λ p. (p.0, p.1.0, p.1.1))
+
+abbrev pub quadruple_code : {X Y Z U : Type 0} → Code X → Code Y → Code Z → Code U → Code (X × Y × Z × U)
+quadruple_code a b c d = row_code (a ⊗ b ⊗ c ⊗ d)
+    (λ t. (t.0, (t.1, (t.2, t.3))))
+    (λ p. (p.0, p.1.0, p.1.1.0, p.1.1.1))
+
+abbrev pub quintuple_code : {X Y Z U V : Type 0} → Code X → Code Y → Code Z → Code U → Code V → Code (X × Y × Z × U × V)
+quintuple_code a b c d e = row_code (a ⊗ b ⊗ c ⊗ d ⊗ e)
+    (λ t. (t.0, (t.1, (t.2, (t.3, t.4)))))
+    (λ p. (p.0, p.1.0, p.1.1.0, p.1.1.1.0, p.1.1.1.1))
+
+-- a value that has no bytes: only this one is written, and nothing is read for it
+abbrev pub absent_code : {X : Type 0} → (X → Bool) → X → Code X
+absent_code is_it it = record {
+  fits = is_it;
+  write = λ x. [];
+  read = λ bytes at. Ok (it, at);
+}
 
 -- the numbers by their widths
 abbrev pub u8_code : Code ℕ
@@ -246,6 +264,21 @@ module _ {X Y : Type 0} (code : Code X) (others : Cases Y) where
     fields = either_fields;
     read_as = either_read;
   }
+
+-- the same, between the two
+infixr 35 ◌⊕◌
+abbrev pub ◌⊕◌ : {X Y : Type 0} → Code X → Cases Y → Cases (X ⊎ Y)
+◌⊕◌ code others = case_or code others
+
+-- the first variants alone, so many of them
+abbrev pub first_cases : {X : Type 0} → ℕ → Cases X → Cases X
+first_cases count cases = record {
+  count = count;
+  fits = λ x. cases.fits x && nat_lt (cases.tag x) count;
+  tag = cases.tag;
+  fields = cases.fields;
+  read_as = cases.read_as;
+}
 
 -- a tag byte and the variant's fields
 abbrev pub cases_code : {X : Type 0} → Cases X → Code X

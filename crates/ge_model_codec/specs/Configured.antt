@@ -2,148 +2,179 @@
 use Rattle.std.specs.Prelude.{ℕ, Bool, List, ◌⊎◌}
 use Rattle.std.proofs.Common.{inl, inr}
 use Rattle.ge_rows.specs.Keyed.{text_cmp}
-use Rattle.ge_rows.specs.declared.queues.Allocation.{Allocation}
-use Rattle.ge_rows.specs.declared.queues.Attr.{Attr}
-use Rattle.ge_rows.specs.declared.values.ComplexDef.{ComplexDef}
-use Rattle.ge_rows.specs.declared.values.Consumable.{Consumable}
-use Rattle.ge_rows.specs.declared.quotas.Filter.{Filter}
-use Rattle.ge_rows.specs.declared.hosts.HostRow.{HostRow}
-use Rattle.ge_rows.specs.declared.values.Kind.{Kind}
-use Rattle.ge_rows.specs.declared.queues.PeRow.{PeRow}
-use Rattle.ge_rows.specs.declared.people.ProjectRow.{ProjectRow}
-use Rattle.ge_rows.specs.declared.queues.QueueRow.{QueueRow}
-use Rattle.ge_rows.specs.declared.quotas.QuotaRow.{QuotaRow}
-use Rattle.ge_rows.specs.declared.values.Relop.{Relop}
-use Rattle.ge_rows.specs.declared.values.Requestable.{Requestable}
-use Rattle.ge_rows.specs.declared.quotas.Rule.{Rule}
-use Rattle.ge_rows.specs.declared.settings.Sched.{Sched}
-use Rattle.ge_rows.specs.declared.people.ShareNode.{ShareNode}
-use Rattle.ge_rows.specs.declared.settings.SortMethod.{SortMethod}
-use Rattle.ge_rows.specs.declared.queues.UrgencySlots.{UrgencySlots}
-use Rattle.ge_rows.specs.declared.people.UserRow.{UserRow}
-use Rattle.ge_rows.specs.declared.values.Value.{Value}
-use Rattle.ge_rows.specs.declared.values.Value.TheVariants as value
-use Rattle.ge_rows.specs.declared.values.Kind.TheVariants as kind
-use Rattle.ge_rows.specs.declared.values.Relop.TheVariants as relop
-use Rattle.ge_rows.specs.declared.values.Requestable.TheVariants as requestable
-use Rattle.ge_rows.specs.declared.values.Consumable.TheVariants as consumable
-use Rattle.ge_rows.specs.declared.queues.Allocation.TheVariants as allocation
-use Rattle.ge_rows.specs.declared.queues.UrgencySlots.TheVariants as urgency_slots
-use Rattle.ge_rows.specs.declared.settings.SortMethod.TheVariants as sort_method
-use Rattle.ge_model_codec.specs.Code.{Code, Cases, u32_code, u64_code, bool_code, text_code, list_code, option_code, table_code, ◌⊗◌, row_code, empty_code, last_case, case_or, cases_code}
+use Rattle.ge_model_rows.specs.HostRows.{HostRow}
+use Rattle.ge_model_rows.specs.PeRows.{PeRow, Allocation, UrgencySlots}
+use Rattle.ge_model_rows.specs.PeopleRows.{UserRow, ProjectRow, ShareNode}
+use Rattle.ge_model_rows.specs.QueueRows.{QueueRow, Attr}
+use Rattle.ge_model_rows.specs.QuotaRows.{QuotaRow, Rule, Filter}
+use Rattle.ge_model_rows.specs.SettingRows.{Sched, SortMethod}
+use Rattle.ge_model_rows.specs.ValueRows.{Value, Kind, Relop, Requestable, Consumable, ComplexDef}
+use Rattle.ge_model_codec.specs.Code.{Code, Cases, u32_code, u64_code, bool_code, text_code, list_code, option_code, table_code, ◌⊗◌, row_code, triple_code, quadruple_code, quintuple_code, empty_code, last_case, ◌⊕◌, first_cases, cases_code}
 
 -- a value
-abbrev pub value_parts : Value → ℕ ⊎ (Bool ⊎ (List ℕ))
-value_parts (value.Amount a) = inl a
-value_parts (value.Flag a) = inr (inl a)
-value_parts (value.Word a) = inr (inr a)
+abbrev pub ValueParts : Type 0
+ValueParts = ℕ ⊎ Bool ⊎ List ℕ
 
-abbrev pub value_of : ℕ ⊎ (Bool ⊎ (List ℕ)) → Value
-value_of (inl x) = value.Amount x
-value_of (inr (inl x)) = value.Flag x
-value_of (inr (inr x)) = value.Word x
+abbrev pub value_parts : Value → ValueParts
+value_parts (Value.Amount a) = inl a
+value_parts (Value.Flag a) = inr (inl a)
+value_parts (Value.Word a) = inr (inr a)
 
-abbrev pub value_cases : Cases (ℕ ⊎ (Bool ⊎ (List ℕ)))
-value_cases = case_or u64_code (case_or bool_code (last_case text_code))
+abbrev pub value_of : ValueParts → Value
+value_of (inl x) = Value.Amount x
+value_of (inr (inl x)) = Value.Flag x
+value_of (inr (inr x)) = Value.Word x
+
+abbrev pub value_cases : Cases ValueParts
+value_cases = u64_code ⊕ bool_code ⊕ last_case text_code
 
 abbrev pub value_code : Code Value
 value_code = row_code (cases_code value_cases) value_parts value_of
 
 -- a kind
-abbrev pub kind_parts : Kind → Unit {0} ⊎ (Unit {0} ⊎ (Unit {0} ⊎ (Unit {0} ⊎ (Unit {0} ⊎ (Unit {0} ⊎ (Unit {0} ⊎ (Unit {0} ⊎ Unit {0})))))))
-kind_parts kind.Int = inl tt
-kind_parts kind.Time = inr (inl tt)
-kind_parts kind.Memory = inr (inr (inl tt))
-kind_parts kind.Double = inr (inr (inr (inl tt)))
-kind_parts kind.Bool = inr (inr (inr (inr (inl tt))))
-kind_parts kind.Str = inr (inr (inr (inr (inr (inl tt)))))
-kind_parts kind.CStr = inr (inr (inr (inr (inr (inr (inl tt))))))
-kind_parts kind.ReStr = inr (inr (inr (inr (inr (inr (inr (inl tt)))))))
-kind_parts kind.Host = inr (inr (inr (inr (inr (inr (inr (inr tt)))))))
+abbrev pub KindParts : Type 0
+KindParts =
+    Unit {0} ⊎ Unit {0} ⊎ Unit {0} ⊎ Unit {0} ⊎ Unit {0} ⊎
+    Unit {0} ⊎ Unit {0} ⊎ Unit {0} ⊎ Unit {0}
 
-abbrev pub kind_of : Unit {0} ⊎ (Unit {0} ⊎ (Unit {0} ⊎ (Unit {0} ⊎ (Unit {0} ⊎ (Unit {0} ⊎ (Unit {0} ⊎ (Unit {0} ⊎ Unit {0}))))))) → Kind
-kind_of (inl u) = kind.Int
-kind_of (inr (inl u)) = kind.Time
-kind_of (inr (inr (inl u))) = kind.Memory
-kind_of (inr (inr (inr (inl u)))) = kind.Double
-kind_of (inr (inr (inr (inr (inl u))))) = kind.Bool
-kind_of (inr (inr (inr (inr (inr (inl u)))))) = kind.Str
-kind_of (inr (inr (inr (inr (inr (inr (inl u))))))) = kind.CStr
-kind_of (inr (inr (inr (inr (inr (inr (inr (inl u)))))))) = kind.ReStr
-kind_of (inr (inr (inr (inr (inr (inr (inr (inr u)))))))) = kind.Host
+abbrev pub kind_parts : Kind → KindParts
+kind_parts Kind.Int = inl tt
+kind_parts Kind.Time = inr (inl tt)
+kind_parts Kind.Memory = inr (inr (inl tt))
+kind_parts Kind.Double = inr (inr (inr (inl tt)))
+kind_parts Kind.Bool = inr (inr (inr (inr (inl tt))))
+kind_parts Kind.Str = inr (inr (inr (inr (inr (inl tt)))))
+kind_parts Kind.CStr = inr (inr (inr (inr (inr (inr (inl tt))))))
+kind_parts Kind.ReStr = inr (inr (inr (inr (inr (inr (inr (inl tt)))))))
+kind_parts Kind.Host = inr (inr (inr (inr (inr (inr (inr (inr tt)))))))
 
-abbrev pub kind_cases : Cases (Unit {0} ⊎ (Unit {0} ⊎ (Unit {0} ⊎ (Unit {0} ⊎ (Unit {0} ⊎ (Unit {0} ⊎ (Unit {0} ⊎ (Unit {0} ⊎ Unit {0}))))))))
-kind_cases = case_or empty_code (case_or empty_code (case_or empty_code (case_or empty_code (case_or empty_code (case_or empty_code (case_or empty_code (case_or empty_code (last_case empty_code))))))))
+abbrev pub kind_of : KindParts → Kind
+kind_of (inl u) = Kind.Int
+kind_of (inr (inl u)) = Kind.Time
+kind_of (inr (inr (inl u))) = Kind.Memory
+kind_of (inr (inr (inr (inl u)))) = Kind.Double
+kind_of (inr (inr (inr (inr (inl u))))) = Kind.Bool
+kind_of (inr (inr (inr (inr (inr (inl u)))))) = Kind.Str
+kind_of (inr (inr (inr (inr (inr (inr (inl u))))))) = Kind.CStr
+kind_of (inr (inr (inr (inr (inr (inr (inr (inl u)))))))) = Kind.ReStr
+kind_of (inr (inr (inr (inr (inr (inr (inr (inr u)))))))) = Kind.Host
+
+abbrev pub kind_cases : Cases KindParts
+kind_cases =
+    empty_code ⊕ empty_code ⊕ empty_code ⊕ empty_code ⊕
+    empty_code ⊕ empty_code ⊕ empty_code ⊕ empty_code ⊕ last_case empty_code
 
 abbrev pub kind_code : Code Kind
 kind_code = row_code (cases_code kind_cases) kind_parts kind_of
 
 -- a relational operator
-abbrev pub relop_parts : Relop → Unit {0} ⊎ (Unit {0} ⊎ (Unit {0} ⊎ (Unit {0} ⊎ (Unit {0} ⊎ Unit {0}))))
-relop_parts relop.Eq = inl tt
-relop_parts relop.Ne = inr (inl tt)
-relop_parts relop.Lt = inr (inr (inl tt))
-relop_parts relop.Le = inr (inr (inr (inl tt)))
-relop_parts relop.Gt = inr (inr (inr (inr (inl tt))))
-relop_parts relop.Ge = inr (inr (inr (inr (inr tt))))
+abbrev pub RelopParts : Type 0
+RelopParts = Unit {0} ⊎ Unit {0} ⊎ Unit {0} ⊎ Unit {0} ⊎ Unit {0} ⊎ Unit {0}
 
-abbrev pub relop_of : Unit {0} ⊎ (Unit {0} ⊎ (Unit {0} ⊎ (Unit {0} ⊎ (Unit {0} ⊎ Unit {0})))) → Relop
-relop_of (inl u) = relop.Eq
-relop_of (inr (inl u)) = relop.Ne
-relop_of (inr (inr (inl u))) = relop.Lt
-relop_of (inr (inr (inr (inl u)))) = relop.Le
-relop_of (inr (inr (inr (inr (inl u))))) = relop.Gt
-relop_of (inr (inr (inr (inr (inr u))))) = relop.Ge
+abbrev pub relop_parts : Relop → RelopParts
+relop_parts Relop.Eq = inl tt
+relop_parts Relop.Ne = inr (inl tt)
+relop_parts Relop.Lt = inr (inr (inl tt))
+relop_parts Relop.Le = inr (inr (inr (inl tt)))
+relop_parts Relop.Gt = inr (inr (inr (inr (inl tt))))
+relop_parts Relop.Ge = inr (inr (inr (inr (inr tt))))
 
-abbrev pub relop_cases : Cases (Unit {0} ⊎ (Unit {0} ⊎ (Unit {0} ⊎ (Unit {0} ⊎ (Unit {0} ⊎ Unit {0})))))
-relop_cases = case_or empty_code (case_or empty_code (case_or empty_code (case_or empty_code (case_or empty_code (last_case empty_code)))))
+abbrev pub relop_of : RelopParts → Relop
+relop_of (inl u) = Relop.Eq
+relop_of (inr (inl u)) = Relop.Ne
+relop_of (inr (inr (inl u))) = Relop.Lt
+relop_of (inr (inr (inr (inl u)))) = Relop.Le
+relop_of (inr (inr (inr (inr (inl u))))) = Relop.Gt
+relop_of (inr (inr (inr (inr (inr u))))) = Relop.Ge
+
+abbrev pub relop_cases : Cases RelopParts
+relop_cases = empty_code ⊕ empty_code ⊕ empty_code ⊕ empty_code ⊕ empty_code ⊕ last_case empty_code
 
 abbrev pub relop_code : Code Relop
 relop_code = row_code (cases_code relop_cases) relop_parts relop_of
 
 -- whether jobs may ask
-abbrev pub requestable_parts : Requestable → Unit {0} ⊎ (Unit {0} ⊎ Unit {0})
-requestable_parts requestable.No = inl tt
-requestable_parts requestable.Yes = inr (inl tt)
-requestable_parts requestable.Forced = inr (inr tt)
+abbrev pub RequestableParts : Type 0
+RequestableParts = Unit {0} ⊎ Unit {0} ⊎ Unit {0}
 
-abbrev pub requestable_of : Unit {0} ⊎ (Unit {0} ⊎ Unit {0}) → Requestable
-requestable_of (inl u) = requestable.No
-requestable_of (inr (inl u)) = requestable.Yes
-requestable_of (inr (inr u)) = requestable.Forced
+abbrev pub requestable_parts : Requestable → RequestableParts
+requestable_parts Requestable.No = inl tt
+requestable_parts Requestable.Yes = inr (inl tt)
+requestable_parts Requestable.Forced = inr (inr tt)
 
-abbrev pub requestable_cases : Cases (Unit {0} ⊎ (Unit {0} ⊎ Unit {0}))
-requestable_cases = case_or empty_code (case_or empty_code (last_case empty_code))
+abbrev pub requestable_of : RequestableParts → Requestable
+requestable_of (inl u) = Requestable.No
+requestable_of (inr (inl u)) = Requestable.Yes
+requestable_of (inr (inr u)) = Requestable.Forced
+
+abbrev pub requestable_cases : Cases RequestableParts
+requestable_cases = empty_code ⊕ empty_code ⊕ last_case empty_code
 
 abbrev pub requestable_code : Code Requestable
 requestable_code = row_code (cases_code requestable_cases) requestable_parts requestable_of
 
 -- whether it is consumed
-abbrev pub consumable_parts : Consumable → Unit {0} ⊎ Unit {0}
-consumable_parts consumable.No = inl tt
-consumable_parts consumable.Yes = inr tt
+abbrev pub ConsumableParts : Type 0
+ConsumableParts = Unit {0} ⊎ Unit {0} ⊎ Unit {0}
 
-abbrev pub consumable_of : Unit {0} ⊎ Unit {0} → Consumable
-consumable_of (inl u) = consumable.No
-consumable_of (inr u) = consumable.Yes
+abbrev pub consumable_parts : Consumable → ConsumableParts
+consumable_parts Consumable.No = inl tt
+consumable_parts Consumable.Yes = inr (inl tt)
+consumable_parts Consumable.Job = inr (inr tt)
 
-abbrev pub consumable_cases : Cases (Unit {0} ⊎ Unit {0})
-consumable_cases = case_or empty_code (last_case empty_code)
+abbrev pub consumable_of : ConsumableParts → Consumable
+consumable_of (inl u) = Consumable.No
+consumable_of (inr (inl u)) = Consumable.Yes
+consumable_of (inr (inr u)) = Consumable.Job
+
+abbrev pub consumable_cases : Cases ConsumableParts
+consumable_cases = empty_code ⊕ empty_code ⊕ last_case empty_code
 
 abbrev pub consumable_code : Code Consumable
 consumable_code = row_code (cases_code consumable_cases) consumable_parts consumable_of
 
--- a row of the complex table
+-- the first so many of these
+abbrev pub first_consumables_code : ℕ → Code Consumable
+first_consumables_code count =
+    row_code (cases_code (first_cases count consumable_cases)) consumable_parts consumable_of
+
+-- the same before a complex could be consumed per job: NO and YES
+abbrev pub consumable_code_1 : Code Consumable
+consumable_code_1 = first_consumables_code 2
+
+-- a row of the complex table, with this code of the column consumable
+abbrev pub complex_def_code_with : Code Consumable → Code ComplexDef
+complex_def_code_with consumable = row_code
+    ((quadruple_code text_code kind_code relop_code requestable_code) ⊗ consumable ⊗ value_code ⊗ u64_code)
+    (λ r. ((r.shortcut, r.kind, r.relop, r.requestable), (r.consumable, (r.fallback, r.urgency))))
+    (λ p. record {
+      shortcut = p.0.0;
+      kind = p.0.1;
+      relop = p.0.2;
+      requestable = p.0.3;
+      consumable = p.1.0;
+      fallback = p.1.1.0;
+      urgency = p.1.1.1;
+    })
+
 abbrev pub complex_def_code : Code ComplexDef
-complex_def_code = row_code
-    (text_code ⊗ kind_code ⊗ relop_code ⊗ requestable_code ⊗ consumable_code ⊗ value_code ⊗ u64_code)
-    (λ r. (r.shortcut, (r.kind, (r.relop, (r.requestable, (r.consumable, (r.fallback, r.urgency)))))))
-    (λ p. record { shortcut = p.0; kind = p.1.0; relop = p.1.1.0; requestable = p.1.1.1.0; consumable = p.1.1.1.1.0; fallback = p.1.1.1.1.1.0; urgency = p.1.1.1.1.1.1 })
+complex_def_code = complex_def_code_with consumable_code
+
+abbrev pub complex_def_code_1 : Code ComplexDef
+complex_def_code_1 = complex_def_code_with consumable_code_1
+
+-- values by the names of complexes
+abbrev pub values_code : Code (List ((List ℕ) × Value))
+values_code = table_code text_cmp text_code value_code
+
+-- a list of texts
+abbrev pub texts_code : Code (List (List ℕ))
+texts_code = list_code text_code
 
 -- a host
 abbrev pub host_row_code : Code HostRow
 host_row_code = row_code
-    ((table_code text_cmp text_code value_code) ⊗ (table_code text_cmp text_code value_code))
+    (values_code ⊗ values_code)
     (λ r. (r.values, r.load))
     (λ p. record { values = p.0; load = p.1 })
 
@@ -156,49 +187,69 @@ attr_code value = row_code (value ⊗ (list_code (text_code ⊗ value)))
 -- a queue
 abbrev pub queue_row_code : Code QueueRow
 queue_row_code = row_code
-    ((list_code text_code) ⊗ (attr_code u64_code) ⊗
-    (attr_code (table_code text_cmp text_code value_code)) ⊗ (attr_code (list_code text_code)) ⊗
-    (attr_code (list_code text_code)) ⊗ (attr_code (list_code text_code)) ⊗
-    (attr_code (list_code text_code)) ⊗ (attr_code (list_code text_code)) ⊗
-    (attr_code (table_code text_cmp text_code value_code)) ⊗ (attr_code u64_code) ⊗
-    (table_code text_cmp text_code (attr_code u64_code)))
-    (λ r. (r.hosts, (r.seq_no, (r.thresholds, (r.pes, (r.users, (r.xusers, (r.projects, (r.xprojects, (r.values, (r.slots, r.limits)))))))))))
-    (λ p. record { hosts = p.0; seq_no = p.1.0; thresholds = p.1.1.0; pes = p.1.1.1.0; users = p.1.1.1.1.0; xusers = p.1.1.1.1.1.0; projects = p.1.1.1.1.1.1.0; xprojects = p.1.1.1.1.1.1.1.0; values = p.1.1.1.1.1.1.1.1.0; slots = p.1.1.1.1.1.1.1.1.1.0; limits = p.1.1.1.1.1.1.1.1.1.1 })
+    (triple_code
+    (quadruple_code texts_code (attr_code u64_code) (attr_code values_code) (attr_code texts_code))
+    (quadruple_code (attr_code texts_code) (attr_code texts_code) (attr_code texts_code) (attr_code texts_code))
+    (triple_code (attr_code values_code) (attr_code u64_code) (table_code text_cmp text_code (attr_code u64_code))))
+    (λ r. (
+      (r.hosts, r.seq_no, r.thresholds, r.pes),
+      (r.users, r.xusers, r.projects, r.xprojects),
+      (r.values, r.slots, r.limits),
+    ))
+    (λ p. record {
+      hosts = p.0.0;
+      seq_no = p.0.1;
+      thresholds = p.0.2;
+      pes = p.0.3;
+      users = p.1.0;
+      xusers = p.1.1;
+      projects = p.1.2;
+      xprojects = p.1.3;
+      values = p.2.0;
+      slots = p.2.1;
+      limits = p.2.2;
+    })
 
 -- an allocation rule
-abbrev pub allocation_parts : Allocation → ℕ ⊎ (Unit {0} ⊎ (Unit {0} ⊎ Unit {0}))
-allocation_parts (allocation.Fixed a) = inl a
-allocation_parts allocation.PeSlots = inr (inl tt)
-allocation_parts allocation.FillUp = inr (inr (inl tt))
-allocation_parts allocation.RoundRobin = inr (inr (inr tt))
+abbrev pub AllocationParts : Type 0
+AllocationParts = ℕ ⊎ Unit {0} ⊎ Unit {0} ⊎ Unit {0}
 
-abbrev pub allocation_of : ℕ ⊎ (Unit {0} ⊎ (Unit {0} ⊎ Unit {0})) → Allocation
-allocation_of (inl x) = allocation.Fixed x
-allocation_of (inr (inl u)) = allocation.PeSlots
-allocation_of (inr (inr (inl u))) = allocation.FillUp
-allocation_of (inr (inr (inr u))) = allocation.RoundRobin
+abbrev pub allocation_parts : Allocation → AllocationParts
+allocation_parts (Allocation.Fixed a) = inl a
+allocation_parts Allocation.PeSlots = inr (inl tt)
+allocation_parts Allocation.FillUp = inr (inr (inl tt))
+allocation_parts Allocation.RoundRobin = inr (inr (inr tt))
 
-abbrev pub allocation_cases : Cases (ℕ ⊎ (Unit {0} ⊎ (Unit {0} ⊎ Unit {0})))
-allocation_cases = case_or u32_code (case_or empty_code (case_or empty_code (last_case empty_code)))
+abbrev pub allocation_of : AllocationParts → Allocation
+allocation_of (inl x) = Allocation.Fixed x
+allocation_of (inr (inl u)) = Allocation.PeSlots
+allocation_of (inr (inr (inl u))) = Allocation.FillUp
+allocation_of (inr (inr (inr u))) = Allocation.RoundRobin
+
+abbrev pub allocation_cases : Cases AllocationParts
+allocation_cases = u32_code ⊕ empty_code ⊕ empty_code ⊕ last_case empty_code
 
 abbrev pub allocation_code : Code Allocation
 allocation_code = row_code (cases_code allocation_cases) allocation_parts allocation_of
 
 -- urgency slots
-abbrev pub urgency_slots_parts : UrgencySlots → ℕ ⊎ (Unit {0} ⊎ (Unit {0} ⊎ Unit {0}))
-urgency_slots_parts (urgency_slots.Fixed a) = inl a
-urgency_slots_parts urgency_slots.Min = inr (inl tt)
-urgency_slots_parts urgency_slots.Max = inr (inr (inl tt))
-urgency_slots_parts urgency_slots.Avg = inr (inr (inr tt))
+abbrev pub UrgencySlotsParts : Type 0
+UrgencySlotsParts = ℕ ⊎ Unit {0} ⊎ Unit {0} ⊎ Unit {0}
 
-abbrev pub urgency_slots_of : ℕ ⊎ (Unit {0} ⊎ (Unit {0} ⊎ Unit {0})) → UrgencySlots
-urgency_slots_of (inl x) = urgency_slots.Fixed x
-urgency_slots_of (inr (inl u)) = urgency_slots.Min
-urgency_slots_of (inr (inr (inl u))) = urgency_slots.Max
-urgency_slots_of (inr (inr (inr u))) = urgency_slots.Avg
+abbrev pub urgency_slots_parts : UrgencySlots → UrgencySlotsParts
+urgency_slots_parts (UrgencySlots.Fixed a) = inl a
+urgency_slots_parts UrgencySlots.Min = inr (inl tt)
+urgency_slots_parts UrgencySlots.Max = inr (inr (inl tt))
+urgency_slots_parts UrgencySlots.Avg = inr (inr (inr tt))
 
-abbrev pub urgency_slots_cases : Cases (ℕ ⊎ (Unit {0} ⊎ (Unit {0} ⊎ Unit {0})))
-urgency_slots_cases = case_or u32_code (case_or empty_code (case_or empty_code (last_case empty_code)))
+abbrev pub urgency_slots_of : UrgencySlotsParts → UrgencySlots
+urgency_slots_of (inl x) = UrgencySlots.Fixed x
+urgency_slots_of (inr (inl u)) = UrgencySlots.Min
+urgency_slots_of (inr (inr (inl u))) = UrgencySlots.Max
+urgency_slots_of (inr (inr (inr u))) = UrgencySlots.Avg
+
+abbrev pub urgency_slots_cases : Cases UrgencySlotsParts
+urgency_slots_cases = u32_code ⊕ empty_code ⊕ empty_code ⊕ last_case empty_code
 
 abbrev pub urgency_slots_code : Code UrgencySlots
 urgency_slots_code = row_code (cases_code urgency_slots_cases) urgency_slots_parts urgency_slots_of
@@ -206,31 +257,42 @@ urgency_slots_code = row_code (cases_code urgency_slots_cases) urgency_slots_par
 -- a parallel environment
 abbrev pub pe_row_code : Code PeRow
 pe_row_code = row_code
-    (u64_code ⊗ (list_code text_code) ⊗ (list_code text_code) ⊗ allocation_code ⊗ urgency_slots_code)
-    (λ r. (r.slots, (r.users, (r.xusers, (r.rule, r.urgency_slots)))))
-    (λ p. record { slots = p.0; users = p.1.0; xusers = p.1.1.0; rule = p.1.1.1.0; urgency_slots = p.1.1.1.1 })
+    (quintuple_code u64_code texts_code texts_code allocation_code urgency_slots_code)
+    (λ r. (r.slots, r.users, r.xusers, r.rule, r.urgency_slots))
+    (λ p. record { slots = p.0; users = p.1; xusers = p.2; rule = p.3; urgency_slots = p.4 })
 
 -- a filter
 abbrev pub filter_code : Code Filter
 filter_code = row_code
-    (bool_code ⊗ (list_code text_code) ⊗ (list_code text_code))
-    (λ r. (r.braces, (r.plain, r.without)))
-    (λ p. record { braces = p.0; plain = p.1.0; without = p.1.1 })
+    (triple_code bool_code texts_code texts_code)
+    (λ r. (r.braces, r.plain, r.without))
+    (λ p. record { braces = p.0; plain = p.1; without = p.2 })
 
 -- a rule
 abbrev pub rule_code : Code Rule
 rule_code = row_code
-    (text_code ⊗ (option_code filter_code) ⊗ (option_code filter_code) ⊗ (option_code filter_code) ⊗
-    (option_code filter_code) ⊗ (option_code filter_code) ⊗ (table_code text_cmp text_code u64_code))
-    (λ r. (r.name, (r.users, (r.projects, (r.pes, (r.queues, (r.hosts, r.limits)))))))
-    (λ p. record { name = p.0; users = p.1.0; projects = p.1.1.0; pes = p.1.1.1.0; queues = p.1.1.1.1.0; hosts = p.1.1.1.1.1.0; limits = p.1.1.1.1.1.1 })
+    (triple_code
+    text_code
+    (quintuple_code (option_code filter_code) (option_code filter_code) (option_code filter_code)
+    (option_code filter_code) (option_code filter_code))
+    (table_code text_cmp text_code u64_code))
+    (λ r. (r.name, (r.users, r.projects, r.pes, r.queues, r.hosts), r.limits))
+    (λ p. record {
+      name = p.0;
+      users = p.1.0;
+      projects = p.1.1;
+      pes = p.1.2;
+      queues = p.1.3;
+      hosts = p.1.4;
+      limits = p.2;
+    })
 
 -- a rule set
 abbrev pub quota_row_code : Code QuotaRow
 quota_row_code = row_code
-    (text_code ⊗ bool_code ⊗ (list_code rule_code))
-    (λ r. (r.description, (r.enabled, r.rules)))
-    (λ p. record { description = p.0; enabled = p.1.0; rules = p.1.1 })
+    (triple_code text_code bool_code (list_code rule_code))
+    (λ r. (r.description, r.enabled, r.rules))
+    (λ p. record { description = p.0; enabled = p.1; rules = p.2 })
 
 -- a user
 abbrev pub user_row_code : Code UserRow
@@ -242,28 +304,31 @@ user_row_code = row_code
 -- a project
 abbrev pub project_row_code : Code ProjectRow
 project_row_code = row_code
-    (u64_code ⊗ u64_code ⊗ (list_code text_code) ⊗ (list_code text_code))
-    (λ r. (r.fshare, (r.oticket, (r.acl, r.xacl))))
-    (λ p. record { fshare = p.0; oticket = p.1.0; acl = p.1.1.0; xacl = p.1.1.1 })
+    (quadruple_code u64_code u64_code texts_code texts_code)
+    (λ r. (r.fshare, r.oticket, r.acl, r.xacl))
+    (λ p. record { fshare = p.0; oticket = p.1; acl = p.2; xacl = p.3 })
 
 -- a node of the share tree
 abbrev pub share_node_code : Code ShareNode
 share_node_code = row_code
-    (text_code ⊗ bool_code ⊗ u64_code ⊗ (list_code u32_code))
-    (λ r. (r.name, (r.project, (r.shares, r.children))))
-    (λ p. record { name = p.0; project = p.1.0; shares = p.1.1.0; children = p.1.1.1 })
+    (quadruple_code text_code bool_code u64_code (list_code u32_code))
+    (λ r. (r.name, r.project, r.shares, r.children))
+    (λ p. record { name = p.0; project = p.1; shares = p.2; children = p.3 })
 
 -- a sort method
-abbrev pub sort_method_parts : SortMethod → Unit {0} ⊎ Unit {0}
-sort_method_parts sort_method.Load = inl tt
-sort_method_parts sort_method.Seqno = inr tt
+abbrev pub SortMethodParts : Type 0
+SortMethodParts = Unit {0} ⊎ Unit {0}
 
-abbrev pub sort_method_of : Unit {0} ⊎ Unit {0} → SortMethod
-sort_method_of (inl u) = sort_method.Load
-sort_method_of (inr u) = sort_method.Seqno
+abbrev pub sort_method_parts : SortMethod → SortMethodParts
+sort_method_parts SortMethod.Load = inl tt
+sort_method_parts SortMethod.Seqno = inr tt
 
-abbrev pub sort_method_cases : Cases (Unit {0} ⊎ Unit {0})
-sort_method_cases = case_or empty_code (last_case empty_code)
+abbrev pub sort_method_of : SortMethodParts → SortMethod
+sort_method_of (inl u) = SortMethod.Load
+sort_method_of (inr u) = SortMethod.Seqno
+
+abbrev pub sort_method_cases : Cases SortMethodParts
+sort_method_cases = empty_code ⊕ last_case empty_code
 
 abbrev pub sort_method_code : Code SortMethod
 sort_method_code = row_code (cases_code sort_method_cases) sort_method_parts sort_method_of
@@ -271,8 +336,39 @@ sort_method_code = row_code (cases_code sort_method_cases) sort_method_parts sor
 -- the settings of the scheduler
 abbrev pub sched_code : Code Sched
 sched_code = row_code
-    (u64_code ⊗ u64_code ⊗ sort_method_code ⊗ text_code ⊗ u64_code ⊗ u64_code ⊗ u64_code ⊗ u64_code ⊗
-    u64_code ⊗ u64_code ⊗ u64_code ⊗ u64_code ⊗ u64_code ⊗ u64_code ⊗ u64_code ⊗ u64_code ⊗
-    u64_code ⊗ u64_code ⊗ u64_code ⊗ u64_code ⊗ u64_code)
-    (λ r. (r.interval, (r.maxujobs, (r.sort, (r.load_formula, (r.w_priority, (r.w_urgency, (r.w_ticket, (r.w_waiting, (r.w_deadline, (r.functional, (r.share, (r.w_user, (r.w_project, (r.w_job, (r.halftime, (r.max_reservation, (r.default_duration, (r.u_cpu, (r.u_mem, (r.u_io, r.max_pending)))))))))))))))))))))
-    (λ p. record { interval = p.0; maxujobs = p.1.0; sort = p.1.1.0; load_formula = p.1.1.1.0; w_priority = p.1.1.1.1.0; w_urgency = p.1.1.1.1.1.0; w_ticket = p.1.1.1.1.1.1.0; w_waiting = p.1.1.1.1.1.1.1.0; w_deadline = p.1.1.1.1.1.1.1.1.0; functional = p.1.1.1.1.1.1.1.1.1.0; share = p.1.1.1.1.1.1.1.1.1.1.0; w_user = p.1.1.1.1.1.1.1.1.1.1.1.0; w_project = p.1.1.1.1.1.1.1.1.1.1.1.1.0; w_job = p.1.1.1.1.1.1.1.1.1.1.1.1.1.0; halftime = p.1.1.1.1.1.1.1.1.1.1.1.1.1.1.0; max_reservation = p.1.1.1.1.1.1.1.1.1.1.1.1.1.1.1.0; default_duration = p.1.1.1.1.1.1.1.1.1.1.1.1.1.1.1.1.0; u_cpu = p.1.1.1.1.1.1.1.1.1.1.1.1.1.1.1.1.1.0; u_mem = p.1.1.1.1.1.1.1.1.1.1.1.1.1.1.1.1.1.1.0; u_io = p.1.1.1.1.1.1.1.1.1.1.1.1.1.1.1.1.1.1.1.0; max_pending = p.1.1.1.1.1.1.1.1.1.1.1.1.1.1.1.1.1.1.1.1 })
+    (quintuple_code
+    (quadruple_code u64_code u64_code sort_method_code text_code)
+    (quintuple_code u64_code u64_code u64_code u64_code u64_code)
+    (quintuple_code u64_code u64_code u64_code u64_code u64_code)
+    (triple_code u64_code u64_code u64_code)
+    (quadruple_code u64_code u64_code u64_code u64_code))
+    (λ r. (
+      (r.interval, r.maxujobs, r.sort, r.load_formula),
+      (r.w_priority, r.w_urgency, r.w_ticket, r.w_waiting, r.w_deadline),
+      (r.functional, r.share, r.w_user, r.w_project, r.w_job),
+      (r.halftime, r.max_reservation, r.default_duration),
+      (r.u_cpu, r.u_mem, r.u_io, r.max_pending),
+    ))
+    (λ p. record {
+      interval = p.0.0;
+      maxujobs = p.0.1;
+      sort = p.0.2;
+      load_formula = p.0.3;
+      w_priority = p.1.0;
+      w_urgency = p.1.1;
+      w_ticket = p.1.2;
+      w_waiting = p.1.3;
+      w_deadline = p.1.4;
+      functional = p.2.0;
+      share = p.2.1;
+      w_user = p.2.2;
+      w_project = p.2.3;
+      w_job = p.2.4;
+      halftime = p.3.0;
+      max_reservation = p.3.1;
+      default_duration = p.3.2;
+      u_cpu = p.4.0;
+      u_mem = p.4.1;
+      u_io = p.4.2;
+      max_pending = p.4.3;
+    })

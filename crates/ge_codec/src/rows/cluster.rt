@@ -1,135 +1,122 @@
 // The whole cluster.
-use crate::canon::Canon;
+ghost use Rattle.std.specs.Prelude.{◌≡◌, ◌≤◌, length, IfOk};
+ghost use Rattle.ge_model_codec.specs.Reading.{Reads};
+ghost use Rattle.ge_model_codec.specs.Cluster.{work_code, cluster_front_code, cluster_of};
+
+use crate::canon::{Canon, Format, Format1, Format2};
 use crate::pairs::Fields;
+use crate::tables::take_table;
 use ge_model_codec::TakeFault;
 use ge_rows::{
-    Cluster, ComplexDef, HostRow, Job, Line, List, PeRow, ProjectRow, QueueRow, QuotaRow, Sched,
-    ShareNode, Table, Text, UserRow,
+    Advance, Cluster, ComplexDef, HostRow, Job, Line, List, PeRow, ProjectRow, QueueRow, QuotaRow,
+    Sched, ShareNode, Table, Text, UserRow,
 };
 use std::alloc::{AllocError, Global};
 
-// The fields from `sched` on.
-#[derive(Drop)]
-struct ClusterLast<'a>(&'a Cluster);
+type Counters = (u64, u64, u32, u64);
 
-impl Fields for ClusterLast<'_> {
-    ghost use Rattle.std.specs.Prelude.{◌++◌};
-    ghost use Rattle.std.specs.Ordering.{nat_cmp};
-    ghost use Rattle.ge_model_codec.specs.Cluster.{usage_cmp};
-    ghost use Rattle.ge_model_codec.specs.Code.{list_code, table_code, text_code, triple_code, u128_code, u32_code, u64_code};
-    ghost use Rattle.ge_model_codec.specs.Jobs.{job_code, line_code};
-    ghost use Rattle.ge_model_codec.specs.Configured.{sched_code};
-
-    ghost written = { λ r. sched_code.write r.0.now.sched ++ ((list_code text_code).write r.0.now.managers ++ ((list_code text_code).write r.0.now.operators ++ ((table_code nat_cmp u32_code job_code).write r.0.now.jobs ++ ((table_code usage_cmp (triple_code text_code text_code u64_code) u128_code).write r.0.now.usage ++ ((list_code line_code).write r.0.now.lines))))) };
-
-    fn put_all(&self, out: &mut Text) -> Result<(), AllocError> {
-        let row = self.0;
-        (
-            &row.sched,
-            (
-                &row.managers,
-                (&row.operators, (&row.jobs, (&row.usage, &row.lines))),
-            ),
-        )
-            .put_all(out)
-    }
-}
-
-// The fields from `queues` on.
-#[derive(Drop)]
-struct ClusterMiddle<'a>(&'a Cluster);
-
-impl Fields for ClusterMiddle<'_> {
-    ghost use Rattle.std.specs.Prelude.{◌++◌};
-    ghost use Rattle.ge_rows.specs.Keyed.{text_cmp};
-    ghost use Rattle.std.specs.Ordering.{nat_cmp};
-    ghost use Rattle.ge_model_codec.specs.Cluster.{usage_cmp};
-    ghost use Rattle.ge_model_codec.specs.Code.{list_code, table_code, text_code, triple_code, u128_code, u32_code, u64_code};
-    ghost use Rattle.ge_model_codec.specs.Jobs.{job_code, line_code};
-    ghost use Rattle.ge_model_codec.specs.Configured.{pe_row_code, project_row_code, queue_row_code, quota_row_code, sched_code, share_node_code, user_row_code};
-
-    ghost written = { λ r. (table_code text_cmp text_code queue_row_code).write r.0.now.queues ++ ((table_code text_cmp text_code pe_row_code).write r.0.now.pes ++ ((table_code text_cmp text_code quota_row_code).write r.0.now.quotas ++ ((table_code text_cmp text_code (list_code text_code)).write r.0.now.sets ++ ((table_code text_cmp text_code user_row_code).write r.0.now.users ++ ((table_code text_cmp text_code project_row_code).write r.0.now.projects ++ ((table_code nat_cmp u32_code share_node_code).write r.0.now.shares ++ (sched_code.write r.0.now.sched ++ ((list_code text_code).write r.0.now.managers ++ ((list_code text_code).write r.0.now.operators ++ ((table_code nat_cmp u32_code job_code).write r.0.now.jobs ++ ((table_code usage_cmp (triple_code text_code text_code u64_code) u128_code).write r.0.now.usage ++ ((list_code line_code).write r.0.now.lines)))))))))))) };
-
-    fn put_all(&self, out: &mut Text) -> Result<(), AllocError> {
-        let row = self.0;
-        (
-            &row.queues,
-            (
-                &row.pes,
-                (
-                    &row.quotas,
-                    (
-                        &row.sets,
-                        (&row.users, (&row.projects, (&row.shares, ClusterLast(row)))),
-                    ),
-                ),
-            ),
-        )
-            .put_all(out)
-    }
-}
-
-type ClusterParts = (
-    u64,
-    (
-        u64,
-        (
-            u32,
-            (
-                u64,
-                (
-                    Table<Text, ComplexDef>,
-                    (
-                        Table<Text, HostRow>,
-                        (
-                            Table<Text, List<Text>>,
-                            (
-                                Table<Text, QueueRow>,
-                                (
-                                    Table<Text, PeRow>,
-                                    (
-                                        Table<Text, QuotaRow>,
-                                        (
-                                            Table<Text, List<Text>>,
-                                            (
-                                                Table<Text, UserRow>,
-                                                (
-                                                    Table<Text, ProjectRow>,
-                                                    (
-                                                        Table<u32, ShareNode>,
-                                                        (
-                                                            Sched,
-                                                            (
-                                                                List<Text>,
-                                                                (
-                                                                    List<Text>,
-                                                                    (
-                                                                        Table<u32, Job>,
-                                                                        (
-                                                                            Table<
-                                                                                (Text, Text, u64),
-                                                                                u128,
-                                                                            >,
-                                                                            List<Line>,
-                                                                        ),
-                                                                    ),
-                                                                ),
-                                                            ),
-                                                        ),
-                                                    ),
-                                                ),
-                                            ),
-                                        ),
-                                    ),
-                                ),
-                            ),
-                        ),
-                    ),
-                ),
-            ),
-        ),
-    ),
+type Machines = (
+    Table<Text, HostRow>,
+    Table<Text, List<Text>>,
+    Table<Text, QueueRow>,
+    Table<Text, PeRow>,
+    Table<Text, QuotaRow>,
 );
+
+type People = (
+    Table<Text, List<Text>>,
+    Table<Text, UserRow>,
+    Table<Text, ProjectRow>,
+    Table<u32, ShareNode>,
+    Sched,
+);
+
+type Usage = Table<(Text, Text, u64), u128>;
+
+type Work = (
+    (List<Text>, List<Text>),
+    Table<u32, Job>,
+    (Usage, List<Line>),
+);
+
+// The fields before `next_advance`.
+type ClusterFront = (Counters, Table<Text, ComplexDef>, Machines, People, Work);
+
+type Booked = (u32, Table<u32, Advance>);
+
+// The fields from `managers` to `lines`, the jobs in a format.
+#[tactic(auto, using(crate::specs::Passing::fault_passes, crate::specs::Passing::fault_passes_made))]
+fn take_work<J: Format<Job>>(
+    alloc: Global,
+    bytes: &[u8],
+    at: usize,
+) -> Result<(Work, usize), TakeFault>
+    requires { at ≤ length bytes.now }
+    ensures read { Reads result ((work_code J.code).read bytes.now at) }
+    ensures within { IfOk result (λ p. p.1 ≤ length bytes.now) }
+{
+    let (lists, mid) = <(List<Text>, List<Text>)>::take(alloc, bytes, at)?;
+    let (jobs, mid) = take_table::<u32, Job, J>(alloc, bytes, mid)?;
+    let (accounts, past) = <(Usage, List<Line>)>::take(alloc, bytes, mid)?;
+    Ok(((lists, jobs, accounts), past))
+}
+
+// The fields before `next_advance`, the complex table and the jobs in a format.
+#[tactic(auto, using(crate::specs::Passing::fault_passes, crate::specs::Passing::fault_passes_made))]
+fn take_front<C: Format<ComplexDef>, J: Format<Job>>(
+    alloc: Global,
+    bytes: &[u8],
+    at: usize,
+) -> Result<(ClusterFront, usize), TakeFault>
+    requires { at ≤ length bytes.now }
+    ensures read { Reads result ((cluster_front_code C.code J.code).read bytes.now at) }
+    ensures within { IfOk result (λ p. p.1 ≤ length bytes.now) }
+{
+    let (counters, mid) = Counters::take(alloc, bytes, at)?;
+    let (complexes, mid) = take_table::<Text, ComplexDef, C>(alloc, bytes, mid)?;
+    let (machines, mid) = Machines::take(alloc, bytes, mid)?;
+    let (people, mid) = People::take(alloc, bytes, mid)?;
+    let (work, past) = take_work::<J>(alloc, bytes, mid)?;
+    Ok(((counters, complexes, machines, people, work), past))
+}
+
+// A cluster of its fields.
+fn cluster_of(front: ClusterFront, booked: Booked) -> Cluster
+    ensures { result ≡ cluster_of (front, booked) }
+{
+    let (
+        (last, last_run, next_job, next_serial),
+        complexes,
+        (hosts, groups, queues, pes, quotas),
+        (sets, users, projects, shares, sched),
+        ((managers, operators), jobs, (usage, lines)),
+    ) = front;
+    let (next_advance, advances) = booked;
+    Cluster {
+        last,
+        last_run,
+        next_job,
+        next_serial,
+        complexes,
+        hosts,
+        groups,
+        queues,
+        pes,
+        quotas,
+        sets,
+        users,
+        projects,
+        shares,
+        sched,
+        managers,
+        operators,
+        jobs,
+        usage,
+        lines,
+        next_advance,
+        advances,
+    }
+}
 
 impl Canon for Cluster {
     ghost use Rattle.ge_model_codec.specs.Cluster.{cluster_code};
@@ -141,103 +128,55 @@ impl Canon for Cluster {
 
     fn put(&self, out: &mut Text) -> Result<(), AllocError> {
         (
-            &self.last,
             (
-                &self.last_run,
                 (
+                    &self.last,
+                    &self.last_run,
                     &self.next_job,
-                    (
-                        &self.next_serial,
-                        (
-                            &self.complexes,
-                            (&self.hosts, (&self.groups, ClusterMiddle(self))),
-                        ),
-                    ),
+                    &self.next_serial,
+                ),
+                &self.complexes,
+                (
+                    &self.hosts,
+                    &self.groups,
+                    &self.queues,
+                    &self.pes,
+                    &self.quotas,
+                ),
+                (
+                    &self.sets,
+                    &self.users,
+                    &self.projects,
+                    &self.shares,
+                    &self.sched,
+                ),
+                (
+                    (&self.managers, &self.operators),
+                    &self.jobs,
+                    (&self.usage, &self.lines),
                 ),
             ),
+            (&self.next_advance, &self.advances),
         )
             .put_all(out)
     }
 
-    #[tactic(auto, using(crate::specs::Passing::fault_passes_made))]
+    #[tactic(auto, using(crate::specs::Passing::fault_passes, crate::specs::Passing::fault_passes_made))]
     fn take(alloc: Global, bytes: &[u8], at: usize) -> Result<(Cluster, usize), TakeFault> {
-        let (parts, past) = ClusterParts::take(alloc, bytes, at)?;
-        let (
-            last,
-            (
-                last_run,
-                (
-                    next_job,
-                    (
-                        next_serial,
-                        (
-                            complexes,
-                            (
-                                hosts,
-                                (
-                                    groups,
-                                    (
-                                        queues,
-                                        (
-                                            pes,
-                                            (
-                                                quotas,
-                                                (
-                                                    sets,
-                                                    (
-                                                        users,
-                                                        (
-                                                            projects,
-                                                            (
-                                                                shares,
-                                                                (
-                                                                    sched,
-                                                                    (
-                                                                        managers,
-                                                                        (
-                                                                            operators,
-                                                                            (jobs, (usage, lines)),
-                                                                        ),
-                                                                    ),
-                                                                ),
-                                                            ),
-                                                        ),
-                                                    ),
-                                                ),
-                                            ),
-                                        ),
-                                    ),
-                                ),
-                            ),
-                        ),
-                    ),
-                ),
-            ),
-        ) = parts;
-        Ok((
-            Cluster {
-                last,
-                last_run,
-                next_job,
-                next_serial,
-                complexes,
-                hosts,
-                groups,
-                queues,
-                pes,
-                quotas,
-                sets,
-                users,
-                projects,
-                shares,
-                sched,
-                managers,
-                operators,
-                jobs,
-                usage,
-                lines,
-            },
-            past,
-        ))
+        let (front, mid) = take_front::<Format2, Format2>(alloc, bytes, at)?;
+        let (booked, past) = Booked::take(alloc, bytes, mid)?;
+        Ok((cluster_of(front, booked), past))
+    }
+}
+
+impl Format<Cluster> for Format1 {
+    ghost use Rattle.ge_model_codec.specs.Cluster.{cluster_code_1};
+
+    ghost code = { cluster_code_1 };
+
+    #[tactic(auto, using(crate::specs::Passing::fault_passes, crate::specs::Passing::fault_passes_made))]
+    fn take(alloc: Global, bytes: &[u8], at: usize) -> Result<(Cluster, usize), TakeFault> {
+        let (front, past) = take_front::<Format1, Format1>(alloc, bytes, at)?;
+        Ok((cluster_of(front, (1, Table::new(alloc))), past))
     }
 }

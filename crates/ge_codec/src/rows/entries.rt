@@ -1,11 +1,15 @@
 // Entries.
-use crate::canon::Canon;
+ghost use Rattle.std.specs.Prelude.{◌≤◌, ◌<◌, length, IfOk};
+ghost use Rattle.ge_model_codec.specs.Reading.{Reads};
+ghost use Rattle.ge_model_codec.specs.Entries.{change_at, first_changes_code};
+
+use crate::canon::{Canon, Format, Format1, Format2};
 use crate::pairs::{Fields, put_variant};
 use crate::texts::take_tag;
 use ge_model_codec::TakeFault;
 use ge_rows::{
-    Change, ComplexDef, Entry, Item, Job, Key, List, ObjectKind, Patch, PeRow, Pick, ProjectRow,
-    QueueRow, QuotaRow, Request, Sched, ShareNode, Start, Table, TaskSet, Text, UserRow, Value,
+    Advance, Change, Entry, Item, Job, Key, List, Patch, Pick, Request, Start, Table, TaskSet,
+    Text, Value,
 };
 use std::alloc::{AllocError, Global};
 
@@ -32,31 +36,13 @@ impl Canon for Pick {
 }
 
 type PatchParts = (
-    Option<Text>,
+    (Option<Text>, Option<Request>, Option<i32>, Option<u64>),
+    (Option<Text>, Option<bool>, Option<u64>, Option<u64>),
     (
-        Option<Request>,
-        (
-            Option<i32>,
-            (
-                Option<u64>,
-                (
-                    Option<Text>,
-                    (
-                        Option<bool>,
-                        (
-                            Option<u64>,
-                            (
-                                Option<u64>,
-                                (
-                                    Option<Text>,
-                                    (Option<List<u32>>, (Option<List<u32>>, Option<u64>)),
-                                ),
-                            ),
-                        ),
-                    ),
-                ),
-            ),
-        ),
+        Option<Text>,
+        Option<List<u32>>,
+        Option<List<u32>>,
+        Option<u64>,
     ),
 );
 
@@ -70,32 +56,14 @@ impl Canon for Patch {
 
     fn put(&self, out: &mut Text) -> Result<(), AllocError> {
         (
-            &self.name,
+            (&self.name, &self.request, &self.priority, &self.share),
             (
-                &self.request,
-                (
-                    &self.priority,
-                    (
-                        &self.share,
-                        (
-                            &self.project,
-                            (
-                                &self.reserve,
-                                (
-                                    &self.not_before,
-                                    (
-                                        &self.deadline,
-                                        (
-                                            &self.account,
-                                            (&self.after, (&self.after_each, &self.oticket)),
-                                        ),
-                                    ),
-                                ),
-                            ),
-                        ),
-                    ),
-                ),
+                &self.project,
+                &self.reserve,
+                &self.not_before,
+                &self.deadline,
             ),
+            (&self.account, &self.after, &self.after_each, &self.oticket),
         )
             .put_all(out)
     }
@@ -104,23 +72,9 @@ impl Canon for Patch {
     fn take(alloc: Global, bytes: &[u8], at: usize) -> Result<(Patch, usize), TakeFault> {
         let (parts, past) = PatchParts::take(alloc, bytes, at)?;
         let (
-            name,
-            (
-                request,
-                (
-                    priority,
-                    (
-                        share,
-                        (
-                            project,
-                            (
-                                reserve,
-                                (not_before, (deadline, (account, (after, (after_each, oticket))))),
-                            ),
-                        ),
-                    ),
-                ),
-            ),
+            (name, request, priority, share),
+            (project, reserve, not_before, deadline),
+            (account, after, after_each, oticket),
         ) = parts;
         Ok((
             Patch {
@@ -142,167 +96,131 @@ impl Canon for Patch {
     }
 }
 
-impl Canon for Item {
-    ghost use Rattle.ge_model_codec.specs.Entries.{item_code};
-    ghost use Rattle.ge_codec.specs.EntryLaws.{item_canonical};
-
-    ghost code = { item_code };
-
-    ghost canonical = { item_canonical };
-
-    fn put(&self, out: &mut Text) -> Result<(), AllocError> {
-        match self {
-            Item::Complexes(value) => put_variant(0, &value, out),
-            Item::Host(first, second) => put_variant(1, &(first, second), out),
-            Item::Group(first, second) => put_variant(2, &(first, second), out),
-            Item::Queue(first, second) => put_variant(3, &(first, second), out),
-            Item::Pe(first, second) => put_variant(4, &(first, second), out),
-            Item::Quota(first, second) => put_variant(5, &(first, second), out),
-            Item::Set(first, second) => put_variant(6, &(first, second), out),
-            Item::User(first, second) => put_variant(7, &(first, second), out),
-            Item::Project(first, second) => put_variant(8, &(first, second), out),
-            Item::Shares(value) => put_variant(9, &value, out),
-            Item::Sched(value) => put_variant(10, &value, out),
-            Item::Managers(value) => put_variant(11, &value, out),
-            Item::Operators(value) => put_variant(12, &value, out),
+// A change of jobs.
+#[tactic(auto, using(crate::specs::Passing::fault_passes, crate::specs::Passing::fault_passes_made))]
+fn take_job_change<J: Format<Job>, O: Format<Item>>(
+    alloc: Global,
+    bytes: &[u8],
+    at: usize,
+    tag: u8,
+) -> Result<(Change, usize), TakeFault>
+    requires tag { tag < 6 }
+    requires at { at ≤ length bytes.now }
+    ensures read { Reads result (change_at J.code O.code tag bytes.now at) }
+    ensures within { IfOk result (λ p. p.1 ≤ length bytes.now) }
+{
+    match tag {
+        0 => {
+            let (value, end) = J::take(alloc, bytes, at)?;
+            Ok((Change::Submit(value), end))
         }
-    }
-
-    #[tactic(auto, using(crate::specs::Passing::fault_passes, crate::specs::Passing::fault_passes_made))]
-    fn take(alloc: Global, bytes: &[u8], at: usize) -> Result<(Item, usize), TakeFault> {
-        let (tag, mid) = take_tag(bytes, at, 13)?;
-        match tag {
-            0 => {
-                let (value, end) = <Table<Text, ComplexDef>>::take(alloc, bytes, mid)?;
-                Ok((Item::Complexes(value), end))
-            }
-            1 => {
-                let (fields, end) = <(Text, Table<Text, Value>)>::take(alloc, bytes, mid)?;
-                let (first, second) = fields;
-                Ok((Item::Host(first, second), end))
-            }
-            2 => {
-                let (fields, end) = <(Text, List<Text>)>::take(alloc, bytes, mid)?;
-                let (first, second) = fields;
-                Ok((Item::Group(first, second), end))
-            }
-            3 => {
-                let (fields, end) = <(Text, QueueRow)>::take(alloc, bytes, mid)?;
-                let (first, second) = fields;
-                Ok((Item::Queue(first, second), end))
-            }
-            4 => {
-                let (fields, end) = <(Text, PeRow)>::take(alloc, bytes, mid)?;
-                let (first, second) = fields;
-                Ok((Item::Pe(first, second), end))
-            }
-            5 => {
-                let (fields, end) = <(Text, QuotaRow)>::take(alloc, bytes, mid)?;
-                let (first, second) = fields;
-                Ok((Item::Quota(first, second), end))
-            }
-            6 => {
-                let (fields, end) = <(Text, List<Text>)>::take(alloc, bytes, mid)?;
-                let (first, second) = fields;
-                Ok((Item::Set(first, second), end))
-            }
-            7 => {
-                let (fields, end) = <(Text, UserRow)>::take(alloc, bytes, mid)?;
-                let (first, second) = fields;
-                Ok((Item::User(first, second), end))
-            }
-            8 => {
-                let (fields, end) = <(Text, ProjectRow)>::take(alloc, bytes, mid)?;
-                let (first, second) = fields;
-                Ok((Item::Project(first, second), end))
-            }
-            9 => {
-                let (value, end) = <Table<u32, ShareNode>>::take(alloc, bytes, mid)?;
-                Ok((Item::Shares(value), end))
-            }
-            10 => {
-                let (value, end) = Sched::take(alloc, bytes, mid)?;
-                Ok((Item::Sched(value), end))
-            }
-            11 => {
-                let (value, end) = <List<Text>>::take(alloc, bytes, mid)?;
-                Ok((Item::Managers(value), end))
-            }
-            _ => {
-                let (value, end) = <List<Text>>::take(alloc, bytes, mid)?;
-                Ok((Item::Operators(value), end))
-            }
+        1 => {
+            let (value, end) = <List<(u32, Patch)>>::take(alloc, bytes, at)?;
+            Ok((Change::Alter(value), end))
+        }
+        2 => {
+            let ((first, second), end) = <(List<u32>, u8)>::take(alloc, bytes, at)?;
+            Ok((Change::Hold(first, second), end))
+        }
+        3 => {
+            let ((first, second), end) = <(List<u32>, u8)>::take(alloc, bytes, at)?;
+            Ok((Change::Release(first, second), end))
+        }
+        4 => {
+            let ((first, second), end) = <(List<Pick>, bool)>::take(alloc, bytes, at)?;
+            Ok((Change::Delete(first, second), end))
+        }
+        _ => {
+            let (value, end) = <List<Pick>>::take(alloc, bytes, at)?;
+            Ok((Change::Clear(value), end))
         }
     }
 }
 
-impl Canon for ObjectKind {
-    ghost use Rattle.ge_model_codec.specs.Entries.{object_kind_code};
-    ghost use Rattle.ge_codec.specs.EntryLaws.{object_kind_canonical};
-
-    ghost code = { object_kind_code };
-
-    ghost canonical = { object_kind_canonical };
-
-    fn put(&self, out: &mut Text) -> Result<(), AllocError> {
-        match self {
-            ObjectKind::Complexes => out.push(0),
-            ObjectKind::Host => out.push(1),
-            ObjectKind::Group => out.push(2),
-            ObjectKind::Queue => out.push(3),
-            ObjectKind::Pe => out.push(4),
-            ObjectKind::Quota => out.push(5),
-            ObjectKind::Set => out.push(6),
-            ObjectKind::User => out.push(7),
-            ObjectKind::Project => out.push(8),
-            ObjectKind::Shares => out.push(9),
-            ObjectKind::Sched => out.push(10),
-            ObjectKind::Managers => out.push(11),
-            ObjectKind::Operators => out.push(12),
+// A change of what is configured, of the load or of what runs.
+#[tactic(auto, using(crate::specs::Passing::fault_passes, crate::specs::Passing::fault_passes_made))]
+fn take_other_change<J: Format<Job>, O: Format<Item>>(
+    alloc: Global,
+    bytes: &[u8],
+    at: usize,
+    tag: u8,
+) -> Result<(Change, usize), TakeFault>
+    requires tag { (6 ≤ tag) × (tag < 11) }
+    requires at { at ≤ length bytes.now }
+    ensures read { Reads result (change_at J.code O.code tag bytes.now at) }
+    ensures within { IfOk result (λ p. p.1 ≤ length bytes.now) }
+{
+    match tag {
+        6 => {
+            let (value, end) = O::take(alloc, bytes, at)?;
+            Ok((Change::Put(value), end))
         }
-    }
-
-    #[tactic(auto, using(crate::specs::Passing::fault_passes, crate::specs::Passing::fault_passes_made))]
-    fn take(_alloc: Global, bytes: &[u8], at: usize) -> Result<(ObjectKind, usize), TakeFault> {
-        let (tag, end) = take_tag(bytes, at, 13)?;
-        let value = match tag {
-            0 => ObjectKind::Complexes,
-            1 => ObjectKind::Host,
-            2 => ObjectKind::Group,
-            3 => ObjectKind::Queue,
-            4 => ObjectKind::Pe,
-            5 => ObjectKind::Quota,
-            6 => ObjectKind::Set,
-            7 => ObjectKind::User,
-            8 => ObjectKind::Project,
-            9 => ObjectKind::Shares,
-            10 => ObjectKind::Sched,
-            11 => ObjectKind::Managers,
-            _ => ObjectKind::Operators,
-        };
-        Ok((value, end))
+        7 => {
+            let (value, end) = Key::take(alloc, bytes, at)?;
+            Ok((Change::Drop(value), end))
+        }
+        8 => {
+            let ((first, second), end) = <(Text, Table<Text, Value>)>::take(alloc, bytes, at)?;
+            Ok((Change::Load(first, second), end))
+        }
+        9 => {
+            let ((first, second, third, fourth, fifth), end) = <(u64, u32, u64, u64, u64)>::take(
+                alloc, bytes, at,
+            )?;
+            Ok((Change::End(first, second, third, fourth, fifth), end))
+        }
+        _ => {
+            let (value, end) = <List<Start>>::take(alloc, bytes, at)?;
+            Ok((Change::Run(value), end))
+        }
     }
 }
 
-type KeyParts = (ObjectKind, Text);
-
-impl Canon for Key {
-    ghost use Rattle.ge_model_codec.specs.Entries.{key_code};
-    ghost use Rattle.ge_codec.specs.EntryLaws.{key_canonical};
-
-    ghost code = { key_code };
-
-    ghost canonical = { key_canonical };
-
-    fn put(&self, out: &mut Text) -> Result<(), AllocError> {
-        (&self.kind, &self.name).put_all(out)
+// An advance reservation that is made, or some that are taken back.
+#[tactic(auto, using(crate::specs::Passing::fault_passes, crate::specs::Passing::fault_passes_made))]
+fn take_booking<J: Format<Job>, O: Format<Item>>(
+    alloc: Global,
+    bytes: &[u8],
+    at: usize,
+    tag: u8,
+) -> Result<(Change, usize), TakeFault>
+    requires tag { (11 ≤ tag) × (tag < 13) }
+    requires at { at ≤ length bytes.now }
+    ensures read { Reads result (change_at J.code O.code tag bytes.now at) }
+    ensures within { IfOk result (λ p. p.1 ≤ length bytes.now) }
+{
+    match tag {
+        11 => {
+            let (value, end) = Advance::take(alloc, bytes, at)?;
+            Ok((Change::Book(value), end))
+        }
+        _ => {
+            let (value, end) = <List<u32>>::take(alloc, bytes, at)?;
+            Ok((Change::Unbook(value), end))
+        }
     }
+}
 
-    #[tactic(auto, using(crate::specs::Passing::fault_passes_made))]
-    fn take(alloc: Global, bytes: &[u8], at: usize) -> Result<(Key, usize), TakeFault> {
-        let (parts, past) = KeyParts::take(alloc, bytes, at)?;
-        let (kind, name) = parts;
-        Ok((Key { kind, name }, past))
+// One of the first so many changes, its job and object in a format.
+#[tactic(auto, using(crate::specs::Passing::fault_passes, crate::specs::Passing::fault_passes_made))]
+fn take_change<J: Format<Job>, O: Format<Item>>(
+    alloc: Global,
+    bytes: &[u8],
+    at: usize,
+    count: u8,
+) -> Result<(Change, usize), TakeFault>
+    requires count { count ≤ 13 }
+    requires at { at ≤ length bytes.now }
+    ensures read { Reads result ((first_changes_code count J.code O.code).read bytes.now at) }
+    ensures within { IfOk result (λ p. p.1 ≤ length bytes.now) }
+{
+    let (tag, mid) = take_tag(bytes, at, count)?;
+    if tag < 6 {
+        take_job_change::<J, O>(alloc, bytes, mid, tag)
+    } else if tag < 11 {
+        take_other_change::<J, O>(alloc, bytes, mid, tag)
+    } else {
+        take_booking::<J, O>(alloc, bytes, mid, tag)
     }
 }
 
@@ -325,69 +243,27 @@ impl Canon for Change {
             Change::Put(value) => put_variant(6, &value, out),
             Change::Drop(value) => put_variant(7, &value, out),
             Change::Load(first, second) => put_variant(8, &(first, second), out),
-            Change::End(first, second, third, fourth, fifth) => put_variant(
-                9,
-                &(first, (second, (third, (fourth, fifth)))),
-                out,
-            ),
+            Change::End(first, second, third, fourth, fifth) => {
+                put_variant(9, &(first, second, third, fourth, fifth), out)
+            }
             Change::Run(value) => put_variant(10, &value, out),
+            Change::Book(value) => put_variant(11, &value, out),
+            Change::Unbook(value) => put_variant(12, &value, out),
         }
     }
 
-    #[tactic(auto, using(crate::specs::Passing::fault_passes, crate::specs::Passing::fault_passes_made))]
     fn take(alloc: Global, bytes: &[u8], at: usize) -> Result<(Change, usize), TakeFault> {
-        let (tag, mid) = take_tag(bytes, at, 11)?;
-        match tag {
-            0 => {
-                let (value, end) = Job::take(alloc, bytes, mid)?;
-                Ok((Change::Submit(value), end))
-            }
-            1 => {
-                let (value, end) = <List<(u32, Patch)>>::take(alloc, bytes, mid)?;
-                Ok((Change::Alter(value), end))
-            }
-            2 => {
-                let (fields, end) = <(List<u32>, u8)>::take(alloc, bytes, mid)?;
-                let (first, second) = fields;
-                Ok((Change::Hold(first, second), end))
-            }
-            3 => {
-                let (fields, end) = <(List<u32>, u8)>::take(alloc, bytes, mid)?;
-                let (first, second) = fields;
-                Ok((Change::Release(first, second), end))
-            }
-            4 => {
-                let (fields, end) = <(List<Pick>, bool)>::take(alloc, bytes, mid)?;
-                let (first, second) = fields;
-                Ok((Change::Delete(first, second), end))
-            }
-            5 => {
-                let (value, end) = <List<Pick>>::take(alloc, bytes, mid)?;
-                Ok((Change::Clear(value), end))
-            }
-            6 => {
-                let (value, end) = Item::take(alloc, bytes, mid)?;
-                Ok((Change::Put(value), end))
-            }
-            7 => {
-                let (value, end) = Key::take(alloc, bytes, mid)?;
-                Ok((Change::Drop(value), end))
-            }
-            8 => {
-                let (fields, end) = <(Text, Table<Text, Value>)>::take(alloc, bytes, mid)?;
-                let (first, second) = fields;
-                Ok((Change::Load(first, second), end))
-            }
-            9 => {
-                let (fields, end) = <(u64, (u32, (u64, (u64, u64))))>::take(alloc, bytes, mid)?;
-                let (first, (second, (third, (fourth, fifth)))) = fields;
-                Ok((Change::End(first, second, third, fourth, fifth), end))
-            }
-            _ => {
-                let (value, end) = <List<Start>>::take(alloc, bytes, mid)?;
-                Ok((Change::Run(value), end))
-            }
-        }
+        take_change::<Format2, Format2>(alloc, bytes, at, 13)
+    }
+}
+
+impl Format<Change> for Format1 {
+    ghost use Rattle.ge_model_codec.specs.Entries.{change_code_1};
+
+    ghost code = { change_code_1 };
+
+    fn take(alloc: Global, bytes: &[u8], at: usize) -> Result<(Change, usize), TakeFault> {
+        take_change::<Format1, Format1>(alloc, bytes, at, 11)
     }
 }
 
@@ -409,6 +285,19 @@ impl Canon for Entry {
     fn take(alloc: Global, bytes: &[u8], at: usize) -> Result<(Entry, usize), TakeFault> {
         let (parts, past) = EntryParts::take(alloc, bytes, at)?;
         let (moment, change) = parts;
+        Ok((Entry { moment, change }, past))
+    }
+}
+
+impl Format<Entry> for Format1 {
+    ghost use Rattle.ge_model_codec.specs.Entries.{entry_code_1};
+
+    ghost code = { entry_code_1 };
+
+    #[tactic(auto, using(crate::specs::Passing::fault_passes, crate::specs::Passing::fault_passes_made))]
+    fn take(alloc: Global, bytes: &[u8], at: usize) -> Result<(Entry, usize), TakeFault> {
+        let (moment, mid) = u64::take(alloc, bytes, at)?;
+        let (change, past) = <Format1 as Format<Change>>::take(alloc, bytes, mid)?;
         Ok((Entry { moment, change }, past))
     }
 }

@@ -49,32 +49,19 @@ impl<T: Canon + Drop> Canon for Attr<T> {
 }
 
 type QueueRowParts = (
-    List<Text>,
     (
+        List<Text>,
         Attr<u64>,
-        (
-            Attr<Table<Text, Value>>,
-            (
-                Attr<List<Text>>,
-                (
-                    Attr<List<Text>>,
-                    (
-                        Attr<List<Text>>,
-                        (
-                            Attr<List<Text>>,
-                            (
-                                Attr<List<Text>>,
-                                (
-                                    Attr<Table<Text, Value>>,
-                                    (Attr<u64>, Table<Text, Attr<u64>>),
-                                ),
-                            ),
-                        ),
-                    ),
-                ),
-            ),
-        ),
+        Attr<Table<Text, Value>>,
+        Attr<List<Text>>,
     ),
+    (
+        Attr<List<Text>>,
+        Attr<List<Text>>,
+        Attr<List<Text>>,
+        Attr<List<Text>>,
+    ),
+    (Attr<Table<Text, Value>>, Attr<u64>, Table<Text, Attr<u64>>),
 );
 
 impl Canon for QueueRow {
@@ -87,26 +74,9 @@ impl Canon for QueueRow {
 
     fn put(&self, out: &mut Text) -> Result<(), AllocError> {
         (
-            &self.hosts,
-            (
-                &self.seq_no,
-                (
-                    &self.thresholds,
-                    (
-                        &self.pes,
-                        (
-                            &self.users,
-                            (
-                                &self.xusers,
-                                (
-                                    &self.projects,
-                                    (&self.xprojects, (&self.values, (&self.slots, &self.limits))),
-                                ),
-                            ),
-                        ),
-                    ),
-                ),
-            ),
+            (&self.hosts, &self.seq_no, &self.thresholds, &self.pes),
+            (&self.users, &self.xusers, &self.projects, &self.xprojects),
+            (&self.values, &self.slots, &self.limits),
         )
             .put_all(out)
     }
@@ -115,14 +85,9 @@ impl Canon for QueueRow {
     fn take(alloc: Global, bytes: &[u8], at: usize) -> Result<(QueueRow, usize), TakeFault> {
         let (parts, past) = QueueRowParts::take(alloc, bytes, at)?;
         let (
-            hosts,
-            (
-                seq_no,
-                (
-                    thresholds,
-                    (pes, (users, (xusers, (projects, (xprojects, (values, (slots, limits))))))),
-                ),
-            ),
+            (hosts, seq_no, thresholds, pes),
+            (users, xusers, projects, xprojects),
+            (values, slots, limits),
         ) = parts;
         Ok((
             QueueRow {
@@ -207,7 +172,7 @@ impl Canon for UrgencySlots {
     }
 }
 
-type PeRowParts = (u64, (List<Text>, (List<Text>, (Allocation, UrgencySlots))));
+type PeRowParts = (u64, List<Text>, List<Text>, Allocation, UrgencySlots);
 
 impl Canon for PeRow {
     ghost use Rattle.ge_model_codec.specs.Configured.{pe_row_code};
@@ -220,10 +185,10 @@ impl Canon for PeRow {
     fn put(&self, out: &mut Text) -> Result<(), AllocError> {
         (
             &self.slots,
-            (
-                &self.users,
-                (&self.xusers, (&self.rule, &self.urgency_slots)),
-            ),
+            &self.users,
+            &self.xusers,
+            &self.rule,
+            &self.urgency_slots,
         )
             .put_all(out)
     }
@@ -231,7 +196,7 @@ impl Canon for PeRow {
     #[tactic(auto, using(crate::specs::Passing::fault_passes_made))]
     fn take(alloc: Global, bytes: &[u8], at: usize) -> Result<(PeRow, usize), TakeFault> {
         let (parts, past) = PeRowParts::take(alloc, bytes, at)?;
-        let (slots, (users, (xusers, (rule, urgency_slots)))) = parts;
+        let (slots, users, xusers, rule, urgency_slots) = parts;
         Ok((
             PeRow {
                 slots,

@@ -8,7 +8,7 @@ use ge_rows::{
 };
 use std::alloc::{AllocError, Global};
 
-type FilterParts = (bool, (List<Text>, List<Text>));
+type FilterParts = (bool, List<Text>, List<Text>);
 
 impl Canon for Filter {
     ghost use Rattle.ge_model_codec.specs.Configured.{filter_code};
@@ -19,13 +19,13 @@ impl Canon for Filter {
     ghost canonical = { filter_canonical };
 
     fn put(&self, out: &mut Text) -> Result<(), AllocError> {
-        (&self.braces, (&self.plain, &self.without)).put_all(out)
+        (&self.braces, &self.plain, &self.without).put_all(out)
     }
 
     #[tactic(auto, using(crate::specs::Passing::fault_passes_made))]
     fn take(alloc: Global, bytes: &[u8], at: usize) -> Result<(Filter, usize), TakeFault> {
         let (parts, past) = FilterParts::take(alloc, bytes, at)?;
-        let (braces, (plain, without)) = parts;
+        let (braces, plain, without) = parts;
         Ok((
             Filter {
                 braces,
@@ -41,14 +41,12 @@ type RuleParts = (
     Text,
     (
         Option<Filter>,
-        (
-            Option<Filter>,
-            (
-                Option<Filter>,
-                (Option<Filter>, (Option<Filter>, Table<Text, u64>)),
-            ),
-        ),
+        Option<Filter>,
+        Option<Filter>,
+        Option<Filter>,
+        Option<Filter>,
     ),
+    Table<Text, u64>,
 );
 
 impl Canon for Rule {
@@ -64,11 +62,12 @@ impl Canon for Rule {
             &self.name,
             (
                 &self.users,
-                (
-                    &self.projects,
-                    (&self.pes, (&self.queues, (&self.hosts, &self.limits))),
-                ),
+                &self.projects,
+                &self.pes,
+                &self.queues,
+                &self.hosts,
             ),
+            &self.limits,
         )
             .put_all(out)
     }
@@ -76,7 +75,7 @@ impl Canon for Rule {
     #[tactic(auto, using(crate::specs::Passing::fault_passes_made))]
     fn take(alloc: Global, bytes: &[u8], at: usize) -> Result<(Rule, usize), TakeFault> {
         let (parts, past) = RuleParts::take(alloc, bytes, at)?;
-        let (name, (users, (projects, (pes, (queues, (hosts, limits)))))) = parts;
+        let (name, (users, projects, pes, queues, hosts), limits) = parts;
         Ok((
             Rule {
                 name,
@@ -92,7 +91,7 @@ impl Canon for Rule {
     }
 }
 
-type QuotaRowParts = (Text, (bool, List<Rule>));
+type QuotaRowParts = (Text, bool, List<Rule>);
 
 impl Canon for QuotaRow {
     ghost use Rattle.ge_model_codec.specs.Configured.{quota_row_code};
@@ -103,13 +102,13 @@ impl Canon for QuotaRow {
     ghost canonical = { quota_row_canonical };
 
     fn put(&self, out: &mut Text) -> Result<(), AllocError> {
-        (&self.description, (&self.enabled, &self.rules)).put_all(out)
+        (&self.description, &self.enabled, &self.rules).put_all(out)
     }
 
     #[tactic(auto, using(crate::specs::Passing::fault_passes_made))]
     fn take(alloc: Global, bytes: &[u8], at: usize) -> Result<(QuotaRow, usize), TakeFault> {
         let (parts, past) = QuotaRowParts::take(alloc, bytes, at)?;
-        let (description, (enabled, rules)) = parts;
+        let (description, enabled, rules) = parts;
         Ok((
             QuotaRow {
                 description,
@@ -143,7 +142,7 @@ impl Canon for UserRow {
     }
 }
 
-type ProjectRowParts = (u64, (u64, (List<Text>, List<Text>)));
+type ProjectRowParts = (u64, u64, List<Text>, List<Text>);
 
 impl Canon for ProjectRow {
     ghost use Rattle.ge_model_codec.specs.Configured.{project_row_code};
@@ -154,13 +153,13 @@ impl Canon for ProjectRow {
     ghost canonical = { project_row_canonical };
 
     fn put(&self, out: &mut Text) -> Result<(), AllocError> {
-        (&self.fshare, (&self.oticket, (&self.acl, &self.xacl))).put_all(out)
+        (&self.fshare, &self.oticket, &self.acl, &self.xacl).put_all(out)
     }
 
     #[tactic(auto, using(crate::specs::Passing::fault_passes_made))]
     fn take(alloc: Global, bytes: &[u8], at: usize) -> Result<(ProjectRow, usize), TakeFault> {
         let (parts, past) = ProjectRowParts::take(alloc, bytes, at)?;
-        let (fshare, (oticket, (acl, xacl))) = parts;
+        let (fshare, oticket, acl, xacl) = parts;
         Ok((
             ProjectRow {
                 fshare,
@@ -173,7 +172,7 @@ impl Canon for ProjectRow {
     }
 }
 
-type ShareNodeParts = (Text, (bool, (u64, List<u32>)));
+type ShareNodeParts = (Text, bool, u64, List<u32>);
 
 impl Canon for ShareNode {
     ghost use Rattle.ge_model_codec.specs.Configured.{share_node_code};
@@ -184,13 +183,13 @@ impl Canon for ShareNode {
     ghost canonical = { share_node_canonical };
 
     fn put(&self, out: &mut Text) -> Result<(), AllocError> {
-        (&self.name, (&self.project, (&self.shares, &self.children))).put_all(out)
+        (&self.name, &self.project, &self.shares, &self.children).put_all(out)
     }
 
     #[tactic(auto, using(crate::specs::Passing::fault_passes_made))]
     fn take(alloc: Global, bytes: &[u8], at: usize) -> Result<(ShareNode, usize), TakeFault> {
         let (parts, past) = ShareNodeParts::take(alloc, bytes, at)?;
-        let (name, (project, (shares, children))) = parts;
+        let (name, project, shares, children) = parts;
         Ok((
             ShareNode {
                 name,
@@ -229,106 +228,12 @@ impl Canon for SortMethod {
     }
 }
 
-// The fields from `halftime` on.
-#[derive(Drop)]
-struct SchedLast<'a>(&'a Sched);
-
-impl Fields for SchedLast<'_> {
-    ghost use Rattle.std.specs.Prelude.{◌++◌};
-    ghost use Rattle.ge_model_codec.specs.Code.{u64_code};
-
-    ghost written = { λ r. u64_code.write r.0.now.halftime ++ (u64_code.write r.0.now.max_reservation ++ (u64_code.write r.0.now.default_duration ++ (u64_code.write r.0.now.u_cpu ++ (u64_code.write r.0.now.u_mem ++ (u64_code.write r.0.now.u_io ++ (u64_code.write r.0.now.max_pending)))))) };
-
-    fn put_all(&self, out: &mut Text) -> Result<(), AllocError> {
-        let row = self.0;
-        (
-            &row.halftime,
-            (
-                &row.max_reservation,
-                (
-                    &row.default_duration,
-                    (&row.u_cpu, (&row.u_mem, (&row.u_io, &row.max_pending))),
-                ),
-            ),
-        )
-            .put_all(out)
-    }
-}
-
-// The fields from `w_waiting` on.
-#[derive(Drop)]
-struct SchedMiddle<'a>(&'a Sched);
-
-impl Fields for SchedMiddle<'_> {
-    ghost use Rattle.std.specs.Prelude.{◌++◌};
-    ghost use Rattle.ge_model_codec.specs.Code.{u64_code};
-
-    ghost written = { λ r. u64_code.write r.0.now.w_waiting ++ (u64_code.write r.0.now.w_deadline ++ (u64_code.write r.0.now.functional ++ (u64_code.write r.0.now.share ++ (u64_code.write r.0.now.w_user ++ (u64_code.write r.0.now.w_project ++ (u64_code.write r.0.now.w_job ++ (u64_code.write r.0.now.halftime ++ (u64_code.write r.0.now.max_reservation ++ (u64_code.write r.0.now.default_duration ++ (u64_code.write r.0.now.u_cpu ++ (u64_code.write r.0.now.u_mem ++ (u64_code.write r.0.now.u_io ++ (u64_code.write r.0.now.max_pending))))))))))))) };
-
-    fn put_all(&self, out: &mut Text) -> Result<(), AllocError> {
-        let row = self.0;
-        (
-            &row.w_waiting,
-            (
-                &row.w_deadline,
-                (
-                    &row.functional,
-                    (
-                        &row.share,
-                        (&row.w_user, (&row.w_project, (&row.w_job, SchedLast(row)))),
-                    ),
-                ),
-            ),
-        )
-            .put_all(out)
-    }
-}
-
 type SchedParts = (
-    u64,
-    (
-        u64,
-        (
-            SortMethod,
-            (
-                Text,
-                (
-                    u64,
-                    (
-                        u64,
-                        (
-                            u64,
-                            (
-                                u64,
-                                (
-                                    u64,
-                                    (
-                                        u64,
-                                        (
-                                            u64,
-                                            (
-                                                u64,
-                                                (
-                                                    u64,
-                                                    (
-                                                        u64,
-                                                        (
-                                                            u64,
-                                                            (u64, (u64, (u64, (u64, (u64, u64))))),
-                                                        ),
-                                                    ),
-                                                ),
-                                            ),
-                                        ),
-                                    ),
-                                ),
-                            ),
-                        ),
-                    ),
-                ),
-            ),
-        ),
-    ),
+    (u64, u64, SortMethod, Text),
+    (u64, u64, u64, u64, u64),
+    (u64, u64, u64, u64, u64),
+    (u64, u64, u64),
+    (u64, u64, u64, u64),
 );
 
 impl Canon for Sched {
@@ -341,20 +246,32 @@ impl Canon for Sched {
 
     fn put(&self, out: &mut Text) -> Result<(), AllocError> {
         (
-            &self.interval,
             (
+                &self.interval,
                 &self.maxujobs,
-                (
-                    &self.sort,
-                    (
-                        &self.load_formula,
-                        (
-                            &self.w_priority,
-                            (&self.w_urgency, (&self.w_ticket, SchedMiddle(self))),
-                        ),
-                    ),
-                ),
+                &self.sort,
+                &self.load_formula,
             ),
+            (
+                &self.w_priority,
+                &self.w_urgency,
+                &self.w_ticket,
+                &self.w_waiting,
+                &self.w_deadline,
+            ),
+            (
+                &self.functional,
+                &self.share,
+                &self.w_user,
+                &self.w_project,
+                &self.w_job,
+            ),
+            (
+                &self.halftime,
+                &self.max_reservation,
+                &self.default_duration,
+            ),
+            (&self.u_cpu, &self.u_mem, &self.u_io, &self.max_pending),
         )
             .put_all(out)
     }
@@ -363,65 +280,11 @@ impl Canon for Sched {
     fn take(alloc: Global, bytes: &[u8], at: usize) -> Result<(Sched, usize), TakeFault> {
         let (parts, past) = SchedParts::take(alloc, bytes, at)?;
         let (
-            interval,
-            (
-                maxujobs,
-                (
-                    sort,
-                    (
-                        load_formula,
-                        (
-                            w_priority,
-                            (
-                                w_urgency,
-                                (
-                                    w_ticket,
-                                    (
-                                        w_waiting,
-                                        (
-                                            w_deadline,
-                                            (
-                                                functional,
-                                                (
-                                                    share,
-                                                    (
-                                                        w_user,
-                                                        (
-                                                            w_project,
-                                                            (
-                                                                w_job,
-                                                                (
-                                                                    halftime,
-                                                                    (
-                                                                        max_reservation,
-                                                                        (
-                                                                            default_duration,
-                                                                            (
-                                                                                u_cpu,
-                                                                                (
-                                                                                    u_mem,
-                                                                                    (
-                                                                                        u_io,
-                                                                                        max_pending,
-                                                                                    ),
-                                                                                ),
-                                                                            ),
-                                                                        ),
-                                                                    ),
-                                                                ),
-                                                            ),
-                                                        ),
-                                                    ),
-                                                ),
-                                            ),
-                                        ),
-                                    ),
-                                ),
-                            ),
-                        ),
-                    ),
-                ),
-            ),
+            (interval, maxujobs, sort, load_formula),
+            (w_priority, w_urgency, w_ticket, w_waiting, w_deadline),
+            (functional, share, w_user, w_project, w_job),
+            (halftime, max_reservation, default_duration),
+            (u_cpu, u_mem, u_io, max_pending),
         ) = parts;
         Ok((
             Sched {

@@ -3,8 +3,8 @@ use crate::canon::Canon;
 use crate::pairs::Fields;
 use ge_model_codec::TakeFault;
 use ge_rows::{
-    Grant, InstanceId, List, PeRequest, Request, Running, Start, Table, TaskId, TaskSpan, Text,
-    Value,
+    Advance, Grant, InstanceId, List, PeRequest, Request, Running, Start, Table, TaskId, TaskSpan,
+    Text, Value,
 };
 use std::alloc::{AllocError, Global};
 
@@ -74,7 +74,7 @@ impl Canon for TaskId {
     }
 }
 
-type TaskSpanParts = (u32, (u32, u32));
+type TaskSpanParts = (u32, u32, u32);
 
 impl Canon for TaskSpan {
     ghost use Rattle.ge_model_codec.specs.Jobs.{task_span_code};
@@ -85,18 +85,18 @@ impl Canon for TaskSpan {
     ghost canonical = { task_span_canonical };
 
     fn put(&self, out: &mut Text) -> Result<(), AllocError> {
-        (&self.first, (&self.last, &self.step)).put_all(out)
+        (&self.first, &self.last, &self.step).put_all(out)
     }
 
     #[tactic(auto, using(crate::specs::Passing::fault_passes_made))]
     fn take(alloc: Global, bytes: &[u8], at: usize) -> Result<(TaskSpan, usize), TakeFault> {
         let (parts, past) = TaskSpanParts::take(alloc, bytes, at)?;
-        let (first, (last, step)) = parts;
+        let (first, last, step) = parts;
         Ok((TaskSpan { first, last, step }, past))
     }
 }
 
-type RunningParts = (u64, (u64, (List<Grant>, bool)));
+type RunningParts = (u64, u64, List<Grant>, bool);
 
 impl Canon for Running {
     ghost use Rattle.ge_model_codec.specs.Jobs.{running_code};
@@ -107,13 +107,13 @@ impl Canon for Running {
     ghost canonical = { running_canonical };
 
     fn put(&self, out: &mut Text) -> Result<(), AllocError> {
-        (&self.serial, (&self.start, (&self.grants, &self.deleting))).put_all(out)
+        (&self.serial, &self.start, &self.grants, &self.deleting).put_all(out)
     }
 
     #[tactic(auto, using(crate::specs::Passing::fault_passes_made))]
     fn take(alloc: Global, bytes: &[u8], at: usize) -> Result<(Running, usize), TakeFault> {
         let (parts, past) = RunningParts::take(alloc, bytes, at)?;
-        let (serial, (start, (grants, deleting))) = parts;
+        let (serial, start, grants, deleting) = parts;
         Ok((
             Running {
                 serial,
@@ -126,7 +126,7 @@ impl Canon for Running {
     }
 }
 
-type PeRequestParts = (Text, (u32, u32));
+type PeRequestParts = (Text, u32, u32);
 
 impl Canon for PeRequest {
     ghost use Rattle.ge_model_codec.specs.Jobs.{pe_request_code};
@@ -137,18 +137,18 @@ impl Canon for PeRequest {
     ghost canonical = { pe_request_canonical };
 
     fn put(&self, out: &mut Text) -> Result<(), AllocError> {
-        (&self.name, (&self.low, &self.high)).put_all(out)
+        (&self.name, &self.low, &self.high).put_all(out)
     }
 
     #[tactic(auto, using(crate::specs::Passing::fault_passes_made))]
     fn take(alloc: Global, bytes: &[u8], at: usize) -> Result<(PeRequest, usize), TakeFault> {
         let (parts, past) = PeRequestParts::take(alloc, bytes, at)?;
-        let (name, (low, high)) = parts;
+        let (name, low, high) = parts;
         Ok((PeRequest { name, low, high }, past))
     }
 }
 
-type RequestParts = (Table<Text, Value>, (List<Text>, Option<PeRequest>));
+type RequestParts = (Table<Text, Value>, List<Text>, Option<PeRequest>);
 
 impl Canon for Request {
     ghost use Rattle.ge_model_codec.specs.Jobs.{request_code};
@@ -159,18 +159,18 @@ impl Canon for Request {
     ghost canonical = { request_canonical };
 
     fn put(&self, out: &mut Text) -> Result<(), AllocError> {
-        (&self.asked, (&self.queues, &self.pe)).put_all(out)
+        (&self.asked, &self.queues, &self.pe).put_all(out)
     }
 
     #[tactic(auto, using(crate::specs::Passing::fault_passes_made))]
     fn take(alloc: Global, bytes: &[u8], at: usize) -> Result<(Request, usize), TakeFault> {
         let (parts, past) = RequestParts::take(alloc, bytes, at)?;
-        let (asked, (queues, pe)) = parts;
+        let (asked, queues, pe) = parts;
         Ok((Request { asked, queues, pe }, past))
     }
 }
 
-type StartParts = (TaskId, (u64, List<Grant>));
+type StartParts = (TaskId, u64, List<Grant>);
 
 impl Canon for Start {
     ghost use Rattle.ge_model_codec.specs.Jobs.{start_code};
@@ -181,17 +181,55 @@ impl Canon for Start {
     ghost canonical = { start_canonical };
 
     fn put(&self, out: &mut Text) -> Result<(), AllocError> {
-        (&self.task, (&self.serial, &self.grants)).put_all(out)
+        (&self.task, &self.serial, &self.grants).put_all(out)
     }
 
     #[tactic(auto, using(crate::specs::Passing::fault_passes_made))]
     fn take(alloc: Global, bytes: &[u8], at: usize) -> Result<(Start, usize), TakeFault> {
         let (parts, past) = StartParts::take(alloc, bytes, at)?;
-        let (task, (serial, grants)) = parts;
+        let (task, serial, grants) = parts;
         Ok((
             Start {
                 task,
                 serial,
+                grants,
+            },
+            past,
+        ))
+    }
+}
+
+type AdvanceParts = ((Text, Text, Text), (u64, u64), (Request, List<Grant>));
+
+impl Canon for Advance {
+    ghost use Rattle.ge_model_codec.specs.Jobs.{advance_code};
+    ghost use Rattle.ge_codec.specs.JobLaws.{advance_canonical};
+
+    ghost code = { advance_code };
+
+    ghost canonical = { advance_canonical };
+
+    fn put(&self, out: &mut Text) -> Result<(), AllocError> {
+        (
+            (&self.name, &self.owner, &self.group),
+            (&self.from, &self.until),
+            (&self.request, &self.grants),
+        )
+            .put_all(out)
+    }
+
+    #[tactic(auto, using(crate::specs::Passing::fault_passes_made))]
+    fn take(alloc: Global, bytes: &[u8], at: usize) -> Result<(Advance, usize), TakeFault> {
+        let (parts, past) = AdvanceParts::take(alloc, bytes, at)?;
+        let ((name, owner, group), (from, until), (request, grants)) = parts;
+        Ok((
+            Advance {
+                name,
+                owner,
+                group,
+                from,
+                until,
+                request,
                 grants,
             },
             past,

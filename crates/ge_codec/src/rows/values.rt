@@ -1,5 +1,9 @@
 // Values and the complex table.
-use crate::canon::Canon;
+ghost use Rattle.std.specs.Prelude.{◌≤◌, length, IfOk};
+ghost use Rattle.ge_model_codec.specs.Reading.{Reads};
+ghost use Rattle.ge_model_codec.specs.Configured.{first_consumables_code, complex_def_code_with};
+
+use crate::canon::{Canon, Format, Format1, Format2};
 use crate::pairs::{Fields, put_variant};
 use crate::texts::take_tag;
 use ge_model_codec::TakeFault;
@@ -144,6 +148,23 @@ impl Canon for Requestable {
     }
 }
 
+// One of the first so many.
+#[tactic(auto, using(crate::specs::Passing::fault_passes, crate::specs::Passing::fault_passes_made))]
+fn take_consumable(bytes: &[u8], at: usize, count: u8) -> Result<(Consumable, usize), TakeFault>
+    requires count { count ≤ 3 }
+    requires at { at ≤ length bytes.now }
+    ensures read { Reads result ((first_consumables_code count).read bytes.now at) }
+    ensures within { IfOk result (λ p. p.1 ≤ length bytes.now) }
+{
+    let (tag, end) = take_tag(bytes, at, count)?;
+    let value = match tag {
+        0 => Consumable::No,
+        1 => Consumable::Yes,
+        _ => Consumable::Job,
+    };
+    Ok((value, end))
+}
+
 impl Canon for Consumable {
     ghost use Rattle.ge_model_codec.specs.Configured.{consumable_code};
     ghost use Rattle.ge_codec.specs.ConfiguredLaws.{consumable_canonical};
@@ -156,24 +177,55 @@ impl Canon for Consumable {
         match self {
             Consumable::No => out.push(0),
             Consumable::Yes => out.push(1),
+            Consumable::Job => out.push(2),
         }
     }
 
-    #[tactic(auto, using(crate::specs::Passing::fault_passes, crate::specs::Passing::fault_passes_made))]
     fn take(_alloc: Global, bytes: &[u8], at: usize) -> Result<(Consumable, usize), TakeFault> {
-        let (tag, end) = take_tag(bytes, at, 2)?;
-        let value = match tag {
-            0 => Consumable::No,
-            _ => Consumable::Yes,
-        };
-        Ok((value, end))
+        take_consumable(bytes, at, 3)
     }
 }
 
-type ComplexDefParts = (
-    Text,
-    (Kind, (Relop, (Requestable, (Consumable, (Value, u64))))),
-);
+impl Format<Consumable> for Format1 {
+    ghost use Rattle.ge_model_codec.specs.Configured.{consumable_code_1};
+
+    ghost code = { consumable_code_1 };
+
+    fn take(_alloc: Global, bytes: &[u8], at: usize) -> Result<(Consumable, usize), TakeFault> {
+        take_consumable(bytes, at, 2)
+    }
+}
+
+type ComplexDefFront = (Text, Kind, Relop, Requestable);
+
+// A row of the complex table, its column consumable in a format.
+#[tactic(auto, using(crate::specs::Passing::fault_passes, crate::specs::Passing::fault_passes_made))]
+fn take_complex_def<C: Format<Consumable>>(
+    alloc: Global,
+    bytes: &[u8],
+    at: usize,
+) -> Result<(ComplexDef, usize), TakeFault>
+    requires { at ≤ length bytes.now }
+    ensures read { Reads result ((complex_def_code_with C.code).read bytes.now at) }
+    ensures within { IfOk result (λ p. p.1 ≤ length bytes.now) }
+{
+    let (front, mid) = ComplexDefFront::take(alloc, bytes, at)?;
+    let (consumable, mid) = C::take(alloc, bytes, mid)?;
+    let ((fallback, urgency), past) = <(Value, u64)>::take(alloc, bytes, mid)?;
+    let (shortcut, kind, relop, requestable) = front;
+    Ok((
+        ComplexDef {
+            shortcut,
+            kind,
+            relop,
+            requestable,
+            consumable,
+            fallback,
+            urgency,
+        },
+        past,
+    ))
+}
 
 impl Canon for ComplexDef {
     ghost use Rattle.ge_model_codec.specs.Configured.{complex_def_code};
@@ -185,36 +237,23 @@ impl Canon for ComplexDef {
 
     fn put(&self, out: &mut Text) -> Result<(), AllocError> {
         (
-            &self.shortcut,
-            (
-                &self.kind,
-                (
-                    &self.relop,
-                    (
-                        &self.requestable,
-                        (&self.consumable, (&self.fallback, &self.urgency)),
-                    ),
-                ),
-            ),
+            (&self.shortcut, &self.kind, &self.relop, &self.requestable),
+            (&self.consumable, (&self.fallback, &self.urgency)),
         )
             .put_all(out)
     }
 
-    #[tactic(auto, using(crate::specs::Passing::fault_passes_made))]
     fn take(alloc: Global, bytes: &[u8], at: usize) -> Result<(ComplexDef, usize), TakeFault> {
-        let (parts, past) = ComplexDefParts::take(alloc, bytes, at)?;
-        let (shortcut, (kind, (relop, (requestable, (consumable, (fallback, urgency)))))) = parts;
-        Ok((
-            ComplexDef {
-                shortcut,
-                kind,
-                relop,
-                requestable,
-                consumable,
-                fallback,
-                urgency,
-            },
-            past,
-        ))
+        take_complex_def::<Format2>(alloc, bytes, at)
+    }
+}
+
+impl Format<ComplexDef> for Format1 {
+    ghost use Rattle.ge_model_codec.specs.Configured.{complex_def_code_1};
+
+    ghost code = { complex_def_code_1 };
+
+    fn take(alloc: Global, bytes: &[u8], at: usize) -> Result<(ComplexDef, usize), TakeFault> {
+        take_complex_def::<Format1>(alloc, bytes, at)
     }
 }

@@ -66,6 +66,6 @@ fn a_byte_behind_a_cluster(rt: HostRuntime) -> Result<(), Fail> {
     let mut bytes = OPENING.to_vec(rt.alloc())?;
     bytes.push(0)?;
     let taken = take_cluster(rt.alloc(), &bytes);
-    assert!(rt; matches!(&taken, Err(TakeFault::Range(2321))));
+    assert!(rt; matches!(&taken, Err(TakeFault::Range(2333))));
     Ok(())
 }

@@ -1,4 +1,4 @@
-use Rattle.ge_codec.proofs.rows.entries.ItemCanon.put.Goals as goal
+use Rattle.ge_codec.proofs.rows.items.ItemCanon.put.Goals as goal
 
 pub returns-in-Queue-clause-ok : goal.returns-in-Queue-clause-ok
 returns-in-Queue-clause-ok c = rw c.in-Queue.is c.put_variant-in-Queue.ensures.ok

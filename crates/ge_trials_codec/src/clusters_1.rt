@@ -1,4 +1,4 @@
-// Clusters that another program wrote.
+// Clusters in format 1 that another program wrote: the same as those of format 2, before the fields that it added.
 
 /// The opening cluster.
 pub(crate) const OPENING: &[u8] =

@@ -1,9 +1,9 @@
 // A cluster that another program wrote with a value of its own in each field: each value is read into its field.
 use crate::clusters::EACH_FIELD;
 use ge_rows::{
-    Allocation, Attr, Cluster, ComplexDef, Filter, Job, Kind, Line, List, PeRow, ProjectRow,
-    QueueRow, QuotaRow, Relop, Request, Requestable, Running, Sched, ShareNode, SortMethod, Table,
-    TaskSpan, Text, UrgencySlots, Value,
+    Advance, Allocation, Attr, Cluster, ComplexDef, Consumable, Filter, Job, Kind, Line, List,
+    PeRow, ProjectRow, QueueRow, QuotaRow, Relop, Request, Requestable, Running, Sched, ShareNode,
+    SortMethod, Table, TaskSpan, Text, UrgencySlots, Value,
 };
 use ge_snapshot::take_cluster;
 use std::test::Fail;
@@ -122,8 +122,26 @@ fn is_job(job: &Job) -> bool {
         && numbers == [91, 93, 94, 95, 105]
         && flags
         && lists
-        && job.number == 90
+        && [job.number, job.advance] == [90, 106]
         && job.priority == -92
+}
+
+fn is_advance(row: &Advance) -> bool {
+    let grants = match row.grants.items() {
+        [first, second] => {
+            are(&[&first.at.queue, &first.at.host], &[b"queue", b"host"])
+                && are(&[&second.at.queue, &second.at.host], &[b"queue2", b"host2"])
+                && [first.slots, second.slots] == [125, 126]
+        }
+        _ => false,
+    };
+    grants
+        && are(
+            &[&row.name, &row.owner, &row.group],
+            &[b"name", b"owner", b"group"],
+        )
+        && [row.from, row.until] == [123, 124]
+        && is_request(&row.request)
 }
 
 fn is_line(line: &Line) -> bool {
@@ -275,7 +293,15 @@ fn is_complex(row: &ComplexDef) -> bool {
         207 => (Kind::ReStr, Relop::Ne, Requestable::Yes),
         _ => (Kind::Host, Relop::Lt, Requestable::Forced),
     };
-    row.kind == kind && row.relop == relop && row.requestable == requestable
+    let consumable = match urgency {
+        201 | 204 => Consumable::Job,
+        203 | 205 | 207 => Consumable::Yes,
+        _ => Consumable::No,
+    };
+    row.kind == kind
+        && row.relop == relop
+        && row.requestable == requestable
+        && row.consumable == consumable
 }
 
 #[test]
@@ -352,7 +378,8 @@ fn has_numbers(cluster: &Cluster) -> bool {
     for used in cluster.usage.values() {
         sum ^= *used;
     }
-    moments && cluster.next_job == 3 && sum == (1 << 100) + 6
+    let next = [cluster.next_job, cluster.next_advance] == [3, 122];
+    moments && next && sum == (1 << 100) + 6
 }
 
 #[test]
@@ -365,7 +392,10 @@ fn the_cluster(rt: HostRuntime) -> Result<(), Fail> {
     for set in cluster.sets.values() {
         same &= are_texts(set, &[b"ann", b"@staff"]);
     }
-    assert!(rt; same);
+    for (number, row) in cluster.advances.iter() {
+        same &= *number == 106 && is_advance(row);
+    }
+    assert!(rt; same && cluster.advances.len() == 1);
     assert!(rt; are_texts(&cluster.managers, &[b"manager", b"root"]));
     assert!(rt; are_texts(&cluster.operators, &[b"operator"]));
     Ok(())
