@@ -1,8 +1,6 @@
 -- The events of a script.
 use Rattle.std.specs.Prelude.{ℕ, if◌then◌else◌, List, [], ◌∷◌, map, Option, Some, None}
-use Rattle.ge_rows.specs.declared.events.Event.{Event}
-use Rattle.ge_rows.specs.declared.events.Form.{Form}
-use Rattle.ge_rows.specs.declared.events.Form.TheVariants.{Good, BadHeader, TooLong}
+use Rattle.ge_model_rows.specs.EventRows.{Event, Form, Good, BadHeader, TooLong}
 use Rattle.ge_model_script.specs.Lines.{lines_of, bare, is_too_long, text_of, requests_of}
 use Rattle.ge_model_script.specs.Header.{header_of}
 

@@ -2,6 +2,7 @@
 use Rattle.std.specs.Prelude.{ℕ, ◌+◌, ◌-◌, ◌*◌, ◌^◌, Bool, false, not, ◌&&◌, ◌||◌, ◌==◌, nat_lt, if◌then◌else◌, List, [], ◌∷◌, Option, Some, None, fold}
 use Rattle.std.specs.List.{list_all, before_first, after_first}
 use Rattle.std.specs.Char.{is_ascii_digit}
+use Rattle.ge_limits.specs.Limits as limit
 use Rattle.ge_model_script.specs.Names.{is_name}
 
 -- a space or a tab
@@ -20,7 +21,7 @@ decimal_value digits = fold (λ n d. 10 * n + (d - 48)) 0 digits
 
 -- a moment is a decimal number of seconds below 2^40
 abbrev pub moment_of : List ℕ → Option ℕ
-moment_of text = if is_decimal text && nat_lt (decimal_value text) (2 ^ 40) then Some (decimal_value text) else None
+moment_of text = if is_decimal text && nat_lt (decimal_value text) limit.moments then Some (decimal_value text) else None
 
 -- the moment, the user and the group that the fields of a header name
 abbrev pub fields_of : Option ℕ → List ℕ → List ℕ → Option (ℕ × List ℕ × List ℕ)

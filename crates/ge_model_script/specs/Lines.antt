@@ -1,6 +1,7 @@
 -- The lines and the requests of a script.
 use Rattle.std.specs.Prelude.{ℕ, Bool, false, not, ◌&&◌, ◌||◌, ◌==◌, nat_eq, nat_lt, if◌then◌else◌, List, [], ◌∷◌, ◌++◌, length, drop, flat_map}
 use Rattle.std.specs.List.{before_first, onto_first, list_any, starts_with}
+use Rattle.ge_limits.specs.Limits as limit
 
 abbrev pub is_line_feed : ℕ → Bool
 is_line_feed b = b == 10
@@ -44,14 +45,14 @@ requests_of bytes = requests_in (lines_of bytes)
 
 -- a line may have 65,536 bytes beside its line feed
 abbrev pub is_long : List ℕ → Bool
-is_long line = nat_lt 65536 (length (bare line))
+is_long line = nat_lt limit.line_bytes (length (bare line))
 
 abbrev pub has_long_line : List (List ℕ) → Bool
 has_long_line lines = list_any is_long lines
 
 -- a request may have 1,048,576 bytes, line feeds included, and no long line
 abbrev pub is_too_long : List ℕ → Bool
-is_too_long bytes = nat_lt 1048576 (length bytes) || has_long_line (lines_of bytes)
+is_too_long bytes = nat_lt limit.text_bytes (length bytes) || has_long_line (lines_of bytes)
 
 -- a text line that begins with two at signs stands for itself without the first of them
 abbrev pub unescaped : List ℕ → List ℕ

@@ -2,6 +2,7 @@
 -- Numbers are cut at 2^48 as they are read, which is the first amount that is too large.
 use Rattle.std.specs.Prelude.{◌≡◌, ℕ, ◌+◌, ◌-◌, ◌*◌, ◌^◌, ◌<◌, ◌≤◌, ◌==◌, ◌&&◌, Bool, true, false, List, [], ◌∷◌, ◌++◌, length, Option, Some, None, Result, Ok, Err, if◌then◌else◌, nat_lt, min, take, slice_index}
 use Rattle.std.specs.Option.{option_map}
+use Rattle.ge_limits.specs.Limits as bounds
 use Rattle.ge_model_text.specs.declared.Form.{Form}
 use Rattle.ge_model_text.specs.declared.Form.TheVariants.{Int, Time, Memory, Fixed}
 use Rattle.ge_model_text.specs.declared.Progress.{Progress}
@@ -12,7 +13,7 @@ use Rattle.ge_model_text.specs.Value.{is_digit, unit_at, infinity, endless, fact
 
 -- the first amount that is too large
 abbrev pub limit : ℕ
-limit = 2 ^ 48
+limit = bounds.amounts
 
 abbrev pub cut : ℕ → ℕ
 cut n = min n limit

@@ -2,6 +2,7 @@
 -- isn't bounded here: a reader refuses one that isn't below 2^48.
 use Rattle.std.specs.Prelude.{◌≡◌, ℕ, ◌+◌, ◌-◌, ◌*◌, ◌/◌, ◌^◌, ◌<◌, ◌≤◌, ◌&&◌, Bool, IsTrue, List, [], ◌∷◌, ◌++◌, length, Option, Some, None, nat_le, ◌==◌, if◌then◌else◌, codes, slice_index}
 use Rattle.std.specs.List.{list_all}
+use Rattle.ge_limits.specs.Limits as limit
 use Rattle.ge_model_text.specs.declared.Form.{Form}
 use Rattle.ge_model_text.specs.declared.Form.TheVariants.{Int, Time, Memory, Fixed}
 
@@ -72,7 +73,7 @@ infinity = codes "INFINITY"
 
 -- what INFINITY is worth, and the greatest amount
 abbrev pub endless : ℕ
-endless = 2 ^ 48 - 1
+endless = limit.amounts - 1
 
 -- seconds, a clock, or INFINITY
 pub data IsTime (text : List ℕ) (seconds : ℕ) : Type 0 where

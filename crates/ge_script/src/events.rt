@@ -8,7 +8,7 @@ ghost use Rattle.ge_script.specs.Shows.{says_header};
 use crate::header::{Header, read_header};
 use crate::requests::request_len;
 use crate::texts::text_of_lines;
-use ge_lines::{bare_line, bytes_from, first_line, is_too_long_text};
+use ge_pieces::{bare_line, bytes_from, first_line, is_too_long_text};
 use ge_rows::{Event, Form, Text};
 use std::alloc::{AllocError, Global};
 

@@ -1,13 +1,13 @@
 // The header of a request.
-ghost use Rattle.std.specs.Prelude.{◌≡◌, ℕ, ◌+◌, ◌<◌, ◌≤◌, List, [], ◌∷◌, take, drop, length, Option, Some, None, MatchOption, IsTrue, min, ◌*◌, ◌^◌, ◌-◌};
-ghost use Rattle.std.specs.List.{list_all, position, position_or_len};
+ghost use Rattle.std.specs.Prelude.{◌≡◌, min, ◌^◌, ◌-◌};
+ghost use Rattle.std.specs.List.{list_all};
 ghost use Rattle.std.specs.Char.{is_ascii_digit};
 ghost use Rattle.ge_script.specs.Shows.{says_header};
-ghost use Rattle.ge_model_script.specs.Names.{is_name, is_name_byte};
-ghost use Rattle.ge_model_script.specs.Header.{is_blank, is_decimal, decimal_value, moment_of, field, after_field, header_of};
+ghost use Rattle.ge_limits.specs.Limits.{moments};
+ghost use Rattle.ge_model_script.specs.Header.{is_decimal, decimal_value, moment_of, field, after_field, header_of};
 
-/// Moments end before this number of seconds.
-const MOMENT_LIMIT: u64 = 1 << 40;
+use ge_limits::MOMENTS;
+use ge_pieces::{behind_word, first_word, is_a_name};
 
 /// The moment, the user and the group of a request.
 #[derive(Clone, Copy)]
@@ -17,62 +17,12 @@ pub(crate) struct Header<'a> {
     pub(crate) group: &'a [u8],
 }
 
-fn is_blank_byte(byte: u8) -> bool
-    ensures { result ≡ is_blank byte }
-{
-    byte == b' ' || byte == b'\t'
-}
-
-fn is_letter_or_mark(byte: u8) -> bool
-    ensures { result ≡ is_name_byte byte }
-{
-    byte.is_ascii_lowercase()
-        || byte.is_ascii_uppercase()
-        || byte.is_ascii_digit()
-        || byte == b'_'
-        || byte == b'-'
-        || byte == b'.'
-        || byte == b'+'
-}
-
-fn has_name_bytes_alone(bytes: &[u8]) -> bool
-    ensures { result ≡ list_all is_name_byte bytes.now }
-{
-    bytes.iter().all(|b| is_letter_or_mark(*b))
-}
-
-/// Whether the bytes are a name.
-pub(crate) fn is_a_name(bytes: &[u8]) -> bool
-    ensures { result ≡ is_name bytes.now }
-{
-    bytes.len() >= 1 && bytes.len() <= 255 && has_name_bytes_alone(bytes)
-}
-
-fn first_blank(text: &[u8]) -> Option<usize>
-    ensures { result ≡ position is_blank text.now }
-{
-    text.iter().position(|b| is_blank_byte(*b))
-}
-
-// Where the first blank is, or the length where there is none.
-#[tactic(auto, using(crate::proofs::Places::unwrap_position))]
-fn blank_place(text: &[u8]) -> usize
-    ensures place { result ≡ position_or_len is_blank text.now }
-    ensures within { result ≤ length text.now }
-{
-    first_blank(text).unwrap_or(text.len())
-}
-
 /// What stands before the first blank, and what after it.
 fn split_field(text: &[u8]) -> (&[u8], &[u8])
     ensures before { result.0.now ≡ field text.now }
     ensures after { result.1.now ≡ after_field text.now }
 {
-    let (before, rest) = text.split_at(blank_place(text));
-    match rest {
-        [] => (before, rest),
-        [_, after @ ..] => (before, after),
-    }
+    (first_word(text), behind_word(text))
 }
 
 fn is_digit(byte: u8) -> bool
@@ -105,11 +55,11 @@ fn digit_worth(digit: u8) -> u64
 
 // What the digits are worth, cut at 2^40.
 fn value_up_to_limit(digits: &[u8]) -> u64
-    ensures { result ≡ min (decimal_value digits.now) (2 ^ 40) }
+    ensures { result ≡ min (decimal_value digits.now) moments }
 {
     let mut value = 0u64;
     for digit in digits {
-        value = (10 * value + digit_worth(*digit)).min(MOMENT_LIMIT);
+        value = (10 * value + digit_worth(*digit)).min(MOMENTS);
     }
     value
 }
@@ -121,11 +71,7 @@ fn moment(text: &[u8]) -> Option<u64>
         return None;
     }
     let value = value_up_to_limit(text);
-    if value < MOMENT_LIMIT {
-        Some(value)
-    } else {
-        None
-    }
+    if value < MOMENTS { Some(value) } else { None }
 }
 
 /// What a header says, or nothing where the line is no header.

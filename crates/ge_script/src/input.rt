@@ -2,13 +2,12 @@
 ghost use Rattle.std.specs.Prelude.{◌≡◌, ◌≤◌, ◌<◌, ◌^◌, ℕ, [], ◌++◌, length, take, vec_len, IfOk, OnOk, IfSome, IsErrOf, IsTrue, true, false, MatchBool, ⊤};
 ghost use Rattle.ge_outside.specs.Faults.{Rose};
 ghost use Rattle.ge_script.specs.declared.input.ScriptFault.TheVariants.{Read, Memory};
+ghost use Rattle.ge_limits.specs.Limits.{script_bytes};
 ghost use Rattle.ge_model_script.specs.Sources.{Moved, IsReadToEnd};
 
+use ge_limits::SCRIPT_BYTES;
 use ge_outside::{Failed, Source};
 use std::alloc::{AllocError, Global};
-
-/// A script has fewer bytes than this.
-pub const SCRIPT_LIMIT: usize = 1 << 40;
 
 /// How many bytes one read asks for.
 const CHUNK: usize = 65_536;
@@ -66,19 +65,19 @@ fn read_more<S: Source>(
     Ok(count > 0)
 }
 
-/// All the bytes of a script. `Read` comes only where a read failed, and `Long` only where [`SCRIPT_LIMIT`] bytes were
+/// All the bytes of a script. `Read` comes only where a read failed, and `Long` only where [`SCRIPT_BYTES`] bytes were
 /// read and the end was not.
 pub fn read_script<S: Source>(alloc: Global, input: &mut S) -> Result<Vec<u8>, ScriptFault>
     ensures whole { IfOk result (λ bytes. IfSome (S.rest input.old) (λ script. bytes.items ≡ script)) }
-    ensures below { IfOk result (λ bytes. vec_len bytes < 2 ^ 40) }
+    ensures below { IfOk result (λ bytes. vec_len bytes < script_bytes) }
     ensures ended { OnOk result (IsReadToEnd (S.rest input.new)) }
-    ensures long { IsErrOf result ScriptFault.Long → IfSome (S.rest input.old) (λ script. 2 ^ 40 ≤ length script) }
+    ensures long { IsErrOf result ScriptFault.Long → IfSome (S.rest input.old) (λ script. script_bytes ≤ length script) }
     ensures later { S.read_faults input.old ≤ S.read_faults input.new }
     ensures fault { IsErrOf result ScriptFault.Read → Rose (S.read_faults input.old) (S.read_faults input.new) }
 {
     let mut bytes = Vec::new(alloc);
     let mut chunk = new_chunk(alloc)?;
-    'reading: while bytes.len() < SCRIPT_LIMIT {
+    'reading: while bytes.len() < SCRIPT_BYTES {
         if !read_more(input, chunk.as_mut_slice(), &mut bytes)? {
             return Ok(bytes);
         }

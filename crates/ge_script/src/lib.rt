@@ -16,4 +16,4 @@ mod requests;
 mod texts;
 
 pub use events::{next_request, read_event};
-pub use input::{SCRIPT_LIMIT, ScriptFault, read_script};
+pub use input::{ScriptFault, read_script};

@@ -2,7 +2,7 @@
 ghost use Rattle.std.specs.Prelude.{◌≡◌, ◌+◌, ◌<◌, ◌≤◌, ◌∷◌, take, drop, length};
 ghost use Rattle.ge_model_script.specs.Lines.{is_header, requests_of};
 
-use ge_lines::{bytes_from, line_len};
+use ge_pieces::{bytes_from, line_len};
 
 /// Whether a line begins a request.
 pub(crate) fn begins_request(line: &[u8]) -> bool

@@ -3,7 +3,7 @@ ghost use Rattle.std.specs.Prelude.{◌≡◌, ◌<◌, ◌≤◌, ◌∷◌, �
 ghost use Rattle.std.specs.List.{starts_with};
 ghost use Rattle.ge_model_script.specs.Lines.{lines_of, content, unescaped, text_of};
 
-use ge_lines::{bare_line, bytes_from, first_line};
+use ge_pieces::{bare_line, bytes_from, first_line};
 use ge_rows::Text;
 use std::alloc::{AllocError, Global};
 

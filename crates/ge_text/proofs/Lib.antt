@@ -1,3 +1,4 @@
+pub mod AmountLemmas
 pub mod CompleteLemmas
 pub mod LineCompleteLemmas
 pub mod LineLemmas

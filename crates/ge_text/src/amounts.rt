@@ -5,11 +5,14 @@
 //! ends its longest right front (`grammar`); the answer for each text of the grammar (`worth`); and that
 //! only no text at all is empty (`empty`).
 
-ghost use Rattle.std.specs.Prelude.{◌≡◌, ◌^◌, ◌<◌, ◌↔◌, ℕ, [], length};
+ghost use Rattle.std.specs.Prelude.{◌≡◌, ◌^◌, ◌<◌, ◌↔◌, ℕ, [], length, IfErr};
+ghost use Rattle.std.specs.Result.{result_ok};
 ghost use Rattle.ge_model_text.specs.Value.{IsInt, IsTime, IsMemory, IsFixed};
 ghost use Rattle.ge_model_text.specs.Reading.{reading, answer, bounded, Answers};
+ghost use Rattle.ge_text.specs.Amounts.{from_start, whole_answer};
 
-use crate::progress::{LIMIT, advanced, finished};
+use crate::progress::{advanced, finished};
+use ge_limits::AMOUNTS;
 use ge_model_text::{Form, Progress, ValueFault};
 
 /// The answer at the end of a text of so many bytes.
@@ -19,7 +22,7 @@ fn answered(length: u32, amount: Option<u64>) -> Result<u64, ValueFault>
     match amount {
         None => Err(ValueFault::Digit(length)),
         Some(amount) => {
-            if amount < LIMIT {
+            if amount < AMOUNTS {
                 Ok(amount)
             } else {
                 Err(ValueFault::TooLarge)
@@ -28,7 +31,22 @@ fn answered(length: u32, amount: Option<u64>) -> Result<u64, ValueFault>
     }
 }
 
-/// The amount of a text of a form.
+/// What was read of a whole text, or the place of the first byte that no text of the form has there.
+fn read_whole(form: Form, text: &[u8]) -> Result<Progress, usize>
+    ensures answer { from_start form text.now ≡ whole_answer form (length text.now) result }
+    ensures within { IfErr result (λ place. place < length text.now) }
+{
+    let mut progress = Progress::Start;
+    for (place, b) in text.iter().enumerate() {
+        match advanced(form, progress, *b) {
+            Some(after) => progress = after,
+            None => return Err(place),
+        }
+    }
+    Ok(progress)
+}
+
+/// The amount of a text of a form, or why it has none.
 fn read(form: Form, text: &[u8]) -> Result<u64, ValueFault>
     requires { length text.now < 2 ^ 32 }
     ensures { result ≡ reading form text.now }
@@ -36,14 +54,21 @@ fn read(form: Form, text: &[u8]) -> Result<u64, ValueFault>
     if text.is_empty() {
         return Err(ValueFault::Empty);
     }
-    let mut progress = Progress::Start;
-    for (place, b) in text.iter().enumerate() {
-        match advanced(form, progress, *b) {
-            Some(after) => progress = after,
-            None => return Err(ValueFault::Digit(place as u32)),
-        }
+    match read_whole(form, text) {
+        Ok(progress) => answered(text.len() as u32, finished(form, progress)),
+        Err(place) => Err(ValueFault::Digit(place as u32)),
     }
-    answered(text.len() as u32, finished(form, progress))
+}
+
+/// The amount of a text of a form, however long the text is; nothing where it has none.
+#[tactic(auto, using(crate::proofs::AmountLemmas::same_amount, crate::proofs::AmountLemmas::amount_from_start))]
+pub fn amount(form: Form, text: &[u8]) -> Option<u64>
+    ensures { result ≡ result_ok (reading form text.now) }
+{
+    match read_whole(form, text) {
+        Ok(progress) => answered(0, finished(form, progress)).ok(),
+        Err(_) => None,
+    }
 }
 
 /// A whole number: digits (complex, type INT).

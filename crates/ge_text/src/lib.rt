@@ -8,6 +8,7 @@
 //! - [`words`], [`Spans`], [`Span`], [`TextFault`]: the words of a line.
 //! - [`matches`]: whether a pattern stands for a name.
 //! - [`read_int`], [`read_time`], [`read_memory`], [`read_fixed`], [`ValueFault`]: amounts below 2^48.
+//! - [`amount`], [`Form`]: the same of a text of any length, without telling why it has none.
 #![tactic(auto)]
 
 mod amounts;
@@ -16,8 +17,8 @@ mod progress;
 mod spans;
 mod splitting;
 
-pub use amounts::{read_fixed, read_int, read_memory, read_time};
-pub use ge_model_text::{Span, ValueFault};
+pub use amounts::{amount, read_fixed, read_int, read_memory, read_time};
+pub use ge_model_text::{Form, Span, ValueFault};
 pub use patterns::matches;
 pub use spans::Spans;
 pub use splitting::{TextFault, words};

@@ -4,10 +4,8 @@ ghost use Rattle.std.specs.Prelude.{◌≡◌, ◌+◌, ◌*◌, ◌-◌, ◌≤
 ghost use Rattle.ge_model_text.specs.Value.{is_digit, factor, unit_at};
 ghost use Rattle.ge_model_text.specs.Reading.{cut, appended, multiple, after_whole, after_part, step, occurs, next, whole_amount, part_amount, done};
 
+use ge_limits::AMOUNTS;
 use ge_model_text::{Form, Progress};
-
-/// The first amount that is too large.
-pub(crate) const LIMIT: u64 = 1 << 48;
 
 /// How many letters `INFINITY` has.
 const LETTERS: u8 = 8;
@@ -25,7 +23,7 @@ fn with_digit(n: u64, b: u8) -> u64
 {
     n.saturating_mul(10)
         .saturating_add(u64::from(b - b'0'))
-        .min(LIMIT)
+        .min(AMOUNTS)
 }
 
 /// What a letter behind a number multiplies it by.
@@ -69,7 +67,7 @@ fn in_millionths(whole: u64, millionths: u64) -> u128
 fn cut_amount(n: u128) -> u64
     ensures { result ≡ cut n }
 {
-    n.min(u128::from(LIMIT)) as u64
+    n.min(u128::from(AMOUNTS)) as u64
 }
 
 /// What is read after a number with its letter.
@@ -111,7 +109,7 @@ fn past_part(whole: u64, millionths: u64, digits: u8, b: u8) -> Option<Progress>
     let counts = u64::from(b - b'0') * unit(digits);
     Some(Progress::Part(
         whole,
-        millionths.saturating_add(counts).min(LIMIT),
+        millionths.saturating_add(counts).min(AMOUNTS),
         digits + 1,
     ))
 }
@@ -246,7 +244,7 @@ pub(crate) fn finished(form: Form, progress: Progress) -> Option<u64>
         Progress::Multiple(n) => Some(n),
         Progress::Letters(count) => {
             if count == LETTERS {
-                Some(LIMIT - 1)
+                Some(AMOUNTS - 1)
             } else {
                 None
             }

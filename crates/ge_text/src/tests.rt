@@ -1,14 +1,16 @@
 //! Tables with values from outside: from the manual pages' rules worked by hand, and from a second reading of
 //! them in another language.
 
-use super::{TextFault, ValueFault, matches, read_fixed, read_int, read_memory, read_time, words};
+use super::{
+    Form, TextFault, ValueFault, amount, matches, read_fixed, read_int, read_memory, read_time,
+    words,
+};
 use ValueFault::{Digit, Empty, TooLarge};
-use ge_model_text::Form;
 use std::alloc::Global;
 use std::test::Fail;
 
 /// The answer for a text of a form.
-fn amount(form: Form, text: &str) -> Result<u64, ValueFault> {
+fn answer(form: Form, text: &str) -> Result<u64, ValueFault> {
     let bytes = text.as_bytes();
     if bytes.len() > 1000 {
         return Err(Empty);
@@ -92,8 +94,9 @@ fn amounts_of_many_texts(rt: HostRuntime) {
         (Form::Fixed, "3.", Err(Digit(2))),
         (Form::Fixed, "INFINITY", Err(Digit(0))),
     ];
-    for (form, text, answer) in rows {
-        assert_eq!(rt; amount(form, text), answer, "{text}");
+    for (form, text, wanted) in rows {
+        assert_eq!(rt; answer(form, text), wanted, "{text}");
+        assert_eq!(rt; amount(form, text.as_bytes()), wanted.ok(), "{text}");
     }
 }
 

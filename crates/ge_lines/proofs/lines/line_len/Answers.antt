@@ -1,7 +1,0 @@
-use Rattle.std.proofs.Common.{ap, ◌∙◌, ◌+◌, ℕ, length, min}
-use Rattle.ge_model_script.proofs.FirstLine.{lines_of-first}
-use Rattle.ge_lines.proofs.lines.line_len.Goals as goal
-
-pub returns-clause-first : goal.returns-clause-first
-returns-clause-first c =
-    lines_of-first _ _ c.requires (c.min.ensures ∙ ap (λ (n : ℕ). min (n + 1) (length c.args.bytes.now)) c.line_feed_place.ensures.place)

@@ -1,0 +1,3 @@
+pub mod BodyLines
+pub mod Gives
+pub mod Items

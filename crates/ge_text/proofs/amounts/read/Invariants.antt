@@ -1,7 +1,0 @@
-use Rattle.std.proofs.Common.{◌≡◌, drop}
-use Rattle.ge_model_text.specs.Reading.{reading, reading_from}
-use Rattle.ge_text.proofs.amounts.read.Given as goal
-
--- the answer to what was read and the bytes that are left is the answer to the text
-abbrev pub invariant-loop-place : goal.invariant-loop-place
-invariant-loop-place l = reading_from l.form l.progress l.place (drop l.place l.text) ≡ reading l.form l.text
