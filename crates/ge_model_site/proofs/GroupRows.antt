@@ -1,8 +1,8 @@
 -- Worked rows of groups and their members, each by computation.
 use Rattle.std.specs.Prelude.{◌≡◌, [], ◌∷◌, map, Ok, Err, true, false, codes, refl}
-use Rattle.ge_rows.specs.Opening.{opening_cluster}
-use Rattle.ge_rows.specs.declared.cluster.Cluster.{Cluster}
-use Rattle.ge_model_site.specs.Groups.{NoSuch, Cycle, members_of, expanded, hosts_of, hostlist_hosts, group_has}
+use Rattle.ge_model_rows.specs.ClusterRows.{Cluster, opening_cluster}
+use Rattle.ge_model_site.specs.declared.GroupFault.TheVariants.{NoSuch, Cycle}
+use Rattle.ge_model_site.specs.Groups.{members_of, has_loop, expanded, hosts_of, hostlist_hosts, group_has}
 
 first_seen_order : members_of
     ((codes "@a", codes "h2" ∷ codes "@b" ∷ codes "h1" ∷ codes "h2" ∷ []) ∷ (codes "@b", codes "h3" ∷ codes "h1" ∷ codes "h2" ∷ []) ∷ []) (codes "@a")
@@ -34,6 +34,40 @@ cycle_further_on : members_of ((codes "@a", codes "@b" ∷ []) ∷ (codes "@b", 
     ≡ Err (Cycle (codes "@b"))
 unfolding members_of
 cycle_further_on = refl
+
+-- the first that is met again, below one that is met again later
+met_again_first : members_of ((codes "@a", codes "@b" ∷ []) ∷ (codes "@b", codes "@c" ∷ codes "@b" ∷ []) ∷ (codes "@c", codes "@c" ∷ []) ∷ []) (codes "@a")
+    ≡ Err (Cycle (codes "@c"))
+unfolding members_of
+met_again_first = refl
+
+-- loops, by one walk over all groups. A missing group hides none
+loop_beside_missing : has_loop ((codes "@a", codes "@x" ∷ codes "@b" ∷ []) ∷ (codes "@b", codes "@b" ∷ []) ∷ []) ≡ true
+unfolding has_loop
+loop_beside_missing = refl
+
+missing_alone : has_loop ((codes "@a", codes "@x" ∷ codes "@b" ∷ []) ∷ (codes "@b", codes "h1" ∷ []) ∷ []) ≡ false
+unfolding has_loop
+missing_alone = refl
+
+-- two groups lead to a third, which was met by the first, and no way leads back
+met_before : has_loop ((codes "@a", codes "@c" ∷ []) ∷ (codes "@b", codes "@c" ∷ codes "@a" ∷ []) ∷ (codes "@c", codes "h1" ∷ []) ∷ []) ≡ false
+unfolding has_loop
+met_before = refl
+
+-- the first groups are sound, and the last two lead to one another
+loop_of_the_last : has_loop ((codes "@a", codes "h1" ∷ []) ∷ (codes "@b", codes "@a" ∷ []) ∷ (codes "@c", codes "@a" ∷ codes "@d" ∷ []) ∷ (codes "@d", codes "@b" ∷ codes "@c" ∷ []) ∷ []) ≡ true
+unfolding has_loop
+loop_of_the_last = refl
+
+-- a loop that an earlier group leads into is found from there
+loop_further_on : has_loop ((codes "@a", codes "@b" ∷ []) ∷ (codes "@b", codes "@c" ∷ []) ∷ (codes "@c", codes "@b" ∷ []) ∷ []) ≡ true
+unfolding has_loop
+loop_further_on = refl
+
+no_groups : has_loop [] ≡ false
+unfolding has_loop
+no_groups = refl
 
 missing_before_cycle : members_of ((codes "@a", codes "@a" ∷ codes "@x" ∷ []) ∷ []) (codes "@a") ≡ Err (NoSuch (codes "@x"))
 unfolding members_of

@@ -1,2 +1,3 @@
 mod GroupRows
 mod Rows
+mod OverrideLaws

@@ -1,12 +1,10 @@
 -- Worked rows of queues, levels and access, each by computation.
 use Rattle.std.specs.Prelude.{◌≡◌, ℕ, ◌^◌, ◌-◌, List, [], ◌∷◌, map, Option, Some, None, true, false, codes, refl}
-use Rattle.ge_rows.specs.Opening.{opening_cluster, default_queue, plain_attr, bare_host}
-use Rattle.ge_rows.specs.declared.cluster.Cluster.{Cluster}
-use Rattle.ge_rows.specs.declared.hosts.Groups.{Groups}
-use Rattle.ge_rows.specs.declared.hosts.InstanceId.{InstanceId}
-use Rattle.ge_rows.specs.declared.queues.QueueRow.{QueueRow}
-use Rattle.ge_rows.specs.declared.values.Value.{Value}
-use Rattle.ge_rows.specs.declared.values.Value.TheVariants.{Amount, Word}
+use Rattle.ge_model_rows.specs.ClusterRows.{Cluster, opening_cluster, default_queue, bare_host}
+use Rattle.ge_model_rows.specs.ClusterRows.{plain_attr}
+use Rattle.ge_model_rows.specs.HostRows.{Groups, InstanceId}
+use Rattle.ge_model_rows.specs.QueueRows.{QueueRow}
+use Rattle.ge_model_rows.specs.ValueRows.{Value, Amount, Word}
 use Rattle.ge_model_site.specs.Groups.{expanded, members_of}
 use Rattle.ge_model_site.specs.Queues.{attr_at, slots_at, limit_at, instances_of, resolved}
 use Rattle.ge_model_site.specs.Access.{is_manager, is_operator, in_user_set, may_use}

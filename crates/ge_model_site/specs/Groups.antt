@@ -1,15 +1,13 @@
 -- Groups of hosts and their members (hostgroup).
-use Rattle.std.specs.Prelude.{ℕ, zero, suc, ◌==◌, Bool, true, false, List, [], ◌∷◌, length, map, fold, flat_map, Option, Some, None, unwrap_or, Result, Ok, Err}
+use Rattle.std.specs.Prelude.{ℕ, zero, suc, ◌==◌, Bool, true, false, List, [], ◌∷◌, ◌++◌, length, map, fold, flat_map, Option, Some, None, is_some, unwrap_or, Result, Ok, Err}
+use Rattle.std.specs.Map.{keys_of}
 use Rattle.std.specs.Option.{option_or}
 use Rattle.ge_collections.specs.Keyed.{at_text}
-use Rattle.ge_rows.specs.declared.cluster.Cluster.{Cluster}
-use Rattle.ge_rows.specs.declared.hosts.Groups.{Groups}
+use Rattle.ge_model_rows.specs.ClusterRows.{Cluster}
+use Rattle.ge_model_rows.specs.HostRows.{Groups}
+use Rattle.ge_model_site.specs.declared.GroupFault.{GroupFault}
+use Rattle.ge_model_site.specs.declared.GroupFault.TheVariants.{NoSuch, Cycle}
 use Rattle.ge_model_value.specs.Pieces.{is_one_of, with_text}
-
--- why a group has no members: a group that it reaches is missing, or a group reaches itself
-pub data GroupFault : Type 0 where
-  NoSuch : (name : List ℕ) → GroupFault
-  Cycle : (name : List ℕ) → GroupFault
 
 -- whether an entry of a hostlist names a group: it begins with an at sign
 abbrev pub is_group : List ℕ → Bool
@@ -43,9 +41,9 @@ meets_cycle walk name = record walk { cycle = option_or walk.cycle (Some name) }
 abbrev pub through_entry : (Walk → List ℕ → Walk) → Walk → List ℕ → Walk
 through_entry through walk entry = elim (is_group entry) [ true ↦ through walk entry | false ↦ meets_host walk entry ]
 
--- a walk through a group, depth first: the groups that the way leads through, the walk so far, the group. A group on the
--- way reaches itself, one that was met elsewhere has nothing new. The way has each group once, so it is never longer
--- than the table
+-- a walk through a group, depth first: the groups that the way leads through, in their order, the walk so far, the group. A
+-- group on the way reaches itself, one that was met elsewhere has nothing new: so the entries of a group are read once, and
+-- the way, which has each group once, is never longer than the table
 abbrev pub through_group : ℕ → List (List ℕ × List (List ℕ)) → List (List ℕ) → Walk → List ℕ → Walk
 through_group zero table way walk name = walk
 through_group (suc depth) table way walk name =
@@ -55,7 +53,7 @@ through_group (suc depth) table way walk name =
         | true ↦ meets_cycle walk name
         | false ↦ elim (is_one_of name walk.groups) [
           | true ↦ walk
-          | false ↦ fold (through_entry (through_group depth table (name ∷ way))) (meets_group walk name) entries
+          | false ↦ fold (through_entry (through_group depth table (way ++ name ∷ []))) (meets_group walk name) entries
         ]
       ]
     ]
@@ -67,9 +65,17 @@ found_by walk = elim walk.missing [
   | None ↦ elim walk.cycle [ Some name ↦ Err (Cycle name) | None ↦ Ok walk.hosts ]
 ]
 
+-- one walk through groups and all that they reach, each group with what was met before
+abbrev pub walk_over : List (List ℕ × List (List ℕ)) → List (List ℕ) → Walk
+walk_over groups names = fold (through_group (suc (length groups)) groups []) before_walk names
+
 -- the hosts of a group in first-seen order, each once; or the first fault, depth first, a missing group before a cycle
 unfoldable pub members_of : List (List ℕ × List (List ℕ)) → List ℕ → Result (List (List ℕ)) GroupFault
-members_of groups name = found_by (through_group (suc (length groups)) groups [] before_walk name)
+members_of groups name = found_by (walk_over groups (name ∷ []))
+
+-- whether any group reaches itself, whatever groups are missing: asked of one walk over all
+unfoldable pub has_loop : List (List ℕ × List (List ℕ)) → Bool
+has_loop groups = is_some (walk_over groups (keys_of groups)).cycle
 
 -- none where there is a fault
 abbrev pub members_or_none : Result (List (List ℕ)) GroupFault → List (List ℕ)

@@ -1,29 +1,30 @@
 -- Queues: attributes at a host, instances, resolution by level (queue_conf).
-use Rattle.std.specs.Prelude.{ℕ, ◌&&◌, if◌then◌else◌, List, [], fold, flat_map, Option, Some, None, unwrap_or, option_map, option_and_then, codes}
-use Rattle.std.specs.Map.{lookup, values_of}
+use Rattle.std.specs.Prelude.{ℕ, ◌&&◌, if◌then◌else◌, List, [], find, fold, flat_map, Option, Some, None, option_map, option_and_then, codes}
+use Rattle.std.specs.Map.{values_of}
 use Rattle.std.specs.Option.{option_or}
 use Rattle.ge_collections.specs.Keyed.{text_eq, at_text, put_text}
-use Rattle.ge_rows.specs.declared.queues.Attr.{Attr}
-use Rattle.ge_rows.specs.declared.cluster.Cluster.{Cluster}
-use Rattle.ge_rows.specs.declared.hosts.Groups.{Groups}
-use Rattle.ge_rows.specs.declared.hosts.HostRow.{HostRow}
-use Rattle.ge_rows.specs.declared.hosts.InstanceId.{InstanceId}
-use Rattle.ge_rows.specs.declared.queues.QueueRow.{QueueRow}
-use Rattle.ge_rows.specs.declared.values.Value.{Value}
-use Rattle.ge_rows.specs.declared.values.Value.TheVariants.{Amount, Word}
+use Rattle.ge_model_rows.specs.ClusterRows.{Cluster}
+use Rattle.ge_model_rows.specs.HostRows.{HostRow, Groups, InstanceId}
+use Rattle.ge_model_rows.specs.QueueRows.{QueueRow, Attr}
+use Rattle.ge_model_rows.specs.ValueRows.{Value, Amount, Word}
 use Rattle.ge_model_site.specs.Groups.{is_group, group_has, hostlist_hosts}
 
--- the first override of an attribute that is written for a host
-abbrev pub host_override : {T : Type 0} → Attr T → List ℕ → Option T
-host_override attr host = lookup (text_eq host) attr.overrides
+module _ {T : Type 0} where
+  -- the first override of an attribute that is written for a host
+  abbrev pub host_override : Attr T → List ℕ → Option (List ℕ × T)
+  host_override attr host = find (λ o. text_eq host o.0) attr.overrides
 
--- the first override of an attribute that is written for a group with a host
-abbrev pub group_override : {T : Type 0} → Attr T → Groups → List ℕ → Option T
-group_override attr groups host = lookup (λ name. is_group name && group_has groups name host) attr.overrides
+  -- the first override of an attribute that is written for a group with a host
+  abbrev pub group_override : Attr T → Groups → List ℕ → Option (List ℕ × T)
+  group_override attr groups host = find (λ o. is_group o.0 && group_has groups o.0 host) attr.overrides
 
--- an attribute at a host: its first override for the host, else its first override for a group with the host, else the plain value (queue_conf)
-abbrev pub attr_at : {T : Type 0} → Attr T → Groups → List ℕ → T
-attr_at attr groups host = unwrap_or (option_or (host_override attr host) (group_override attr groups host)) attr.plain
+  -- an attribute at a host: its first override for the host, else its first override for a group with the host, else the plain value (queue_conf)
+  abbrev pub attr_at : Attr T → Groups → List ℕ → T
+  attr_at attr groups host =
+      elim (host_override attr host) [
+        | Some o ↦ o.1
+        | None ↦ elim (group_override attr groups host) [ Some o ↦ o.1 | None ↦ attr.plain ]
+      ]
 
 -- how many slots a queue has at a host
 abbrev pub slots_at : QueueRow → Groups → List ℕ → ℕ

@@ -3,7 +3,7 @@ use Rattle.std.proofs.Common.{◌≡◌, ℕ, ◌+◌, ◌-◌, ◌*◌, ◌/◌
 use Rattle.std.proofs.Math.Nat.{div-mul-le_self, mul-mod_left, mod-one}
 use Rattle.std.proofs.lemmas.Bool.{true≢false}
 use Rattle.std.proofs.lemmas.Nat.{le-div, div-add-mod'}
-use Rattle.ge_rows.specs.declared.tasks.TaskSpan.{TaskSpan}
+use Rattle.ge_model_rows.specs.TaskRows.{TaskSpan}
 use Rattle.ge_model_tasks.specs.Spans.{span_of, in_span, stretch, below_in, above_in}
 use Rattle.ge_model_tasks.specs.Sets.{has_number}
 use Rattle.ge_model_tasks.proofs.Steps.{both_ways, raw, lies, lies_back, from_there, step_more, next_step, span_of_numbers}

@@ -1,5 +1,5 @@
 -- Numbers as digits, and texts cut at a byte.
-use Rattle.std.proofs.Common.{◌≡◌, ℕ, zero, suc, ◌+◌, ◌-◌, ◌*◌, ◌/◌, ◌%◌, ◌^◌, ◌≤◌, ◌<◌, ◌==◌, ◌&&◌, ◌||◌, Bool, true, false, not, cond, if◌then◌else◌, nat_lt, List, [], ◌∷◌, ◌++◌, length, take, drop, All, decimal, refl, sym, ap, ◌∙◌, arith, append-nil, pow-suc, lit≤}
+use Rattle.std.proofs.Common.{◌≡◌, ℕ, zero, suc, ◌+◌, ◌-◌, ◌*◌, ◌/◌, ◌%◌, ◌^◌, ◌≤◌, ◌<◌, ◌==◌, ◌&&◌, ◌||◌, Bool, true, false, not, cond, if◌then◌else◌, nat_lt, List, [], ◌∷◌, ◌++◌, length, take, drop, All, decimal, min, refl, sym, ap, ◌∙◌, arith, append-nil, pow-suc, lit≤}
 use Rattle.std.specs.Prelude.{flat_map}
 use Rattle.std.specs.Fmt.{digits, digits_onto, digit_glyph}
 use Rattle.std.specs.List.{list_all, slice_split, position_or_len, prefix_len}
@@ -7,8 +7,8 @@ use Rattle.std.proofs.lemmas.Bool.{eqb-true, eq-eqb, true≢false}
 use Rattle.std.proofs.lemmas.List.Folds.{list_any-append}
 use Rattle.std.proofs.lemmas.List.Splits.{slice_split_at, slice_split_none}
 use Rattle.std.proofs.lemmas.Nat.{div-add-mod'}
-use Rattle.ge_model_text.specs.Value.{is_digit, number_after}
-use Rattle.ge_model_value.specs.Pieces.{is_digits, number_of, has_byte, before_byte, behind_byte, pieces_at, joined_by, is_empty}
+use Rattle.ge_model_text.specs.Value.{is_digit, number, number_after}
+use Rattle.ge_model_value.specs.Pieces.{is_digits, greatest_number, number_of, has_byte, before_byte, behind_byte, pieces_at, joined_by, is_empty}
 
 -- ---- digits
 
@@ -81,9 +81,12 @@ decimal_digits n = both (is_empty (digits_onto 64 10 false n [])) (list_all is_d
         by true again = some_byte (digit_glyph false (n % 10)) []
         by false again = again
 
-pub decimal_worth : (n : ℕ) → n < 2 ^ 64 → number_of (decimal n) ≡ n
+pub decimal_number : (n : ℕ) → n < 2 ^ 64 → number (decimal n) ≡ n
 unfolding digits
-decimal_worth n small = digits_worth 64 n [] (let l : 2 ^ 64 ≤ 10 ^ 64 = lit≤ tt in omega arith)
+decimal_number n small = digits_worth 64 n [] (let l : 2 ^ 64 ≤ 10 ^ 64 = lit≤ tt in omega arith)
+
+pub decimal_worth : (n : ℕ) → n < 2 ^ 64 → number_of (decimal n) ≡ n
+decimal_worth n small = ap (λ x. min x greatest_number) (decimal_number n small) ∙ omega (arith, small)
 
 -- ---- texts cut at a byte
 

@@ -2,7 +2,7 @@
 use Rattle.std.proofs.Common.{◌≡◌, ℕ, ◌+◌, ◌-◌, ◌%◌, ◌≤◌, ◌<◌, ◌==◌, ◌||◌, Bool, true, false, if◌then◌else◌, List, [], ◌∷◌, refl, sym, ap, ◌∙◌, arith}
 use Rattle.std.proofs.Math.Nat.{zero-mod, mod-one}
 use Rattle.std.proofs.lemmas.Bool.{eqb-true, false≢true}
-use Rattle.ge_rows.specs.declared.tasks.TaskSpan.{TaskSpan}
+use Rattle.ge_model_rows.specs.TaskRows.{TaskSpan}
 use Rattle.ge_model_tasks.specs.Spans.{in_span, goes_on, lengthened, behind_first}
 use Rattle.ge_model_tasks.proofs.Steps.{raw, from_there, step_more, next_step, joined, alone, span_of_numbers}
 

@@ -1,8 +1,7 @@
 -- A set within the limits reads back from its text.
 use Rattle.std.proofs.Common.{◌≡◌, ℕ, zero, suc, ◌+◌, ◌-◌, ◌*◌, ◌/◌, ◌^◌, ◌≤◌, ◌<◌, ◌==◌, ◌&&◌, ◌||◌, Bool, true, false, min, if◌then◌else◌, nat_lt, nat_le, List, [], ◌∷◌, length, map, Result, Ok, Err, refl, sym, ap, subst, ◌∙◌, arith, length-append, zero-le}
 use Rattle.std.proofs.lemmas.Bool.{eqb-true, eqb-false, eq-eqb, true≢false}
-use Rattle.ge_rows.specs.declared.tasks.TaskSpan.{TaskSpan}
-use Rattle.ge_rows.specs.TaskSet.{is_form}
+use Rattle.ge_model_rows.specs.TaskRows.{TaskSpan, is_form}
 use Rattle.ge_model_tasks.specs.declared.RangeFault.{RangeFault}
 use Rattle.ge_model_tasks.specs.declared.RangeFault.TheVariants.{Limit}
 use Rattle.ge_model_tasks.specs.Spans.{in_span, steps_of, stepping, span_numbers, span_of, stretch}

@@ -1,8 +1,7 @@
 -- Worked rows: sets of task numbers in their one form, their texts, and ranges as they are written.
 use Rattle.std.specs.Prelude.{◌≡◌, ℕ, ◌+◌, ◌^◌, ◌-◌, true, false, ◌==◌, not, nat_lt, codes, List, [], ◌∷◌, Some, None, Ok, Err, refl}
 use Rattle.std.specs.Fmt.{digits}
-use Rattle.ge_rows.specs.declared.tasks.TaskSpan.{TaskSpan}
-use Rattle.ge_rows.specs.TaskSet.{is_form}
+use Rattle.ge_model_rows.specs.TaskRows.{TaskSpan, is_form}
 use Rattle.ge_model_tasks.specs.declared.RangeFault.TheVariants.{Syntax, Limit}
 use Rattle.ge_model_tasks.specs.Sets.{has_number, first_number, next_number, count_of, numbers_of, first_numbers, set_of, with_number, without_number, filtered, union, meet, difference}
 use Rattle.ge_model_tasks.specs.Ranges.{range_of, reached, range_count, range_set, parsed_set}

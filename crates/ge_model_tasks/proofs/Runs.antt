@@ -1,8 +1,8 @@
 -- Rising spans and the one form: it has their numbers, and it is the form.
 use Rattle.std.proofs.Common.{◌≡◌, ℕ, ◌+◌, ◌-◌, ◌<◌, ◌==◌, ◌&&◌, ◌||◌, Bool, true, false, List, [], ◌∷◌, refl, sym, ap, ◌∙◌, arith, true≢false}
 use Rattle.std.proofs.lemmas.Bool.{eqb-true, eqb-false}
-use Rattle.ge_rows.specs.declared.tasks.TaskSpan.{TaskSpan}
-use Rattle.ge_rows.specs.TaskSet.{is_form, is_form_from, is_run, is_single, is_apart}
+use Rattle.ge_model_rows.specs.TaskRows.{TaskSpan, is_single, is_run, is_apart, is_form_from}
+use Rattle.ge_model_rows.specs.TaskRows.{is_form}
 use Rattle.ge_model_tasks.specs.Spans.{is_one, in_span, goes_on, lengthened, behind_first, runs_from, in_form}
 use Rattle.ge_model_tasks.specs.Sets.{has_number}
 use Rattle.ge_model_tasks.proofs.Steps.{raw, alone}

@@ -2,8 +2,8 @@
 use Rattle.std.proofs.Common.{◌≡◌, ℕ, ◌+◌, ◌-◌, ◌*◌, ◌/◌, ◌%◌, ◌≤◌, ◌<◌, ◌==◌, ◌&&◌, ◌||◌, Bool, true, false, not, if◌then◌else◌, min, nat_lt, List, [], ◌∷◌, ◌++◌, refl, ap, ◌∙◌, arith}
 use Rattle.std.proofs.Math.Nat.{zero-mod}
 use Rattle.std.proofs.lemmas.List.Folds.{list_any-append}
-use Rattle.ge_rows.specs.declared.tasks.TaskSpan.{TaskSpan}
-use Rattle.ge_rows.specs.TaskSet.{is_form, is_form_from, is_run, is_single, is_apart}
+use Rattle.ge_model_rows.specs.TaskRows.{TaskSpan, is_single, is_run, is_apart, is_form_from}
+use Rattle.ge_model_rows.specs.TaskRows.{is_form}
 use Rattle.ge_model_tasks.specs.Spans.{one, span_of, in_span, below_in, above_in}
 use Rattle.ge_model_tasks.specs.Sets.{has_number, below, above, with_number, without_number}
 use Rattle.ge_model_tasks.proofs.Steps.{both_ways, alone}

@@ -2,7 +2,7 @@
 use Rattle.std.proofs.Common.{◌≡◌, ℕ, ◌+◌, ◌-◌, ◌%◌, ◌≤◌, ◌<◌, ◌⊎◌, ◌==◌, ◌||◌, Bool, true, false, if◌then◌else◌, nat_lt, nat_le, refl, sym, ap, ◌∙◌, inl, inr, arith, mod-eq_of_lt}
 use Rattle.std.proofs.Math.Nat.{add-mod-mod, add-mod_left, mod-eq-sub-mod, zero-mod}
 use Rattle.std.proofs.lemmas.Bool.{eqb-true, eq-eqb}
-use Rattle.ge_rows.specs.declared.tasks.TaskSpan.{TaskSpan}
+use Rattle.ge_model_rows.specs.TaskRows.{TaskSpan}
 use Rattle.ge_model_tasks.specs.Spans.{span_of, in_span}
 
 -- two answers that follow from one another are the same

@@ -1,7 +1,6 @@
 -- Two sets together: the numbers of either, of both, and of the first alone, in the form.
 use Rattle.std.proofs.Common.{◌≡◌, ℕ, zero, suc, ◌+◌, ◌-◌, ◌≤◌, ◌<◌, ◌&&◌, ◌||◌, Bool, true, false, not, min, List, [], ◌∷◌, ◌++◌, refl, subst, ◌∙◌, arith, nat_cmp, Ordering, Less, Equal, Greater}
-use Rattle.ge_rows.specs.declared.tasks.TaskSpan.{TaskSpan}
-use Rattle.ge_rows.specs.TaskSet.{is_form}
+use Rattle.ge_model_rows.specs.TaskRows.{TaskSpan, is_form}
 use Rattle.ge_model_tasks.specs.Spans.{below_in, above_in}
 use Rattle.ge_model_tasks.specs.Sets.{has_number, count_of, kept, shared_end, merged, together, union, meet, difference}
 use Rattle.ge_model_tasks.proofs.Form.{Rises}

@@ -3,7 +3,7 @@ use Rattle.std.proofs.Common.{◌≡◌, ℕ, ◌+◌, ◌-◌, ◌*◌, ◌/◌
 use Rattle.std.proofs.Math.Nat.{zero-div, mul-div_left, div-mul-le_self}
 use Rattle.std.proofs.lemmas.Bool.{eqb-true}
 use Rattle.std.proofs.lemmas.Nat.{le-div}
-use Rattle.ge_rows.specs.declared.tasks.TaskSpan.{TaskSpan}
+use Rattle.ge_model_rows.specs.TaskRows.{TaskSpan}
 use Rattle.ge_model_tasks.specs.Spans.{span_of, steps_of, below_in, above_in}
 use Rattle.ge_model_tasks.specs.Sets.{add_count}
 use Rattle.ge_model_tasks.proofs.Form.{IsMade, Rises}

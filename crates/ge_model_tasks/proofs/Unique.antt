@@ -3,8 +3,7 @@ use Rattle.std.proofs.Common.{◌≡◌, ℕ, zero, suc, ◌+◌, ◌-◌, ◌*�
 use Rattle.std.proofs.Math.Nat.{zero-div}
 use Rattle.std.proofs.lemmas.Bool.{eqb-true, eq-eqb, eqb-false}
 use Rattle.std.proofs.lemmas.List.{map-append}
-use Rattle.ge_rows.specs.declared.tasks.TaskSpan.{TaskSpan}
-use Rattle.ge_rows.specs.TaskSet.{is_form, is_form_from, is_run, is_apart}
+use Rattle.ge_model_rows.specs.TaskRows.{TaskSpan, is_run, is_apart, is_form_from, is_form}
 use Rattle.ge_model_tasks.specs.Spans.{one, is_one, steps_of, stepping, goes_on, lengthened, runs_from, in_form}
 use Rattle.ge_model_tasks.specs.Sets.{has_number, numbers_of, set_of}
 use Rattle.ge_model_tasks.proofs.Steps.{raw}

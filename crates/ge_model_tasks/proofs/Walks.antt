@@ -2,8 +2,7 @@
 use Rattle.std.proofs.Common.{◌≡◌, ℕ, zero, suc, ◌-◌, ◌%◌, ◌≤◌, ◌==◌, ◌&&◌, ◌||◌, Bool, true, false, min, cond, nat_lt, List, [], ◌∷◌, ◌++◌, take, filter, refl, sym, ap, subst, ◌∙◌, arith}
 use Rattle.std.proofs.Math.Nat.{zero-mod}
 use Rattle.std.proofs.lemmas.Bool.{eqb-true}
-use Rattle.ge_rows.specs.declared.tasks.TaskSpan.{TaskSpan}
-use Rattle.ge_rows.specs.TaskSet.{is_form}
+use Rattle.ge_model_rows.specs.TaskRows.{TaskSpan, is_form}
 use Rattle.ge_model_tasks.specs.Spans.{in_span, above_in}
 use Rattle.ge_model_tasks.specs.Sets.{has_number, numbers_of, count_of, passing, first_numbers}
 use Rattle.ge_model_tasks.proofs.Steps.{both_ways, lies_back}

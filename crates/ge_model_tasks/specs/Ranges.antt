@@ -1,6 +1,7 @@
 -- Ranges of task numbers, as they are written.
 use Rattle.std.specs.Prelude.{ℕ, ◌+◌, ◌-◌, ◌*◌, ◌^◌, Bool, true, false, ◌&&◌, if◌then◌else◌, nat_le, List, [], ◌∷◌, codes, Option, Some, None, option_and_then, option_map, Result, Ok, Err}
-use Rattle.ge_rows.specs.declared.tasks.TaskSpan.{TaskSpan}
+use Rattle.ge_limits.specs.Limits as limit
+use Rattle.ge_model_rows.specs.TaskRows.{TaskSpan}
 use Rattle.ge_model_value.specs.Pieces.{pieces_at, before_byte, behind_byte, has_byte, is_digits, number_of}
 use Rattle.ge_model_tasks.specs.declared.RangeFault.{RangeFault}
 use Rattle.ge_model_tasks.specs.declared.RangeFault.TheVariants.{Syntax, Limit}
@@ -27,7 +28,7 @@ range_up_to first rest =
     if has_byte 58 rest then range_of_texts first (before_byte 58 rest) (behind_byte 58 rest)
     else range_of_texts first rest (codes "1")
 
--- a range as qsub -t has it, n, n-m or n-m:s with n and s at least 1 and m at least n: the numbers as they are written, uncut
+-- a range as qsub -t has it, n, n-m or n-m:s with n and s at least 1 and m at least n, of any size
 abbrev pub range_of : List ℕ → Option TaskSpan
 range_of text =
     if has_byte 45 text then range_up_to (before_byte 45 text) (behind_byte 45 text)
@@ -47,10 +48,10 @@ range_set range = below_in (2 ^ 32) range
 
 -- the most tasks that a job may have, and the greatest number that one may have
 abbrev pub most_tasks : ℕ
-most_tasks = 75000
+most_tasks = limit.tasks
 
 abbrev pub greatest_task : ℕ
-greatest_task = 2 ^ 31 - 1
+greatest_task = limit.last_task
 
 -- whether a range has no more numbers than a job may have, and none that a task may not have
 abbrev pub is_within_limits : TaskSpan → Bool

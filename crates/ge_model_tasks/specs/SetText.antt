@@ -1,6 +1,6 @@
 -- Sets of task numbers as text.
 use Rattle.std.specs.Prelude.{ℕ, if◌then◌else◌, List, ◌++◌, map, decimal, codes}
-use Rattle.ge_rows.specs.declared.tasks.TaskSpan.{TaskSpan}
+use Rattle.ge_model_rows.specs.TaskRows.{TaskSpan}
 use Rattle.ge_model_value.specs.Pieces.{joined_by}
 use Rattle.ge_model_tasks.specs.Spans.{is_one}
 

@@ -1,6 +1,6 @@
 -- Spans of task numbers: their numbers, their parts, and the form of what they hold together.
 use Rattle.std.specs.Prelude.{ℕ, zero, suc, ◌+◌, ◌-◌, ◌*◌, ◌/◌, ◌%◌, ◌==◌, min, Bool, true, false, ◌&&◌, ◌||◌, if◌then◌else◌, nat_lt, nat_le, List, [], ◌∷◌}
-use Rattle.ge_rows.specs.declared.tasks.TaskSpan.{TaskSpan}
+use Rattle.ge_model_rows.specs.TaskRows.{TaskSpan}
 
 -- from a first number to a last one by a step, which is 1 where there is one number
 abbrev pub span_of : ℕ → ℕ → ℕ → TaskSpan

@@ -1,2 +1,3 @@
+pub mod FaultLaws
 mod Rows
 mod PieceRows

@@ -1,8 +1,8 @@
 -- Worked rows of refusals and of texts in pieces, each by computation.
 use Rattle.std.specs.Prelude.{◌≡◌, ◌^◌, [], ◌∷◌, ◌++◌, map, Some, None, true, false, replicate, length, codes, refl}
 use Rattle.ge_base.specs.declared.refusal.Refusal.TheVariants.{Syntax, TooLong, TimeBack, NoSuchObject, InUse, BadValue, Cycle, NoMemory}
-use Rattle.ge_model_value.specs.Faults.{when, first_fault}
-use Rattle.ge_model_value.specs.Pieces.{pieces_at, before_byte, behind_byte, has_byte, is_digits, number_of, trimmed, list_items, joined_by, list_text, is_one_of, each_once, each_number_once, lower_case}
+use Rattle.ge_model_value.specs.Faults.{when, first_fault, after_faults, sooner}
+use Rattle.ge_model_value.specs.Pieces.{pieces_at, before_byte, behind_byte, has_byte, is_digits, greatest_number, number_of, trimmed, list_items, joined_by, list_text, is_one_of, each_once, each_number_once, lower_case}
 
 -- refusals
 
@@ -17,6 +17,18 @@ doubles_change_nothing = refl
 
 no_condition_holds : first_fault (when false TimeBack) ≡ None
 no_condition_holds = refl
+
+found_before_stays : after_faults (Some NoSuchObject) (BadValue ∷ NoMemory ∷ []) ≡ Some NoSuchObject
+found_before_stays = refl
+
+found_before_is_overtaken : after_faults (Some InUse) (BadValue ∷ NoSuchObject ∷ []) ≡ Some NoSuchObject
+found_before_is_overtaken = refl
+
+sooner_of_two : map (sooner (Some InUse)) (None ∷ Some TooLong ∷ Some BadValue ∷ []) ≡ Some InUse ∷ Some TooLong ∷ Some InUse ∷ []
+sooner_of_two = refl
+
+nothing_is_never_sooner : map (sooner None) (None ∷ Some NoMemory ∷ []) ≡ None ∷ Some NoMemory ∷ []
+nothing_is_never_sooner = refl
 
 -- pieces
 
@@ -40,6 +52,12 @@ digits_alone = refl
 
 wide_number : number_of (codes "018446744073709551616") ≡ 2 ^ 64
 wide_number = refl
+
+greatest : number_of (codes "340282366920938463463374607431768211455") ≡ greatest_number
+greatest = refl
+
+past_the_greatest : number_of (codes "340282366920938463463374607431768211456") ≡ greatest_number
+past_the_greatest = refl
 
 blanks_at_the_ends : map trimmed (codes " a b\t " ∷ codes "  " ∷ codes "a" ∷ []) ≡ codes "a b" ∷ [] ∷ codes "a" ∷ []
 blanks_at_the_ends = refl

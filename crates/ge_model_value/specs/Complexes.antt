@@ -1,14 +1,8 @@
 -- The complexes: the opening table, and how they are looked up.
 use Rattle.std.specs.Prelude.{ℕ, Bool, true, false, ◌||◌, List, ◌++◌, find, Option, Some, None, codes}
 use Rattle.ge_collections.specs.Keyed.{text_eq, at_text}
-use Rattle.ge_rows.specs.declared.cluster.Cluster.{Cluster}
-use Rattle.ge_rows.specs.declared.values.ComplexDef.{ComplexDef}
-use Rattle.ge_rows.specs.declared.values.Consumable.{Consumable}
-use Rattle.ge_rows.specs.declared.values.Consumable.TheVariants as consumable
-use Rattle.ge_rows.specs.declared.values.Kind.{Kind}
-use Rattle.ge_rows.specs.declared.values.Kind.TheVariants as kind
-use Rattle.ge_rows.specs.declared.values.Value.{Value}
-use Rattle.ge_rows.specs.Opening.{opening_cluster, default_queue, default_sched}
+use Rattle.ge_model_rows.specs.ClusterRows.{Cluster, opening_cluster, default_queue, default_sched}
+use Rattle.ge_model_rows.specs.ValueRows.{Value, Kind, Consumable, ComplexDef}
 use Rattle.ge_model_value.specs.Values.{value_text}
 pub use Rattle.ge_rows.specs.OpeningComplexes.{time_limits, memory_limits}
 unfoldable pub use Rattle.ge_rows.specs.OpeningComplexes.{opening_complexes}
@@ -31,8 +25,9 @@ abbrev pub complex_named : Cluster → List ℕ → Option (List ℕ × ComplexD
 complex_named c word = elim (complex_at c word) [ Some row ↦ Some (word, row) | None ↦ complex_by_shortcut c word ]
 
 abbrev pub is_consumed : Consumable → Bool
-is_consumed consumable.No = false
-is_consumed consumable.Yes = true
+is_consumed Consumable.No = false
+is_consumed Consumable.Yes = true
+is_consumed Consumable.Job = true
 
 -- whether the table has a name as that of a consumable
 abbrev pub has_consumable : Option ComplexDef → Bool
@@ -45,7 +40,7 @@ is_consumable c name = text_eq name (codes "slots") || has_consumable (complex_a
 
 -- the kind under which a value of a name is printed: a name that is no complex has values by their form
 abbrev pub kind_for : Cluster → List ℕ → Kind
-kind_for c name = elim (complex_at c name) [ None ↦ kind.Int | Some complex ↦ complex.kind ]
+kind_for c name = elim (complex_at c name) [ None ↦ Kind.Int | Some complex ↦ complex.kind ]
 
 -- name=value
 abbrev pub pair_text : Cluster → List ℕ × Value → List ℕ

@@ -31,3 +31,12 @@ earlier_fault (Some first) refusal = if nat_lt (turn_of refusal) (turn_of first)
 -- of the refusals whose conditions hold, the one that answers: the first in the order of their codes, 12 before 11
 abbrev pub first_fault : List Refusal → Option Refusal
 first_fault faults = fold earlier_fault None faults
+
+-- the one that answers to these, where this one was found before them
+abbrev pub after_faults : Option Refusal → List Refusal → Option Refusal
+after_faults first faults = fold earlier_fault first faults
+
+-- of what answers to one part and what answers to another, the one that is tried first
+abbrev pub sooner : Option Refusal → Option Refusal → Option Refusal
+sooner first None = first
+sooner first (Some refusal) = earlier_fault first refusal

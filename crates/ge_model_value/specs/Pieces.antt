@@ -1,5 +1,5 @@
 -- Texts cut into pieces, and put together.
-use Rattle.std.specs.Prelude.{ℕ, ◌-◌, Bool, not, ◌&&◌, ◌==◌, if◌then◌else◌, List, [], ◌∷◌, ◌++◌, length, take, drop, map, filter, fold, flat_map, codes}
+use Rattle.std.specs.Prelude.{ℕ, ◌-◌, ◌^◌, min, Bool, not, ◌&&◌, ◌==◌, if◌then◌else◌, List, [], ◌∷◌, ◌++◌, length, take, drop, map, filter, fold, flat_map, codes}
 use Rattle.std.specs.List.{list_any, list_all, slice_split, before_first, after_first, prefix_len, suffix_len}
 use Rattle.std.specs.Char.{to_ascii_lowercase}
 use Rattle.ge_collections.specs.Keyed.{text_eq}
@@ -28,9 +28,13 @@ has_byte byte text = list_any (λ b. b == byte) text
 abbrev pub is_digits : List ℕ → Bool
 is_digits text = not (is_empty text) && list_all is_digit text
 
--- what digits are worth, uncut
+-- the greatest number that is read
+abbrev pub greatest_number : ℕ
+greatest_number = 2 ^ 128 - 1
+
+-- what digits are worth, cut at the greatest number
 abbrev pub number_of : List ℕ → ℕ
-number_of digits = number digits
+number_of digits = min (number digits) greatest_number
 
 -- a text without the blanks at its start
 abbrev pub without_first_blanks : List ℕ → List ℕ

@@ -2,13 +2,8 @@
 use Rattle.std.specs.Prelude.{ℕ, ◌==◌, Bool, false, not, nat_lt, nat_le, List}
 use Rattle.std.specs.Bool.{beq}
 use Rattle.ge_collections.specs.Keyed.{text_eq}
-use Rattle.ge_rows.specs.declared.values.ComplexDef.{ComplexDef}
-use Rattle.ge_rows.specs.declared.values.Kind.{Kind}
-use Rattle.ge_rows.specs.declared.values.Kind.TheVariants as kind
-use Rattle.ge_rows.specs.declared.values.Relop.{Relop}
-use Rattle.ge_rows.specs.declared.values.Relop.TheVariants.{Eq, Ne, Lt, Le, Gt, Ge}
-use Rattle.ge_rows.specs.declared.values.Value.{Value}
-use Rattle.ge_rows.specs.declared.values.Value.TheVariants.{Amount, Flag, Word}
+use Rattle.ge_model_rows.specs.ValueRows.{Value, Amount, Flag, Word, Kind, Relop, Eq, Ne, Lt, Le}
+use Rattle.ge_model_rows.specs.ValueRows.{Gt, Ge, ComplexDef}
 use Rattle.ge_model_text.specs.Pattern.{pattern_covers}
 use Rattle.ge_model_value.specs.Pieces.{lower_case}
 
@@ -29,9 +24,9 @@ sameness_holds _ same = false
 
 -- whether two words are the same for a kind: without regard to case, by the left one as a pattern, or byte by byte
 abbrev pub same_words : Kind → List ℕ → List ℕ → Bool
-same_words kind.CStr left right = text_eq (lower_case left) (lower_case right)
-same_words kind.Host left right = text_eq (lower_case left) (lower_case right)
-same_words kind.ReStr left right = pattern_covers left right
+same_words Kind.CStr left right = text_eq (lower_case left) (lower_case right)
+same_words Kind.Host left right = text_eq (lower_case left) (lower_case right)
+same_words Kind.ReStr left right = pattern_covers left right
 same_words _ left right = text_eq left right
 
 -- whether one value stands in a relation to another, as a kind compares them; values of different form never do

@@ -3,11 +3,7 @@ use Rattle.std.specs.Prelude.{ℕ, ◌+◌, ◌/◌, ◌%◌, ◌==◌, Bool, tr
 use Rattle.std.specs.Int.{is_in_range}
 use Rattle.std.specs.List.{list_all}
 use Rattle.ge_collections.specs.Keyed.{text_eq}
-use Rattle.ge_rows.specs.Opening.{infinity, million}
-use Rattle.ge_rows.specs.declared.values.Kind.{Kind}
-use Rattle.ge_rows.specs.declared.values.Kind.TheVariants as kind
-use Rattle.ge_rows.specs.declared.values.Value.{Value}
-use Rattle.ge_rows.specs.declared.values.Value.TheVariants.{Amount, Flag, Word}
+use Rattle.ge_model_rows.specs.ValueRows.{Value, Amount, Flag, Word, Kind, infinity, million}
 use Rattle.ge_model_text.specs.declared.Form.TheVariants as form
 use Rattle.ge_model_text.specs.declared.ValueFault.{ValueFault}
 use Rattle.ge_model_text.specs.Reading.{reading}
@@ -15,10 +11,10 @@ use Rattle.ge_model_value.specs.Pieces.{is_empty, lower_case}
 
 -- whether the values of a kind are amounts (complex, type)
 abbrev pub is_number_kind : Kind → Bool
-is_number_kind kind.Int = true
-is_number_kind kind.Time = true
-is_number_kind kind.Memory = true
-is_number_kind kind.Double = true
+is_number_kind Kind.Int = true
+is_number_kind Kind.Time = true
+is_number_kind Kind.Memory = true
+is_number_kind Kind.Double = true
 is_number_kind _ = false
 
 -- the amount that a reader gives, as a value
@@ -46,11 +42,11 @@ word_of text = if text_eq text (codes "NONE") then Some (Word []) else (if is_wo
 
 -- the value of a text of a kind, if it has one
 abbrev pub value_of : Kind → List ℕ → Option Value
-value_of kind.Int text = read_amount (reading form.Int text)
-value_of kind.Time text = read_amount (reading form.Time text)
-value_of kind.Memory text = read_amount (reading form.Memory text)
-value_of kind.Double text = read_amount (reading form.Fixed text)
-value_of kind.Bool text = flag_of text
+value_of Kind.Int text = read_amount (reading form.Int text)
+value_of Kind.Time text = read_amount (reading form.Time text)
+value_of Kind.Memory text = read_amount (reading form.Memory text)
+value_of Kind.Double text = read_amount (reading form.Fixed text)
+value_of Kind.Bool text = flag_of text
 value_of _ text = word_of text
 
 -- the amount that a value stands for where an amount is needed: 0 for a flag or a word
@@ -72,9 +68,9 @@ clock_text seconds = decimal (seconds / 3600) ++ codes ":" ++ decimal (seconds /
 
 -- an amount as a kind prints it
 abbrev pub amount_text : Kind → ℕ → List ℕ
-amount_text kind.Time amount = if amount == infinity then codes "INFINITY" else clock_text amount
-amount_text kind.Memory amount = if amount == infinity then codes "INFINITY" else decimal amount
-amount_text kind.Double amount = fixed_text amount
+amount_text Kind.Time amount = if amount == infinity then codes "INFINITY" else clock_text amount
+amount_text Kind.Memory amount = if amount == infinity then codes "INFINITY" else decimal amount
+amount_text Kind.Double amount = fixed_text amount
 amount_text _ amount = decimal amount
 
 abbrev pub flag_text : Bool → List ℕ

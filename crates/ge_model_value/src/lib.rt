@@ -2,7 +2,8 @@
 //!
 //! Definitions alone, without code.
 //!
-//! - `Faults`: refusals whose conditions hold, and the one of them that answers.
+//! - `Faults`: refusals whose conditions hold, and the one of them that answers; `proofs/FaultLaws` says that what answers
+//!   to a whole is the sooner of what answers to its parts.
 //! - `Pieces`: texts cut into pieces and put together, and lists as bodies have them.
 //! - `Values`: the values of texts, and the texts of values.
 //! - `Relops`: whether one value stands in a relation to another.
