@@ -1,8 +1,9 @@
 -- Tables by number: which keys they have after a row is put in, taken out, or left out.
-use Rattle.std.proofs.Common.{◌≡◌, ℕ, ◌+◌, ◌≤◌, ◌<◌, ◌==◌, ◌&&◌, ◌||◌, Bool, true, false, not, cond, List, [], ◌∷◌, filter, refl, sym, ap, ◌∙◌, arith, nat_cmp, Ordering, Less, Equal, Greater}
+use Rattle.std.proofs.Common.{◌≡◌, ℕ, ◌+◌, ◌≤◌, ◌<◌, ◌==◌, ◌&&◌, ◌||◌, Bool, true, false, not, cond, List, [], ◌∷◌, filter, find, Option, Some, None, is_some, refl, sym, ap, ◌∙◌, arith, nat_cmp, Ordering, Less, Equal, Greater}
+use Rattle.std.specs.BTreeMap.{is_at}
 use Rattle.std.specs.Ordering.{is_eq, match_ordering}
-use Rattle.std.proofs.lemmas.Bool.{eqb-true, true≢false}
-use Rattle.ge_collections.specs.Keyed.{put_number, drop_number}
+use Rattle.std.proofs.lemmas.Bool.{eqb-true, eq-eqb, ne_eqb, true≢false}
+use Rattle.ge_collections.specs.Keyed.{at_number, put_number, drop_number}
 use Rattle.ge_model_jobs.specs.Orderly.{has_key, KeysFrom}
 
 key_less : (x y : ℕ) → nat_cmp x y ≡ Less → x < y
@@ -19,6 +20,9 @@ swapped a b c = grind arith
 
 twice : (a b : Bool) → (a || b) ≡ (a || (a || b))
 twice a b = grind arith
+
+pub same_key : (n m : ℕ) → is_eq (nat_cmp n m) ≡ (n == m)
+same_key n m = grind arith
 
 module _ {X : Type 0} where
   pub keys_lower : (low high : ℕ) (rows : List (ℕ × X)) → low ≤ high → KeysFrom high rows → KeysFrom low rows
@@ -115,3 +119,28 @@ module _ {X : Type 0} where
       by : (fits : Bool) → KeysFrom (row.0 + 1) (filter test rows) → KeysFrom low (cond fits (row ∷ filter test rows) (filter test rows))
       by true again = (above, again)
       by false again = keys_lower low (row.0 + 1) (filter test rows) (omega arith) again
+
+  -- a table has a row under a key where one of its rows has the key
+  pub at_has : (n : ℕ) (rows : List (ℕ × X)) → is_some (at_number rows n) ≡ has_key n rows
+  at_has n [] = refl
+  at_has n (row ∷ rows) = by (is_at (nat_cmp n) row.0) (n == row.0) (same_key n row.0) (at_has n rows)
+    where
+      by : (at here : Bool) → at ≡ here → is_some (at_number rows n) ≡ has_key n rows → is_some (cond at (Some row.1) (at_number rows n)) ≡ (here || has_key n rows)
+      by true true same again = refl
+      by true false same again = absurd (grind arith)
+      by false true same again = absurd (grind arith)
+      by false false same again = again
+
+  -- what a search finds in a table of rising keys, and with it what the table has at its key
+  abbrev pub IfAt : ℕ → List (ℕ × X) → Option (ℕ × X) → Type 0
+  IfAt low rows None = Unit {0}
+  IfAt low rows (Some row) = (low ≤ row.0) × (at_number rows row.0 ≡ Some row.1)
+
+  pub found_at : (test : ℕ × X → Bool) (low : ℕ) (rows : List (ℕ × X)) → KeysFrom low rows → IfAt low rows (find test rows)
+  found_at test low [] keys = tt
+  found_at test low (row ∷ rows) (above, keys) = by (test row) (find test rows) (found_at test (row.0 + 1) rows keys)
+    where
+      by : (here : Bool) (later : Option (ℕ × X)) → IfAt (row.0 + 1) rows later → IfAt low (row ∷ rows) (cond here (Some row) later)
+      by true later again = (above, ap (λ at. cond at (Some row.1) (at_number rows row.0)) (same_key row.0 row.0 ∙ eq-eqb row.0 row.0 refl))
+      by false None again = tt
+      by false (Some other) (higher, there) = (omega arith, ap (λ at. cond at (Some row.1) (at_number rows other.0)) (same_key other.0 row.0 ∙ ne_eqb other.0 row.0 (λ h. omega (arith, h))) ∙ there)

@@ -4,3 +4,8 @@ mod UsageRows
 pub mod Keys
 pub mod Places
 pub mod Orderly
+pub mod HeldTasks
+mod BookedRows
+pub mod JoinedPicks
+pub mod WalkedSerials
+pub mod SetHolds

@@ -1,30 +1,27 @@
 -- An entry leaves all jobs orderly: their sets in the form, their running tasks by number, each task in one place.
-use Rattle.std.proofs.Common.{◌≡◌, ℕ, ◌≤◌, ◌==◌, ◌||◌, Bool, true, false, cond, if◌then◌else◌, List, [], ◌∷◌, ◌++◌, fold, find, Option, Some, None, refl, sym, ap, subst, arith, nat_cmp, Ordering, Less, Equal, Greater}
+use Rattle.std.proofs.Common.{◌≡◌, ℕ, ◌≤◌, ◌==◌, Bool, true, false, cond, if◌then◌else◌, List, [], ◌∷◌, ◌++◌, fold, Option, Some, None, refl, sym, subst, ◌∙◌, arith, nat_cmp, Ordering, Less, Equal, Greater}
+use Rattle.std.specs.Prelude.{IfSome}
 use Rattle.std.specs.BTreeMap.{is_at}
 use Rattle.std.specs.Ordering.{is_eq, match_ordering}
-use Rattle.std.proofs.lemmas.Bool.{eq-eqb}
 use Rattle.ge_collections.specs.Changed.{change_value}
 use Rattle.ge_collections.specs.Keyed.{at_number, put_number, drop_number}
-use Rattle.ge_rows.specs.declared.cluster.Cluster.{Cluster}
-use Rattle.ge_rows.specs.declared.entries.Change.{Change}
-use Rattle.ge_rows.specs.declared.entries.Change.TheVariants as change
-use Rattle.ge_rows.specs.declared.entries.Item.{Item}
-use Rattle.ge_rows.specs.declared.entries.Item.TheVariants as item
-use Rattle.ge_rows.specs.declared.entries.ObjectKind.{ObjectKind}
-use Rattle.ge_rows.specs.declared.entries.ObjectKind.TheVariants as kind
-use Rattle.ge_rows.specs.declared.entries.Patch.{Patch}
-use Rattle.ge_rows.specs.declared.entries.Pick.{Pick}
-use Rattle.ge_rows.specs.declared.jobs.Job.{Job}
-use Rattle.ge_rows.specs.declared.jobs.Running.{Running}
-use Rattle.ge_rows.specs.declared.scheduling.Start.{Start}
-use Rattle.ge_model_jobs.specs.Serials.{has_serial, running_with}
-use Rattle.ge_model_jobs.specs.Picks.{picks_of, picked_jobs}
+use Rattle.ge_model_rows.specs.ClusterRows.{Cluster}
+use Rattle.ge_model_rows.specs.EntryRows.{Change, Item, ObjectKind, Pick, Patch}
+use Rattle.ge_model_rows.specs.JobRows.{Job, Running}
+use Rattle.ge_model_rows.specs.ScheduleRows.{Start}
+use Rattle.ge_model_rows.specs.TaskRows.{TaskId, TaskSpan}
+use Rattle.ge_model_tasks.proofs.Together.{union_form}
+use Rattle.ge_model_jobs.specs.declared.After.{After}
+use Rattle.ge_model_jobs.specs.declared.After.TheVariants as after
+use Rattle.ge_model_jobs.specs.Serials.{running_with}
+use Rattle.ge_model_jobs.specs.Picks.{both_named, with_named, join_pick, joined_picks}
 use Rattle.ge_model_jobs.specs.Altering.{change_job, patched, alter_job, held, freed}
 use Rattle.ge_model_jobs.specs.Starting.{with_start, start_task}
-use Rattle.ge_model_jobs.specs.Ending.{has_no_task, keep_job, gone, again, in_error, after_exit, end_task, with_end, without_picked, forced_lines, delete_from, cleared, clear_pick}
+use Rattle.ge_model_jobs.specs.Ending.{has_no_task, lose_tasks, gone, again, moved, without_ended, runs_in, ended, after_exit, end_task, with_end, without_picked, forced_lines, delete_from, cleared, clear_from}
 use Rattle.ge_model_jobs.specs.Configuring.{with_item, without_item}
 use Rattle.ge_model_jobs.specs.Applying.{after_entry, changes_in_full}
 use Rattle.ge_model_jobs.specs.Orderly.{has_key, IsOrderly, AllOrderly}
+use Rattle.ge_model_jobs.proofs.Keys.{at_has}
 use Rattle.ge_model_jobs.proofs.Places.{IsPick, start_keeps, gone_keeps, again_keeps, in_error_keeps, deleted_keeps, cleared_keeps}
 
 -- ---- tables of jobs
@@ -57,12 +54,26 @@ drop_orderly (row ∷ rows) number (first, all) = by (nat_cmp number row.0) (dro
     by Equal again = all
     by Greater again = (first, again)
 
-keep_orderly : (jobs : List (ℕ × Job)) (number : ℕ) (job : Job) → IsOrderly job → AllOrderly jobs → AllOrderly (keep_job jobs number job)
-keep_orderly jobs number job one all = by (has_no_task job)
+-- the job under a number, if it is there, is changed
+at_orderly : (change : Job → Job) (number : ℕ) (jobs : List (ℕ × Job)) → IfSome (at_number jobs number) (λ job. IsOrderly (change job)) → AllOrderly jobs → AllOrderly (change_job change jobs number)
+at_orderly change number [] is all = tt
+at_orderly change number (row ∷ rows) is (first, all) = by (is_at (nat_cmp number) row.0) (λ later. at_orderly change number rows later all) is
   where
-    by : (none : Bool) → AllOrderly (if none then drop_number jobs number else put_number jobs number job)
-    by true = drop_orderly jobs number all
-    by false = put_orderly jobs number job one all
+    by : (here : Bool) → (IfSome (at_number rows number) (λ job. IsOrderly (change job)) → AllOrderly (change_job change rows number))
+        → IfSome (cond here (Some row.1) (at_number rows number)) (λ job. IsOrderly (change job)) → AllOrderly (cond here ((row.0, change row.1) ∷ rows) (row ∷ change_job change rows number))
+    by true again is = (is, all)
+    by false again is = (first, again is)
+
+lost_orderly : (change : Job → Job) (number : ℕ) (jobs : List (ℕ × Job)) → IfSome (at_number jobs number) (λ job. IsOrderly (change job)) → AllOrderly jobs → AllOrderly (lose_tasks change jobs number)
+lost_orderly change number jobs is all = by (at_number jobs number)
+  where
+    left : (none : Bool) → AllOrderly (if none then drop_number jobs number else change_job change jobs number)
+    left true = drop_orderly jobs number all
+    left false = at_orderly change number jobs is all
+
+    by : (found : Option Job) → AllOrderly (elim found as (λ x. List (ℕ × Job)) [ None ↦ jobs | Some job ↦ if has_no_task (change job) then drop_number jobs number else change_job change jobs number ])
+    by None = all
+    by (Some job) = left (has_no_task (change job))
 
 -- a job of a table, if it is there
 abbrev pub IfOrderly : Option Job → Type 0
@@ -115,136 +126,155 @@ abbrev pub ArePicks : List Pick → Type 0
 ArePicks [] = Unit {0}
 ArePicks (pick ∷ picks) = IsPick pick.tasks × ArePicks picks
 
-picks_fit : (number : ℕ) (picks : List Pick) → ArePicks picks → ArePicks (picks_of number picks)
-picks_fit number [] fit = tt
-picks_fit number (pick ∷ picks) (first, fit) = by (pick.job == number) (picks_fit number picks fit)
+pub both_fit : (first tasks : Option (List TaskSpan)) → IsPick first → IsPick tasks → IsPick (both_named first tasks)
+both_fit None tasks one two = tt
+both_fit (Some first) None one two = tt
+both_fit (Some first) (Some tasks) one two = union_form first tasks one two
+
+-- so are those of picks that are joined
+abbrev pub AreJoined : List (ℕ × Option (List TaskSpan)) → Type 0
+AreJoined [] = Unit {0}
+AreJoined (named ∷ rows) = IsPick named.1 × AreJoined rows
+
+abbrev pub IfJoined : Option (Option (List TaskSpan)) → Type 0
+IfJoined None = Unit {0}
+IfJoined (Some tasks) = IsPick tasks
+
+pub there_joined : (rows : List (ℕ × Option (List TaskSpan))) (number : ℕ) → AreJoined rows → IfJoined (at_number rows number)
+there_joined [] number all = tt
+there_joined (row ∷ rows) number (first, all) = by (is_at (nat_cmp number) row.0) (there_joined rows number all)
   where
-    by : (here : Bool) → ArePicks (picks_of number picks) → ArePicks (cond here (pick ∷ picks_of number picks) (picks_of number picks))
-    by true again = (first, again)
+    by : (here : Bool) → IfJoined (at_number rows number) → IfJoined (cond here (Some row.1) (at_number rows number))
+    by true again = first
     by false again = again
 
-without_orderly : (force : Bool) (job : Job) (picks : List Pick) → ArePicks picks → IsOrderly job → IsOrderly (fold (without_picked force) job picks)
-without_orderly force job [] fit one = one
-without_orderly force job (pick ∷ picks) (first, fit) one = without_orderly force (without_picked force job pick) picks fit (deleted_keeps force pick job first one).0
-
-delete_orderly : (moment : ℕ) (force : Bool) (picks : List Pick) (c : Cluster) (number : ℕ) → ArePicks picks → AllOrderly c.jobs → AllOrderly (delete_from moment force picks c number).jobs
-delete_orderly moment force picks c number fit all = by (at_number c.jobs number) (there_orderly c.jobs number all)
+pub put_joined : (rows : List (ℕ × Option (List TaskSpan))) (number : ℕ) (tasks : Option (List TaskSpan)) → IsPick tasks → AreJoined rows → AreJoined (put_number rows number tasks)
+put_joined [] number tasks one all = (one, tt)
+put_joined (row ∷ rows) number tasks one (first, all) = by (nat_cmp number row.0) (put_joined rows number tasks one all)
   where
-    by : (found : Option Job) → IfOrderly found
+    by : (order : Ordering) → AreJoined (put_number rows number tasks)
+        → AreJoined (match_ordering order ((number, tasks) ∷ row ∷ rows) ((row.0, tasks) ∷ rows) (row ∷ put_number rows number tasks))
+    by Less again = (one, (first, all))
+    by Equal again = (one, all)
+    by Greater again = (first, again)
+
+pub with_fit : (found : Option (Option (List TaskSpan))) (tasks : Option (List TaskSpan)) → IfJoined found → IsPick tasks → IsPick (with_named found tasks)
+with_fit None tasks one fit = fit
+with_fit (Some so_far) tasks one fit = both_fit so_far tasks one fit
+
+more_joined : (rows : List (ℕ × Option (List TaskSpan))) (picks : List Pick) → ArePicks picks → AreJoined rows → AreJoined (fold join_pick rows picks)
+more_joined rows [] fit all = all
+more_joined rows (pick ∷ picks) (first, fit) all =
+    more_joined (join_pick rows pick) picks fit (put_joined rows pick.job _ (with_fit (at_number rows pick.job) pick.tasks (there_joined rows pick.job all) first) all)
+
+pub picks_joined : (picks : List Pick) → ArePicks picks → AreJoined (joined_picks picks)
+picks_joined picks fit = more_joined [] picks fit tt
+
+-- a change of one job that keeps orderly ones so, where the job is there
+some_orderly : (change : Job → Job) → ((job : Job) → IsOrderly job → IsOrderly (change job)) → (found : Option Job) → IfOrderly found → IfSome found (λ job. IsOrderly (change job))
+some_orderly change keeps None is = tt
+some_orderly change keeps (Some job) is = keeps job is
+
+delete_orderly : (moment : ℕ) (force : Bool) (c : Cluster) (named : ℕ × Option (List TaskSpan)) → IsPick named.1 → AllOrderly c.jobs → AllOrderly (delete_from moment force c named).jobs
+delete_orderly moment force c named fit all = by (at_number c.jobs named.0)
+  where
+    by : (found : Option Job)
         → AllOrderly (elim found as (λ x. Cluster) [
           | None ↦ c
           | Some job ↦ record c {
-            jobs = keep_job c.jobs number (fold (without_picked force) job (picks_of number picks));
-            lines = c.lines ++ forced_lines moment force number job (picks_of number picks);
+            jobs = lose_tasks (without_picked force named.1) c.jobs named.0;
+            lines = c.lines ++ forced_lines moment force named.0 job named.1;
           }
         ]).jobs
-    by None is = all
-    by (Some job) is = keep_orderly c.jobs number _ (without_orderly force job (picks_of number picks) (picks_fit number picks fit) is) all
+    by None = all
+    by (Some job) =
+        lost_orderly (without_picked force named.1) named.0 c.jobs
+        (some_orderly (without_picked force named.1) (λ job one. (deleted_keeps force named.1 job fit one).0) (at_number c.jobs named.0) (there_orderly c.jobs named.0 all)) all
 
-deleted_orderly : (moment : ℕ) (force : Bool) (picks : List Pick) (c : Cluster) (numbers : List ℕ) → ArePicks picks → AllOrderly c.jobs
-    → AllOrderly (fold (delete_from moment force picks) c numbers).jobs
-deleted_orderly moment force picks c [] fit all = all
-deleted_orderly moment force picks c (n ∷ numbers) fit all =
-    deleted_orderly moment force picks (delete_from moment force picks c n) numbers fit (delete_orderly moment force picks c n fit all)
+deleted_orderly : (moment : ℕ) (force : Bool) (c : Cluster) (rows : List (ℕ × Option (List TaskSpan))) → AreJoined rows → AllOrderly c.jobs
+    → AllOrderly (fold (delete_from moment force) c rows).jobs
+deleted_orderly moment force c [] fit all = all
+deleted_orderly moment force c (named ∷ rows) (first, fit) all =
+    deleted_orderly moment force (delete_from moment force c named) rows fit (delete_orderly moment force c named first all)
 
-cleared_orderly : (jobs : List (ℕ × Job)) (picks : List Pick) → ArePicks picks → AllOrderly jobs → AllOrderly (fold clear_pick jobs picks)
+cleared_orderly : (jobs : List (ℕ × Job)) (rows : List (ℕ × Option (List TaskSpan))) → AreJoined rows → AllOrderly jobs → AllOrderly (fold clear_from jobs rows)
 cleared_orderly jobs [] fit all = all
-cleared_orderly jobs (pick ∷ picks) (first, fit) all =
-    cleared_orderly (clear_pick jobs pick) picks fit
-    (changed_orderly (is_at (nat_cmp pick.job)) (cleared pick.tasks) (λ job one. (cleared_keeps pick.tasks job first one).0) jobs all)
+cleared_orderly jobs (named ∷ rows) (first, fit) all =
+    cleared_orderly (clear_from jobs named) rows fit
+    (changed_orderly (is_at (nat_cmp named.0)) (cleared named.1) (λ job one. (cleared_keeps named.1 job first one).0) jobs all)
 
 -- ---- tasks that end
 
--- what a serial names is a running task of an orderly job
-abbrev pub IfRuns : Option (ℕ × Job × ℕ × Running) → Type 0
-IfRuns None = Unit {0}
-IfRuns (Some found) = IsOrderly found.1 × (has_key found.2 found.1.running ≡ true)
-
-IfKey : List (ℕ × Running) → Option (ℕ × Running) → Type 0
-IfKey running None = Unit {0}
-IfKey running (Some task) = has_key task.0 running ≡ true
-
-found_key : (serial : ℕ) (running : List (ℕ × Running)) → IfKey running (find (has_serial serial) running)
-unfolding IfKey
-found_key serial [] = tt
-found_key serial (task ∷ running) = by (has_serial serial task) (find (has_serial serial) running) (found_key serial running)
+exit_orderly : (end : After) (task : ℕ) (job : Job) → has_key task job.running ≡ true → IsOrderly job → IsOrderly (without_ended end task job)
+exit_orderly end task job runs one = by (task == 0) at_least end
   where
-    by : (here : Bool) (later : Option (ℕ × Running)) → IfKey running later → IfKey (task ∷ running) (cond here (Some task) later)
-    by true later again = ap (λ x. x || has_key task.0 running) (eq-eqb task.0 task.0 refl)
-    by false None again = tt
-    by false (Some other) again = or_second (other.0 == task.0) (has_key other.0 running) again
-      where
-        or_second : (u v : Bool) → v ≡ true → (u || v) ≡ true
-        or_second true v h = refl
-        or_second false v h = h
-
-pub runs_there : (jobs : List (ℕ × Job)) (serial : ℕ) → AllOrderly jobs → IfRuns (running_with jobs serial)
-unfolding IfKey
-runs_there [] serial all = tt
-runs_there (job ∷ jobs) serial (one, all) = by (find (has_serial serial) job.1.running) (found_key serial job.1.running) (runs_there jobs serial all)
-  where
-    by : (found : Option (ℕ × Running)) → IfKey job.1.running found → IfRuns (running_with jobs serial)
-        → IfRuns (elim found [ Some task ↦ Some (job.0, job.1, task.0, task.1) | None ↦ running_with jobs serial ])
-    by None is again = again
-    by (Some task) is again = (one, is)
-
-exit_orderly : (exit task : ℕ) (running : Running) (job : Job) → has_key task job.running ≡ true → IsOrderly job → IsOrderly (after_exit exit task running job)
-exit_orderly exit task running job runs one = by (running.deleting || task == 0) (exit == 99) (exit == 100) at_least
-  where
-    at_least : (running.deleting || task == 0) ≡ false → 1 ≤ task
+    at_least : (task == 0) ≡ false → 1 ≤ task
     at_least h = grind arith
 
-    by : (gone_now waits fails : Bool) → (gone_now ≡ false → 1 ≤ task)
-        → IsOrderly (if gone_now then gone task job else (if waits then again task job else (if fails then in_error task job else gone task job)))
-    by true waits fails h = (gone_keeps task job one).0
-    by false true fails h = (again_keeps task job (h refl) runs one).0
-    by false false true h = (in_error_keeps task job (h refl) runs one).0
-    by false false false h = (gone_keeps task job one).0
+    by : (none : Bool) → (none ≡ false → 1 ≤ task) → (end : After) → IsOrderly (if none then gone task job else moved end task job)
+    by true h end = (gone_keeps task job one).0
+    by false h after.Gone = (gone_keeps task job one).0
+    by false h after.Again = (again_keeps task job (h refl) runs one).0
+    by false h after.Broken = (in_error_keeps task job (h refl) runs one).0
+
+-- a task of a table ends
+end_orderly : (jobs : List (ℕ × Job)) (id : TaskId) (after : After) → AllOrderly jobs → AllOrderly (ended jobs id after)
+end_orderly jobs id after all = by (runs_in (at_number jobs id.job) id.task) refl
+  where
+    there : (found : Option Job) → IfOrderly found → runs_in found id.task ≡ true → IfSome found (λ job. IsOrderly (without_ended after id.task job))
+    there None one runs = tt
+    there (Some job) one runs = exit_orderly after id.task job (sym (at_has id.task job.running) ∙ runs) one
+
+    by : (runs : Bool) → runs_in (at_number jobs id.job) id.task ≡ runs → AllOrderly (if runs then lose_tasks (without_ended after id.task) jobs id.job else jobs)
+    by true runs = lost_orderly (without_ended after id.task) id.job jobs (there (at_number jobs id.job) (there_orderly jobs id.job all) runs) all
+    by false runs = all
 
 ended_orderly : (moment : ℕ) (c : Cluster) (serial exit cpu mem io : ℕ) → AllOrderly c.jobs → AllOrderly (with_end moment c serial exit cpu mem io).jobs
 unfolding with_end
-ended_orderly moment c serial exit cpu mem io all = by (running_with c.jobs serial) (runs_there c.jobs serial all)
+ended_orderly moment c serial exit cpu mem io all = by (running_with c.jobs serial)
   where
-    by : (found : Option (ℕ × Job × ℕ × Running)) → IfRuns found
+    by : (found : Option (ℕ × Job × ℕ × Running))
         → AllOrderly (elim found as (λ x. Cluster) [
           | None ↦ c
           | Some found ↦ end_task moment c found.0 found.1 found.2 found.3 (record { failed = 0; exit = exit; cpu = cpu; mem = mem; io = io })
         ]).jobs
-    by None is = all
-    by (Some found) is = keep_orderly c.jobs found.0 _ (exit_orderly exit found.2 found.3 found.1 is.1 is.0) all
+    by None = all
+    by (Some found) = end_orderly c.jobs (record { job = found.0; task = found.2 }) (after_exit exit found.3) all
 
 -- ---- what is configured
 
 pub item_jobs : (moment : ℕ) (c : Cluster) (object : Item) → (with_item moment c object).jobs ≡ c.jobs
 unfolding with_item
-item_jobs moment c (item.Complexes rows) = refl
+item_jobs moment c (Item.Complexes rows) = refl
 item_jobs moment c _ = refl
 
 pub dropped_jobs : (c : Cluster) (sort : ObjectKind) (name : List ℕ) → (without_item c sort name).jobs ≡ c.jobs
 unfolding without_item
-dropped_jobs c kind.Complexes name = refl
+dropped_jobs c ObjectKind.Complexes name = refl
 dropped_jobs c _ name = refl
 
 -- ---- an entry
 
 -- what a change brings is in the form
 abbrev pub Brings : Change → Type 0
-Brings (change.Submit job) = IsOrderly job
-Brings (change.Delete picks force) = ArePicks picks
-Brings (change.Clear picks) = ArePicks picks
+Brings (Change.Submit job) = IsOrderly job
+Brings (Change.Delete picks force) = ArePicks picks
+Brings (Change.Clear picks) = ArePicks picks
 Brings other = Unit {0}
 
 -- after an entry all jobs are orderly
 pub orderly_after : (c : Cluster) (moment : ℕ) (what : Change) → Brings what → AllOrderly c.jobs → AllOrderly (after_entry c (record { moment = moment; change = what })).jobs
 unfolding changes_in_full
-orderly_after c moment (change.Submit job) brings all = put_orderly c.jobs job.number job brings all
-orderly_after c moment (change.Alter altered) brings all = altered_orderly c.jobs altered all
-orderly_after c moment (change.Hold numbers bits) brings all = held_orderly c.jobs numbers bits all
-orderly_after c moment (change.Release numbers bits) brings all = freed_orderly c.jobs numbers bits all
-orderly_after c moment (change.Delete picks force) brings all = deleted_orderly moment force picks c (picked_jobs picks) brings all
-orderly_after c moment (change.Clear picks) brings all = cleared_orderly c.jobs picks brings all
-orderly_after c moment (change.Put object) brings all = subst AllOrderly (sym (item_jobs moment c object)) all
-orderly_after c moment (change.Drop key) brings all = subst AllOrderly (sym (dropped_jobs c key.kind key.name)) all
-orderly_after c moment (change.Load host report) brings all = all
-orderly_after c moment (change.End serial exit cpu mem io) brings all = ended_orderly moment c serial exit cpu mem io all
-orderly_after c moment (change.Run starts) brings all = started_orderly moment c.jobs starts all
+orderly_after c moment (Change.Submit job) brings all = put_orderly c.jobs job.number job brings all
+orderly_after c moment (Change.Alter altered) brings all = altered_orderly c.jobs altered all
+orderly_after c moment (Change.Hold numbers bits) brings all = held_orderly c.jobs numbers bits all
+orderly_after c moment (Change.Release numbers bits) brings all = freed_orderly c.jobs numbers bits all
+orderly_after c moment (Change.Delete picks force) brings all = deleted_orderly moment force c (joined_picks picks) (picks_joined picks brings) all
+orderly_after c moment (Change.Clear picks) brings all = cleared_orderly c.jobs (joined_picks picks) (picks_joined picks brings) all
+orderly_after c moment (Change.Put object) brings all = subst AllOrderly (sym (item_jobs moment c object)) all
+orderly_after c moment (Change.Drop key) brings all = subst AllOrderly (sym (dropped_jobs c key.kind key.name)) all
+orderly_after c moment (Change.Load host report) brings all = all
+orderly_after c moment (Change.End serial exit cpu mem io) brings all = ended_orderly moment c serial exit cpu mem io all
+orderly_after c moment (Change.Run starts) brings all = started_orderly moment c.jobs starts all
+orderly_after c moment (Change.Book advance) brings all = all
+orderly_after c moment (Change.Unbook numbers) brings all = all

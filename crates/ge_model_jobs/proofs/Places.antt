@@ -2,12 +2,9 @@
 use Rattle.std.proofs.Common.{◌≡◌, ℕ, ◌+◌, ◌≤◌, ◌==◌, ◌&&◌, ◌||◌, Bool, true, false, not, if◌then◌else◌, List, [], ◌∷◌, map, Option, Some, None, refl, ap, ◌∙◌, arith}
 use Rattle.std.proofs.lemmas.Bool.{eqb-true}
 use Rattle.ge_collections.specs.Keyed.{put_number}
-use Rattle.ge_rows.specs.TaskSet.{is_form}
-use Rattle.ge_rows.specs.declared.entries.Pick.{Pick}
-use Rattle.ge_rows.specs.declared.jobs.Job.{Job}
-use Rattle.ge_rows.specs.declared.jobs.Running.{Running}
-use Rattle.ge_rows.specs.declared.scheduling.Start.{Start}
-use Rattle.ge_rows.specs.declared.tasks.TaskSpan.{TaskSpan}
+use Rattle.ge_model_rows.specs.JobRows.{Job, Running}
+use Rattle.ge_model_rows.specs.ScheduleRows.{Start}
+use Rattle.ge_model_rows.specs.TaskRows.{TaskSpan, is_form}
 use Rattle.ge_model_tasks.specs.Sets.{has_number, without_number}
 use Rattle.ge_model_tasks.proofs.Sets.{form_rises, with_number_form, with_number_has, without_number_form, without_number_has}
 use Rattle.ge_model_tasks.proofs.Merged.{above_low}
@@ -119,7 +116,7 @@ pub named_form : (tasks : Option (List TaskSpan)) (set : List TaskSpan) → IsPi
 named_form None set pick form = form
 named_form (Some tasks) set pick form = meet_form set tasks form pick
 
-unnamed_form : (tasks : Option (List TaskSpan)) (set : List TaskSpan) → IsPick tasks → is_form set ≡ true → is_form (unnamed_in tasks set) ≡ true
+pub unnamed_form : (tasks : Option (List TaskSpan)) (set : List TaskSpan) → IsPick tasks → is_form set ≡ true → is_form (unnamed_in tasks set) ≡ true
 unnamed_form None set pick form = refl
 unnamed_form (Some tasks) set pick form = difference_form set tasks form pick
 
@@ -150,19 +147,19 @@ marked_rises low tasks [] keys = tt
 marked_rises low tasks (task ∷ running) (above, keys) = (above, marked_rises (task.0 + 1) tasks running keys)
 
 -- tasks are deleted
-pub deleted_keeps : (force : Bool) (pick : Pick) (job : Job) → IsPick pick.tasks → IsOrderly job → Keeps job (without_picked force job pick)
-deleted_keeps true pick job is orderly =
-    kept_by job (without_picked true job pick) (unnamed_form pick.tasks job.queued is orderly.waiting) (unnamed_form pick.tasks job.broken is orderly.broken)
-    (filter_rises 0 (is_unnamed pick.tasks) job.running orderly.keys)
-    (λ t. fits_by (unnamed_has t pick.tasks job.queued is orderly.waiting) (unnamed_has t pick.tasks job.broken is orderly.broken)
-    (filter_keys t (λ n. not (names_task pick.tasks n)) job.running)
-    (deleted_all (names_task pick.tasks t) (has_number t job.queued) (has_number t job.broken) (has_key t job.running) (orderly.places t)))
-deleted_keeps false pick job is orderly =
-    kept_by job (without_picked false job pick) (unnamed_form pick.tasks job.queued is orderly.waiting) (unnamed_form pick.tasks job.broken is orderly.broken)
-    (marked_rises 0 pick.tasks job.running orderly.keys)
-    (λ t. fits_by (unnamed_has t pick.tasks job.queued is orderly.waiting) (unnamed_has t pick.tasks job.broken is orderly.broken)
-    (marked_keys t pick.tasks job.running)
-    (deleted (names_task pick.tasks t) (has_number t job.queued) (has_number t job.broken) (has_key t job.running) (orderly.places t)))
+pub deleted_keeps : (force : Bool) (tasks : Option (List TaskSpan)) (job : Job) → IsPick tasks → IsOrderly job → Keeps job (without_picked force tasks job)
+deleted_keeps true tasks job is orderly =
+    kept_by job (without_picked true tasks job) (unnamed_form tasks job.queued is orderly.waiting) (unnamed_form tasks job.broken is orderly.broken)
+    (filter_rises 0 (is_unnamed tasks) job.running orderly.keys)
+    (λ t. fits_by (unnamed_has t tasks job.queued is orderly.waiting) (unnamed_has t tasks job.broken is orderly.broken)
+    (filter_keys t (λ n. not (names_task tasks n)) job.running)
+    (deleted_all (names_task tasks t) (has_number t job.queued) (has_number t job.broken) (has_key t job.running) (orderly.places t)))
+deleted_keeps false tasks job is orderly =
+    kept_by job (without_picked false tasks job) (unnamed_form tasks job.queued is orderly.waiting) (unnamed_form tasks job.broken is orderly.broken)
+    (marked_rises 0 tasks job.running orderly.keys)
+    (λ t. fits_by (unnamed_has t tasks job.queued is orderly.waiting) (unnamed_has t tasks job.broken is orderly.broken)
+    (marked_keys t tasks job.running)
+    (deleted (names_task tasks t) (has_number t job.queued) (has_number t job.broken) (has_key t job.running) (orderly.places t)))
 
 -- tasks in error wait again
 pub cleared_keeps : (tasks : Option (List TaskSpan)) (job : Job) → IsPick tasks → IsOrderly job → Keeps job (cleared tasks job)

@@ -1,9 +1,9 @@
 -- Worked rows: eligible tasks, running tasks by serial, and what entries make of jobs.
 use Rattle.std.specs.Prelude.{◌≡◌, ◌^◌, ◌-◌, true, false, fold, codes, pos, List, [], ◌∷◌, Some, None, refl}
-use Rattle.ge_rows.specs.Opening.{opening_cluster, default_sched}
-use Rattle.ge_rows.specs.declared.entries.Change.TheVariants.{Submit, Alter, Hold, Release, Delete, Clear, End, Run}
-use Rattle.ge_rows.specs.declared.entries.Entry.{Entry}
-use Rattle.ge_rows.specs.declared.jobs.Job.{Job}
+use Rattle.ge_model_rows.specs.ClusterRows.{opening_cluster, default_sched}
+use Rattle.ge_model_rows.specs.EntryRows.{Entry, Submit, Alter, Hold, Release, Delete, Clear, End}
+use Rattle.ge_model_rows.specs.EntryRows.{Run}
+use Rattle.ge_model_rows.specs.JobRows.{Job}
 use Rattle.ge_model_jobs.specs.Holds.{is_live_task, live_tasks, holds_of, eligible_tasks}
 use Rattle.ge_model_jobs.specs.Picks.{picked}
 use Rattle.ge_model_jobs.specs.Serials.{running_with}

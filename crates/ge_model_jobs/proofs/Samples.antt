@@ -1,16 +1,11 @@
 -- Jobs, tasks and clusters for the worked rows.
 use Rattle.std.specs.Prelude.{ℕ, true, false, codes, pos, List, [], ◌∷◌, None}
-use Rattle.ge_rows.specs.Opening.{opening_cluster, default_queue, default_sched}
-use Rattle.ge_rows.specs.declared.accounts.Line.{Line}
-use Rattle.ge_rows.specs.declared.cluster.Cluster.{Cluster}
-use Rattle.ge_rows.specs.declared.entries.Change.{Change}
-use Rattle.ge_rows.specs.declared.entries.Entry.{Entry}
-use Rattle.ge_rows.specs.declared.entries.Patch.{Patch}
-use Rattle.ge_rows.specs.declared.jobs.Grant.{Grant}
-use Rattle.ge_rows.specs.declared.jobs.Job.{Job}
-use Rattle.ge_rows.specs.declared.jobs.Running.{Running}
-use Rattle.ge_rows.specs.declared.scheduling.Start.{Start}
-use Rattle.ge_rows.specs.declared.tasks.TaskSpan.{TaskSpan}
+use Rattle.ge_model_rows.specs.AccountRows.{Line}
+use Rattle.ge_model_rows.specs.ClusterRows.{Cluster, opening_cluster, default_queue, default_sched}
+use Rattle.ge_model_rows.specs.EntryRows.{Entry, Change, Patch}
+use Rattle.ge_model_rows.specs.JobRows.{Job, Running, Grant}
+use Rattle.ge_model_rows.specs.ScheduleRows.{Start}
+use Rattle.ge_model_rows.specs.TaskRows.{TaskSpan}
 
 abbrev pub span : ℕ → ℕ → ℕ → TaskSpan
 span first last step = record { first = first; last = last; step = step }
@@ -42,6 +37,7 @@ array_job number range = record {
   oticket = 0;
   words = codes "x" ∷ [];
   script = [];
+  advance = 0;
 }
 
 -- the same as no array

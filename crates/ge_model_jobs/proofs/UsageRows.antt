@@ -1,14 +1,10 @@
 -- Worked rows: usage and its decay, and what entries make of what is configured.
 use Rattle.std.specs.Prelude.{◌≡◌, ℕ, ◌^◌, ◌-◌, true, codes, List, [], ◌∷◌, refl}
-use Rattle.ge_rows.specs.Opening.{opening_cluster, default_queue, default_sched}
-use Rattle.ge_rows.specs.declared.cluster.Cluster.{Cluster}
-use Rattle.ge_rows.specs.declared.entries.Change.TheVariants.{Put, Drop, Load}
-use Rattle.ge_rows.specs.declared.entries.Item.TheVariants as item
-use Rattle.ge_rows.specs.declared.entries.ObjectKind.TheVariants as kind
-use Rattle.ge_rows.specs.declared.hosts.HostRow.{HostRow}
-use Rattle.ge_rows.specs.declared.settings.Sched.{Sched}
-use Rattle.ge_rows.specs.declared.values.Value.{Value}
-use Rattle.ge_rows.specs.declared.values.Value.TheVariants.{Amount, Flag}
+use Rattle.ge_model_rows.specs.ClusterRows.{Cluster, opening_cluster, default_queue, default_sched}
+use Rattle.ge_model_rows.specs.EntryRows.{Put, Drop, Load, Item, ObjectKind}
+use Rattle.ge_model_rows.specs.HostRows.{HostRow}
+use Rattle.ge_model_rows.specs.SettingRows.{Sched}
+use Rattle.ge_model_rows.specs.ValueRows.{Value, Amount, Flag}
 use Rattle.ge_model_jobs.specs.Usage.{UsageKey, epoch_of, decayed, usage_at, usage_of}
 use Rattle.ge_model_jobs.specs.Applying.{after_entry, changes_in_full}
 use Rattle.ge_model_jobs.proofs.Samples.{cluster, at}
@@ -61,12 +57,12 @@ unfolding default_sched
 most_usage = refl
 
 -- another halftime: each row as it counts now, in one epoch of the new one
-halftime_changes : after_entry (used (row (codes "ann") 0 1001 ∷ row (codes "ann") 1 7 ∷ row (codes "bob") 2 5 ∷ [])) (at 7200 (Put (item.Sched (halved_each 2))))
+halftime_changes : after_entry (used (row (codes "ann") 0 1001 ∷ row (codes "ann") 1 7 ∷ row (codes "bob") 2 5 ∷ [])) (at 7200 (Put (Item.Sched (halved_each 2))))
     ≡ record (used (row (codes "ann") 1 253 ∷ row (codes "bob") 1 5 ∷ [])) { last = 7200; sched = halved_each 2 }
 unfolding changes_in_full used cluster default_sched
 halftime_changes = refl
 
-halftime_stays : after_entry (used (row (codes "ann") 0 1001 ∷ [])) (at 7200 (Put (item.Sched (record (halved_each 1) { max_pending = 3 }))))
+halftime_stays : after_entry (used (row (codes "ann") 0 1001 ∷ [])) (at 7200 (Put (Item.Sched (record (halved_each 1) { max_pending = 3 }))))
     ≡ record (used (row (codes "ann") 0 1001 ∷ [])) { last = 7200; sched = record (halved_each 1) { max_pending = 3 } }
 unfolding changes_in_full used cluster default_sched
 halftime_stays = refl
@@ -80,7 +76,7 @@ abbrev hosts : HostRow → List (List ℕ × HostRow)
 hosts local = (codes "global", host [] []) ∷ (codes "local", local) ∷ []
 
 -- a host keeps its load
-host_put : after_entry (record (cluster []) { hosts = hosts (host [] ((codes "a", Amount 1) ∷ [])) }) (at 1 (Put (item.Host (codes "local") ((codes "b", Flag true) ∷ []))))
+host_put : after_entry (record (cluster []) { hosts = hosts (host [] ((codes "a", Amount 1) ∷ [])) }) (at 1 (Put (Item.Host (codes "local") ((codes "b", Flag true) ∷ []))))
     ≡ record (cluster []) { last = 1; hosts = hosts (host ((codes "b", Flag true) ∷ []) ((codes "a", Amount 1) ∷ [])) }
 unfolding changes_in_full cluster
 host_put = refl
@@ -97,15 +93,15 @@ unfolding changes_in_full cluster
 load_of_nobody = refl
 
 -- a name leaves wherever it stands
-operator_dropped : after_entry (record (cluster []) { operators = codes "bob" ∷ codes "ann" ∷ codes "bob" ∷ [] }) (at 1 (Drop (record { kind = kind.Operators; name = codes "bob" })))
+operator_dropped : after_entry (record (cluster []) { operators = codes "bob" ∷ codes "ann" ∷ codes "bob" ∷ [] }) (at 1 (Drop (record { kind = ObjectKind.Operators; name = codes "bob" })))
     ≡ record (cluster []) { last = 1; operators = codes "ann" ∷ [] }
 unfolding changes_in_full cluster
 operator_dropped = refl
 
-queue_dropped : after_entry (cluster []) (at 1 (Drop (record { kind = kind.Queue; name = codes "all.q" }))) ≡ record (cluster []) { last = 1; queues = [] }
+queue_dropped : after_entry (cluster []) (at 1 (Drop (record { kind = ObjectKind.Queue; name = codes "all.q" }))) ≡ record (cluster []) { last = 1; queues = [] }
 unfolding changes_in_full cluster opening_cluster default_queue default_sched
 queue_dropped = refl
 
-settings_stay : after_entry (cluster []) (at 1 (Drop (record { kind = kind.Sched; name = [] }))) ≡ record (cluster []) { last = 1 }
+settings_stay : after_entry (cluster []) (at 1 (Drop (record { kind = ObjectKind.Sched; name = [] }))) ≡ record (cluster []) { last = 1 }
 unfolding changes_in_full cluster
 settings_stay = refl

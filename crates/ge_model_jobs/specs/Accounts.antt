@@ -1,11 +1,8 @@
 -- The accounting line of a task that ends: accounting.
 use Rattle.std.specs.Prelude.{ℕ, ◌+◌, ◌-◌, ◌^◌, min, if◌then◌else◌, List, [], ◌∷◌, fold, Option, Some, None}
-use Rattle.ge_rows.specs.declared.accounts.Line.{Line}
-use Rattle.ge_rows.specs.declared.hosts.InstanceId.{InstanceId}
-use Rattle.ge_rows.specs.declared.jobs.Grant.{Grant}
-use Rattle.ge_rows.specs.declared.jobs.Job.{Job}
-use Rattle.ge_rows.specs.declared.jobs.PeRequest.{PeRequest}
-use Rattle.ge_rows.specs.declared.jobs.Running.{Running}
+use Rattle.ge_model_rows.specs.AccountRows.{Line}
+use Rattle.ge_model_rows.specs.HostRows.{InstanceId}
+use Rattle.ge_model_rows.specs.JobRows.{Job, PeRequest, Running, Grant}
 
 -- the instance of the first grant, whose host runs the task; empty names without a grant
 abbrev pub first_instance : List Grant → InstanceId

@@ -5,9 +5,9 @@ use Rattle.std.specs.Option.{unwrap_or}
 use Rattle.std.specs.Ordering.{nat_cmp}
 use Rattle.ge_collections.specs.Changed.{change_value}
 use Rattle.ge_collections.specs.Keyed.{put_number}
-use Rattle.ge_rows.specs.declared.cluster.Cluster.{Cluster}
-use Rattle.ge_rows.specs.declared.entries.Patch.{Patch}
-use Rattle.ge_rows.specs.declared.jobs.Job.{Job}
+use Rattle.ge_model_rows.specs.ClusterRows.{Cluster}
+use Rattle.ge_model_rows.specs.EntryRows.{Patch}
+use Rattle.ge_model_rows.specs.JobRows.{Job}
 
 -- a job changed where it stands; one that isn't there changes nothing
 abbrev pub change_job : (Job → Job) → List (ℕ × Job) → ℕ → List (ℕ × Job)
@@ -17,9 +17,13 @@ change_job change jobs number = change_value (is_at (nat_cmp number)) change job
 abbrev pub number_after : ℕ → ℕ
 number_after number = min (number + 1) (2 ^ 32 - 1)
 
--- a job is submitted: it stands under its number, and the next job has the number after it
+-- a job stands under its number
+abbrev pub submitted : List (ℕ × Job) → Job → List (ℕ × Job)
+submitted jobs job = put_number jobs job.number job
+
+-- a job is submitted, and the next job has the number after it
 unfoldable pub with_job : Cluster → Job → Cluster
-with_job c job = record c { jobs = put_number c.jobs job.number job; next_job = number_after job.number }
+with_job c job = record c { jobs = submitted c.jobs job; next_job = number_after job.number }
 
 -- a job with what a patch gives; the rest stays
 abbrev pub patched : Patch → Job → Job
@@ -46,7 +50,14 @@ alter_job jobs altered = change_job (patched altered.1) jobs altered.0
 unfoldable pub with_altered : Cluster → List (ℕ × Patch) → Cluster
 with_altered c altered = record c { jobs = fold alter_job c.jobs altered }
 
--- a job with hold bits set, and without them
+-- a job with these hold bits and no others, where it is there
+abbrev pub with_hold : ℕ → Job → Job
+with_hold bits job = record job { hold = bits }
+
+abbrev pub hold_set : List (ℕ × Job) → ℕ → ℕ → List (ℕ × Job)
+hold_set jobs number bits = change_job (with_hold bits) jobs number
+
+-- a job with hold bits more, and without them
 abbrev pub held : ℕ → Job → Job
 held bits job = record job { hold = bit_or job.hold bits }
 

@@ -1,9 +1,9 @@
 -- Tables by rising number, and each task in one place: what every entry keeps of the jobs of a cluster.
 use Rattle.std.specs.Prelude.{◌≡◌, ℕ, ◌+◌, ◌≤◌, ◌==◌, ◌&&◌, Bool, true, not, List, [], ◌∷◌}
 use Rattle.std.specs.List.{list_any}
-use Rattle.ge_rows.specs.TaskSet.{is_form}
-use Rattle.ge_rows.specs.declared.cluster.Cluster.{Cluster}
-use Rattle.ge_rows.specs.declared.jobs.Job.{Job}
+use Rattle.ge_model_rows.specs.ClusterRows.{Cluster}
+use Rattle.ge_model_rows.specs.JobRows.{Job}
+use Rattle.ge_model_rows.specs.TaskRows.{is_form}
 use Rattle.ge_model_tasks.specs.Sets.{has_number}
 
 -- whether a table has a key
@@ -31,7 +31,8 @@ abbrev pub AllOrderly : List (ℕ × Job) → Type 0
 AllOrderly [] = Unit {0}
 AllOrderly (row ∷ rows) = IsOrderly row.1 × AllOrderly rows
 
--- the jobs of a cluster stand by number, and each is orderly
+-- the jobs of a cluster stand by number, and each is orderly; its advance reservations stand by number
 pub record IsOrdered (c : Cluster) : Type 0 where
   pub numbers : KeysFrom 0 c.jobs
   pub jobs : AllOrderly c.jobs
+  pub advances : KeysFrom 0 c.advances

@@ -1,10 +1,10 @@
 -- The tasks that a target names: qdel, qmod.
-use Rattle.std.specs.Prelude.{ℕ, ◌==◌, Bool, true, List, [], map, filter, fold, Option, Some, None}
-use Rattle.ge_collections.specs.Keyed.{put_number}
-use Rattle.ge_rows.specs.declared.entries.Pick.{Pick}
-use Rattle.ge_rows.specs.declared.jobs.Job.{Job}
-use Rattle.ge_rows.specs.declared.tasks.TaskSpan.{TaskSpan}
-use Rattle.ge_model_tasks.specs.Sets.{has_number, meet, difference}
+use Rattle.std.specs.Prelude.{ℕ, Bool, true, List, [], fold, Option, Some, None}
+use Rattle.ge_collections.specs.Keyed.{at_number, put_number}
+use Rattle.ge_model_rows.specs.EntryRows.{Pick}
+use Rattle.ge_model_rows.specs.JobRows.{Job}
+use Rattle.ge_model_rows.specs.TaskRows.{TaskSpan}
+use Rattle.ge_model_tasks.specs.Sets.{has_number, union, meet, difference}
 use Rattle.ge_model_jobs.specs.Holds.{live_tasks}
 
 -- whether a pick's tasks, all where it names none, have a number
@@ -25,10 +25,20 @@ unnamed_in (Some tasks) set = difference set tasks
 abbrev pub picked : Job → Option (List TaskSpan) → List TaskSpan
 picked job tasks = named_in tasks (live_tasks job)
 
--- the jobs that picks name, by number
-abbrev pub picked_jobs : List Pick → List ℕ
-picked_jobs picks = map (λ row. row.0) (fold (λ rows pick. put_number {X = Unit {0}} rows pick.job tt) [] picks)
+-- what two picks of one job name together: all, where one of them names all
+abbrev pub both_named : Option (List TaskSpan) → Option (List TaskSpan) → Option (List TaskSpan)
+both_named None tasks = None
+both_named (Some first) None = None
+both_named (Some first) (Some tasks) = Some (union first tasks)
 
--- the picks of one job
-abbrev pub picks_of : ℕ → List Pick → List Pick
-picks_of number picks = filter (λ pick. pick.job == number) picks
+-- what the picks of a job name, if there were some, with one more
+abbrev pub with_named : Option (Option (List TaskSpan)) → Option (List TaskSpan) → Option (List TaskSpan)
+with_named None tasks = tasks
+with_named (Some so_far) tasks = both_named so_far tasks
+
+abbrev pub join_pick : List (ℕ × Option (List TaskSpan)) → Pick → List (ℕ × Option (List TaskSpan))
+join_pick rows pick = put_number rows pick.job (with_named (at_number rows pick.job) pick.tasks)
+
+-- the jobs that picks name, each once, by number, with the tasks that any of its picks names
+abbrev pub joined_picks : List Pick → List (ℕ × Option (List TaskSpan))
+joined_picks picks = fold join_pick [] picks

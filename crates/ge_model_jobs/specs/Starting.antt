@@ -1,10 +1,10 @@
--- The cluster after a scheduling run: its starts.
-use Rattle.std.specs.Prelude.{ℕ, ◌+◌, ◌-◌, ◌^◌, max, min, false, if◌then◌else◌, List, [], ◌∷◌, fold}
+-- The cluster after a scheduling run: its starts, and the reservations that are over.
+use Rattle.std.specs.Prelude.{ℕ, ◌+◌, ◌-◌, ◌^◌, ◌==◌, ◌||◌, nat_lt, max, min, Bool, false, if◌then◌else◌, List, [], ◌∷◌, filter, fold}
+use Rattle.std.specs.List.{list_any}
 use Rattle.ge_collections.specs.Keyed.{put_number}
-use Rattle.ge_rows.specs.declared.cluster.Cluster.{Cluster}
-use Rattle.ge_rows.specs.declared.jobs.Job.{Job}
-use Rattle.ge_rows.specs.declared.jobs.Running.{Running}
-use Rattle.ge_rows.specs.declared.scheduling.Start.{Start}
+use Rattle.ge_model_rows.specs.ClusterRows.{Cluster}
+use Rattle.ge_model_rows.specs.JobRows.{Job, Running, Advance}
+use Rattle.ge_model_rows.specs.ScheduleRows.{Start}
 use Rattle.ge_model_tasks.specs.Sets.{has_number, without_number}
 use Rattle.ge_model_jobs.specs.Altering.{change_job}
 
@@ -31,6 +31,26 @@ abbrev pub serial_past : ℕ → List Start → ℕ
 serial_past next [] = next
 serial_past next (start ∷ starts) = min (fold greater_serial start.serial starts + 1) (2 ^ 64 - 1)
 
--- a run at a moment starts its tasks
+-- whether a live job joined an advance reservation (qsub, -ar)
+abbrev pub is_joined : List (ℕ × Job) → ℕ → Bool
+is_joined jobs number = list_any (λ job. job.1.advance == number) jobs
+
+-- whether a reservation is left by a run at a moment: it isn't over, or a live job names it
+abbrev pub is_left : ℕ → List (ℕ × Job) → ℕ × Advance → Bool
+is_left moment jobs booked = nat_lt moment booked.1.until || is_joined jobs booked.0
+
+-- the reservations that a run at a moment leaves
+abbrev pub left_booked : ℕ → List (ℕ × Job) → List (ℕ × Advance) → List (ℕ × Advance)
+left_booked moment jobs booked = filter (is_left moment jobs) booked
+
+abbrev pub started : ℕ → Cluster → List Start → List (ℕ × Job)
+started moment c starts = fold (start_task moment) c.jobs starts
+
+-- a run at a moment starts its tasks; after them reservations go that are over and that no live job joined
 unfoldable pub with_run : ℕ → Cluster → List Start → Cluster
-with_run moment c starts = record c { last_run = moment; next_serial = serial_past c.next_serial starts; jobs = fold (start_task moment) c.jobs starts }
+with_run moment c starts = record c {
+  last_run = moment;
+  next_serial = serial_past c.next_serial starts;
+  jobs = started moment c starts;
+  advances = left_booked moment (started moment c starts) c.advances;
+}

@@ -7,8 +7,8 @@ use Rattle.std.specs.Ordering.{nat_cmp, ordering_then}
 use Rattle.std.specs.declared.cmp.Ordering.{Ordering}
 use Rattle.ge_base.specs.Fixed.{cut_sum, cut_product, halved_by}
 use Rattle.ge_collections.specs.Keyed.{text_cmp, text_eq}
-use Rattle.ge_rows.specs.declared.cluster.Cluster.{Cluster}
-use Rattle.ge_rows.specs.declared.settings.Sched.{Sched}
+use Rattle.ge_model_rows.specs.ClusterRows.{Cluster}
+use Rattle.ge_model_rows.specs.SettingRows.{Sched}
 
 -- the epoch of a moment under a halftime in hours; there is one alone where the halftime is 0
 abbrev pub epoch_of : ℕ → ℕ → ℕ
