@@ -1,20 +1,12 @@
 -- Urgency, priority and the order of a run, by computation.
 use Rattle.std.specs.Prelude.{◌≡◌, ℕ, ◌-◌, ◌^◌, true, pos, negsuc, List, [], ◌∷◌, map, codes, refl}
-use Rattle.ge_rows.specs.declared.cluster.Cluster.{Cluster}
-use Rattle.ge_rows.specs.declared.jobs.Job.{Job}
-use Rattle.ge_rows.specs.declared.queues.Allocation.TheVariants.{PeSlots}
-use Rattle.ge_rows.specs.declared.queues.PeRow.{PeRow}
-use Rattle.ge_rows.specs.declared.queues.UrgencySlots.{UrgencySlots}
-use Rattle.ge_rows.specs.declared.queues.UrgencySlots.TheVariants as assume
-use Rattle.ge_rows.specs.declared.scheduling.Prio.{Prio}
-use Rattle.ge_rows.specs.declared.tasks.TaskId.{TaskId}
-use Rattle.ge_rows.specs.declared.values.ComplexDef.{ComplexDef}
-use Rattle.ge_rows.specs.declared.values.Consumable.TheVariants as consumable
-use Rattle.ge_rows.specs.declared.values.Kind.{Kind}
-use Rattle.ge_rows.specs.declared.values.Kind.TheVariants as kind
-use Rattle.ge_rows.specs.declared.values.Relop.TheVariants.{Le}
-use Rattle.ge_rows.specs.declared.values.Requestable.TheVariants as requestable
-use Rattle.ge_rows.specs.declared.values.Value.TheVariants.{Amount, Flag}
+use Rattle.ge_model_rows.specs.ClusterRows.{Cluster}
+use Rattle.ge_model_rows.specs.JobRows.{Job}
+use Rattle.ge_model_rows.specs.PeRows.{PeRow, PeSlots, UrgencySlots}
+use Rattle.ge_model_rows.specs.ScheduleRows.{Prio}
+use Rattle.ge_model_rows.specs.TaskRows.{TaskId}
+use Rattle.ge_model_rows.specs.ValueRows.{Amount, Flag, Kind, Le, Requestable, Consumable}
+use Rattle.ge_model_rows.specs.ValueRows.{ComplexDef}
 use Rattle.ge_collections.specs.Keyed.{put_text}
 use Rattle.ge_model_value.specs.Complexes.{opening}
 use Rattle.ge_model_jobs.specs.Holds.{eligible_tasks}
@@ -45,8 +37,8 @@ some_complex kind urgency = record {
   shortcut = codes "x";
   kind = kind;
   relop = Le;
-  requestable = requestable.Yes;
-  consumable = consumable.Yes;
+  requestable = Requestable.Yes;
+  consumable = Consumable.Yes;
   fallback = Amount 0;
   urgency = urgency;
 }
@@ -54,8 +46,8 @@ some_complex kind urgency = record {
 -- four parallel environments, and three complexes with an urgency
 unfoldable with_urgent : Cluster
 with_urgent = let c = with_jobs [] in record c {
-  pes = (codes "avg", some_pe assume.Avg) ∷ (codes "max", some_pe assume.Max) ∷ (codes "min", some_pe assume.Min) ∷ (codes "seven", some_pe (assume.Fixed 7)) ∷ [];
-  complexes = put_text (put_text (put_text c.complexes (codes "lic") (some_complex kind.Int 2500000)) (codes "frac") (some_complex kind.Double 3000000)) (codes "gpu") (some_complex kind.Bool 4000000);
+  pes = (codes "avg", some_pe UrgencySlots.Avg) ∷ (codes "max", some_pe UrgencySlots.Max) ∷ (codes "min", some_pe UrgencySlots.Min) ∷ (codes "seven", some_pe (UrgencySlots.Fixed 7)) ∷ [];
+  complexes = put_text (put_text (put_text c.complexes (codes "lic") (some_complex Kind.Int 2500000)) (codes "frac") (some_complex Kind.Double 3000000)) (codes "gpu") (some_complex Kind.Bool 4000000);
 }
 
 abbrev under_pe : List ℕ → Job

@@ -1,8 +1,8 @@
 -- The share tree and its tickets, by computation.
 use Rattle.std.specs.Prelude.{◌≡◌, ℕ, ◌+◌, zero, suc, List, [], ◌∷◌, map, codes, refl}
-use Rattle.ge_rows.specs.declared.cluster.Cluster.{Cluster}
-use Rattle.ge_rows.specs.declared.jobs.Job.{Job}
-use Rattle.ge_rows.specs.declared.people.ShareNode.{ShareNode}
+use Rattle.ge_model_rows.specs.ClusterRows.{Cluster}
+use Rattle.ge_model_rows.specs.JobRows.{Job}
+use Rattle.ge_model_rows.specs.PeopleRows.{ShareNode}
 use Rattle.ge_model_value.specs.Complexes.{opening}
 use Rattle.ge_model_jobs.specs.Usage.{usage_at}
 use Rattle.ge_model_order.specs.Share.{share_tickets_of}
@@ -10,7 +10,7 @@ use Rattle.ge_model_order.specs.ShareTree.{Entered, tree_of}
 use Rattle.ge_model_order.proofs.Samples.{with_jobs, owned, user_node, group_node}
 
 -- a cluster with a share tree, usage and so many tickets at the root
-unfoldable sharing : List (ℕ × ShareNode) → List ((List ℕ × List ℕ × ℕ) × ℕ) → ℕ → ℕ → List (ℕ × Job) → Cluster
+unfoldable pub sharing : List (ℕ × ShareNode) → List ((List ℕ × List ℕ × ℕ) × ℕ) → ℕ → ℕ → List (ℕ × Job) → Cluster
 sharing shares usage tickets halftime jobs =
     let c = with_jobs jobs in
     record c { shares = shares; usage = usage; sched = record c.sched { share = tickets; halftime = halftime } }
@@ -124,3 +124,18 @@ entered_on_a_shorter_way = refl
 no_root_no_tree : ids (tree_of (sharing ((1, user_node (codes "ann") 1 []) ∷ []) [] 0 1 [])) ≡ []
 unfolding sharing tree_of with_jobs opening
 no_root_no_tree = refl
+
+-- a project below a project, as a body allows none but a spool may hold: a leaf below both is in the scope of each
+abbrev nested : List (ℕ × ShareNode)
+nested =
+    root (1 ∷ [])
+    ∷ (1, group_node (codes "p") 10 (2 ∷ 4 ∷ []))
+    ∷ (2, group_node (codes "q") 30 (3 ∷ []))
+    ∷ (3, user_node (codes "ann") 1 [])
+    ∷ (4, user_node (codes "default") 10 [])
+    ∷ []
+
+in_each_scope : share_tickets_of (sharing nested [] 1000 1 (owned 1 (codes "ann") (codes "p") ∷ owned 2 (codes "bob") (codes "p") ∷ [])) (1 ∷ 2 ∷ []) 10
+    ≡ 750 ∷ 250 ∷ []
+unfolding sharing share_tickets_of tree_of with_jobs opening
+in_each_scope = refl

@@ -13,9 +13,9 @@ use Rattle.std.specs.declared.cmp.Ordering.TheVariants.{Less, Equal, Greater}
 use Rattle.std.specs.declared.cmp.Reverse.{Reverse}
 use Rattle.std.proofs.lemmas.List.Sorted.{IsPermutation-refl, IsPermutation-trans, IsPermutation-cons, IsPermutation-sym, IsPermutation-middle, IsPermutation-append_right, IsPermutation-map, sum_by-IsPermutation}
 use Rattle.std.proofs.lemmas.List.Sums.{sum_by-append, sum_by-cons}
-use Rattle.ge_rows.specs.declared.cluster.Cluster.{Cluster}
-use Rattle.ge_rows.specs.declared.scheduling.Prio.{Prio}
-use Rattle.ge_rows.specs.declared.tasks.TaskId.{TaskId}
+use Rattle.ge_model_rows.specs.ClusterRows.{Cluster}
+use Rattle.ge_model_rows.specs.ScheduleRows.{Prio}
+use Rattle.ge_model_rows.specs.TaskRows.{TaskId}
 use Rattle.ge_model_order.specs.Priority.{rank_cmp, rank_of, with_rank, sorted_prios, tasks_of, order_of}
 
 -- what is below a key is below all that the key is below

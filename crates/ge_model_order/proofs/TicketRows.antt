@@ -1,9 +1,8 @@
 -- Functional and override tickets, by computation.
 use Rattle.std.specs.Prelude.{◌≡◌, ℕ, ◌-◌, ◌^◌, List, [], ◌∷◌, codes, refl}
-use Rattle.ge_rows.specs.declared.cluster.Cluster.{Cluster}
-use Rattle.ge_rows.specs.declared.jobs.Job.{Job}
-use Rattle.ge_rows.specs.declared.people.ProjectRow.{ProjectRow}
-use Rattle.ge_rows.specs.declared.people.UserRow.{UserRow}
+use Rattle.ge_model_rows.specs.ClusterRows.{Cluster}
+use Rattle.ge_model_rows.specs.JobRows.{Job}
+use Rattle.ge_model_rows.specs.PeopleRows.{UserRow, ProjectRow}
 use Rattle.ge_model_value.specs.Complexes.{opening}
 use Rattle.ge_model_order.specs.Tickets.{tickets_of}
 use Rattle.ge_model_order.proofs.Samples.{with_jobs, job_of, owned, user_row, project_row}

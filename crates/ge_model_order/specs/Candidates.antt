@@ -1,7 +1,7 @@
 -- The candidates of a run.
 use Rattle.std.specs.Prelude.{ℕ, Bool, not, List, filter}
 use Rattle.std.specs.Map.{keys_of}
-use Rattle.ge_rows.specs.declared.cluster.Cluster.{Cluster}
+use Rattle.ge_model_rows.specs.ClusterRows.{Cluster}
 use Rattle.ge_model_value.specs.Pieces.{is_empty}
 use Rattle.ge_model_jobs.specs.Holds.{eligible_tasks}
 

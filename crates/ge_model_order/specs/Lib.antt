@@ -2,6 +2,8 @@ pub mod Amounts
 pub mod Candidates
 pub mod Tickets
 pub mod ShareTree
+pub mod ShareTables
 pub mod Share
+pub mod ShareRule
 pub mod Urgency
 pub mod Priority

@@ -7,12 +7,12 @@ use Rattle.std.specs.declared.cmp.Ordering.{Ordering}
 use Rattle.std.specs.declared.cmp.Reverse.{Reverse}
 use Rattle.ge_base.specs.Fixed.{cut_sum, cut_product}
 use Rattle.ge_collections.specs.Keyed.{at_number}
-use Rattle.ge_rows.specs.Opening.{million}
-use Rattle.ge_rows.specs.declared.cluster.Cluster.{Cluster}
-use Rattle.ge_rows.specs.declared.jobs.Job.{Job}
-use Rattle.ge_rows.specs.declared.scheduling.Prio.{Prio}
-use Rattle.ge_rows.specs.declared.settings.Sched.{Sched}
-use Rattle.ge_rows.specs.declared.tasks.TaskId.{TaskId}
+use Rattle.ge_model_rows.specs.ClusterRows.{Cluster}
+use Rattle.ge_model_rows.specs.JobRows.{Job}
+use Rattle.ge_model_rows.specs.ScheduleRows.{Prio}
+use Rattle.ge_model_rows.specs.SettingRows.{Sched}
+use Rattle.ge_model_rows.specs.TaskRows.{TaskId}
+use Rattle.ge_model_rows.specs.ValueRows.{million}
 use Rattle.ge_model_jobs.specs.Holds.{eligible_tasks}
 use Rattle.ge_model_order.specs.Amounts.{cut_at_64, portion, greatest, least}
 use Rattle.ge_model_order.specs.Candidates.{is_candidate, candidates}

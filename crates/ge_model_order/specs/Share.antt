@@ -1,103 +1,81 @@
 -- Share tickets: what the root has goes down the share tree, more of it to those that used less (sched_conf, weight_tickets_share).
-use Rattle.std.specs.Prelude.{ℕ, ◌/◌, ◌^◌, max, ◌==◌, if◌then◌else◌, List, [], ◌∷◌, map, fold, filter, find, count_by, Option, Some, None, unwrap_or}
+-- Each node, job and row of usage is looked at a fixed number of times; `ShareRule` has the same in the words of the rule.
+use Rattle.std.specs.Prelude.{ℕ, ◌/◌, ◌^◌, max, ◌==◌, if◌then◌else◌, List, [], ◌∷◌, map, fold, Option, Some, None}
 use Rattle.ge_base.specs.Fixed.{cut_sum, cut_product}
 use Rattle.ge_collections.specs.Keyed.{at_number, put_number}
-use Rattle.ge_rows.specs.Opening.{million}
-use Rattle.ge_rows.specs.declared.cluster.Cluster.{Cluster}
-use Rattle.ge_rows.specs.declared.jobs.Job.{Job}
-use Rattle.ge_model_jobs.specs.Usage.{epoch_of, decayed}
-use Rattle.ge_model_order.specs.Amounts.{cut_total, cut_at_64, portion, equal_part}
-use Rattle.ge_model_order.specs.ShareTree.{Entered, has_id, is_child_of, leaf_of, tree_of}
+use Rattle.ge_model_rows.specs.ClusterRows.{Cluster}
+use Rattle.ge_model_rows.specs.JobRows.{Job}
+use Rattle.ge_model_rows.specs.ValueRows.{million}
+use Rattle.ge_model_jobs.specs.Usage.{UsageKey, epoch_of, decayed}
+use Rattle.ge_model_order.specs.Amounts.{cut_at_64, portion, equal_part}
+use Rattle.ge_model_order.specs.ShareTables.{amount_at, raised_along, children_sums, Places, places_of, leaf_at, line_at}
+use Rattle.ge_model_order.specs.ShareTree.{Entered, tree_of}
 use Rattle.ge_model_order.specs.Tickets.{jobs_of}
 
--- where something of a user and project counts: at their leaf and at each node above it
-abbrev pub line_to : Option Entered → List ℕ
-line_to None = []
-line_to (Some leaf) = leaf.id ∷ leaf.above
+-- a row of usage, as it counts in an epoch, more along the line of its user and project
+abbrev pub with_charge : ℕ → Places → List (ℕ × ℕ) → UsageKey × ℕ → List (ℕ × ℕ)
+with_charge epoch places amounts row = raised_along amounts (line_at places row.0.0 row.0.1) (decayed row.1 row.0.2 epoch)
 
-abbrev pub line_of : List Entered → List ℕ → List ℕ → List ℕ
-line_of tree user project = line_to (leaf_of tree user project)
+-- the usage of each node at a moment
+abbrev pub usage_by_node : Cluster → ℕ → Places → List (ℕ × ℕ)
+usage_by_node c now places = fold (with_charge (epoch_of now c.sched.halftime) places) [] c.usage
 
--- an amount of usage now, and where it counts
-pub record Charge : Type 0 where
-  pub nodes : List ℕ
-  pub amount : ℕ
+-- how many of these jobs are at each node or below it
+abbrev pub with_job : Places → List (ℕ × ℕ) → Job → List (ℕ × ℕ)
+with_job places amounts job = raised_along amounts (line_at places job.owner job.project) 1
 
-abbrev pub charge_of : Cluster → ℕ → List Entered → (List ℕ × List ℕ × ℕ) × ℕ → Charge
-charge_of c now tree row = record { nodes = line_of tree row.0.0 row.0.1; amount = decayed row.1 row.0.2 (epoch_of now c.sched.halftime) }
+abbrev pub jobs_by_node : Places → List Job → List (ℕ × ℕ)
+jobs_by_node places jobs = fold (with_job places) [] jobs
 
-abbrev pub charges_of : Cluster → ℕ → List Entered → List Charge
-charges_of c now tree = map (charge_of c now tree) c.usage
+-- how a child is weighed: its shares, divided by its part of the usage of all children of its parent, with one hundredth added
+abbrev pub weight : ℕ → ℕ → ℕ → ℕ
+weight shares usage all = cut_product shares (10 ^ 12) / cut_sum (10 ^ 4) (cut_product usage million / max 1 all)
 
--- what one charge adds to a node
-abbrev pub charged_at : ℕ → Charge → ℕ
-charged_at id charge = if has_id charge.nodes id then charge.amount else 0
+-- the weight of a node where a job lies at it or below, else 0; the root has none
+abbrev pub weight_below : List (ℕ × ℕ) → List (ℕ × ℕ) → List (ℕ × ℕ) → Entered → List ℕ → ℕ
+weight_below usage jobs sums node [] = 0
+weight_below usage jobs sums node (parent ∷ above) =
+    if amount_at jobs node.id == 0 then 0 else weight node.row.shares (amount_at usage node.id) (amount_at sums parent)
 
--- a node with its usage and the number of jobs at it or below
-pub record Weighed : Type 0 where
-  pub node : Entered
-  pub usage : ℕ
-  pub jobs : ℕ
+-- the weight of each node, where the usage of all children of each parent is known
+abbrev pub with_weight : List (ℕ × ℕ) → List (ℕ × ℕ) → List (ℕ × ℕ) → List (ℕ × ℕ) → Entered → List (ℕ × ℕ)
+with_weight usage jobs sums weights node = put_number weights node.id (weight_below usage jobs sums node node.above)
 
-abbrev pub weighed : List Charge → List (List ℕ) → Entered → Weighed
-weighed charges lines node = record { node = node; usage = cut_total (charged_at node.id) charges; jobs = count_by (λ line. has_id line node.id) lines }
+abbrev pub weights_by_node : List (ℕ × ℕ) → List (ℕ × ℕ) → List (ℕ × ℕ) → List Entered → List (ℕ × ℕ)
+weights_by_node usage jobs sums tree = fold (with_weight usage jobs sums) [] tree
 
--- the nodes of a tree, with the usage at a moment and these jobs
-abbrev pub weighed_tree : Cluster → List Job → ℕ → List Entered → List Weighed
-weighed_tree c jobs now tree =
-    let charges = charges_of c now tree in
-    let lines = map (λ job. line_of tree job.owner job.project) jobs in
-    map (weighed charges lines) tree
+-- the tickets of a node where those of the nodes before it are known: the root has all, a child its part of its parent's
+abbrev pub tickets_below : ℕ → List (ℕ × ℕ) → List (ℕ × ℕ) → List (ℕ × ℕ) → Entered → List ℕ → ℕ
+tickets_below all weights sums known node [] = all
+tickets_below all weights sums known node (parent ∷ above) = portion (amount_at known parent) (amount_at weights node.id) (amount_at sums parent)
 
-abbrev pub children_of : List Weighed → ℕ → List Weighed
-children_of nodes id = filter (λ child. is_child_of id child.node) nodes
+abbrev pub with_tickets : ℕ → List (ℕ × ℕ) → List (ℕ × ℕ) → List (ℕ × ℕ) → Entered → List (ℕ × ℕ)
+with_tickets all weights sums known node = put_number known node.id (tickets_below all weights sums known node node.above)
 
--- how a child is weighed: its shares, divided by its part of the usage of all children, with one hundredth added
-abbrev pub weight_of : ℕ → Weighed → ℕ
-weight_of usage child =
-    cut_product child.node.row.shares (10 ^ 12) / cut_sum (10 ^ 4) (cut_product child.usage million / max 1 usage)
+abbrev pub divided : ℕ → List (ℕ × ℕ) → List (ℕ × ℕ) → List Entered → List (ℕ × ℕ)
+divided all weights sums tree = fold (with_tickets all weights sums) [] tree
 
--- the weight of a child where a job lies below it, else 0
-abbrev pub weight_with_jobs : ℕ → Weighed → ℕ
-weight_with_jobs usage child = if child.jobs == 0 then 0 else weight_of usage child
-
--- what a child has of the tickets of its parent, whose children these are
-abbrev pub part_of_child : ℕ → List Weighed → Weighed → ℕ
-part_of_child tickets children child =
-    let usage = cut_total (λ other. other.usage) children in
-    portion tickets (weight_with_jobs usage child) (cut_total (weight_with_jobs usage) children)
-
--- the tickets of a node where those of the nodes before it are known
-abbrev pub tickets_below : Cluster → List Weighed → List (ℕ × ℕ) → Weighed → List ℕ → ℕ
-tickets_below c nodes known node [] = c.sched.share
-tickets_below c nodes known node (parent ∷ above) = part_of_child (unwrap_or (at_number known parent) 0) (children_of nodes parent) node
-
-abbrev pub with_tickets : Cluster → List Weighed → List (ℕ × ℕ) → Weighed → List (ℕ × ℕ)
-with_tickets c nodes known node = put_number known node.node.id (tickets_below c nodes known node node.node.above)
-
--- the tickets of each node: the root has all, and a node divides its own among its children
-abbrev pub node_tickets : Cluster → List Weighed → List (ℕ × ℕ)
-node_tickets c nodes = fold (with_tickets c nodes) [] nodes
-
-abbrev pub jobs_at : List Weighed → ℕ → ℕ
-jobs_at nodes id = elim (find (λ other. other.node.id == id) nodes) [ None ↦ 0 | Some node ↦ node.jobs ]
+-- the tickets of each node, where the usage and the jobs of each are known
+abbrev pub tickets_by_node : Cluster → List (ℕ × ℕ) → List (ℕ × ℕ) → List Entered → List (ℕ × ℕ)
+tickets_by_node c usage jobs tree =
+    let weights = weights_by_node usage jobs (children_sums (λ node. amount_at usage node.id) tree) tree in
+    divided c.sched.share weights (children_sums (λ node. amount_at weights node.id) tree) tree
 
 -- a leaf gives each of its jobs an equal part; a job without a leaf has none
-abbrev pub leaf_tickets : List Weighed → List (ℕ × ℕ) → Option Entered → ℕ
-leaf_tickets nodes tickets None = 0
-leaf_tickets nodes tickets (Some leaf) = cut_at_64 (equal_part (unwrap_or (at_number tickets leaf.id) 0) (jobs_at nodes leaf.id))
+abbrev pub leaf_tickets : List (ℕ × ℕ) → List (ℕ × ℕ) → Option ℕ → ℕ
+leaf_tickets tickets jobs None = 0
+leaf_tickets tickets jobs (Some id) = cut_at_64 (equal_part (amount_at tickets id) (amount_at jobs id))
 
 -- a job that isn't there has none
-abbrev pub share_tickets_at : Cluster → List Entered → List Weighed → List (ℕ × ℕ) → ℕ → ℕ
-share_tickets_at c tree nodes tickets number = elim (at_number c.jobs number) [
-  | None ↦ 0
-  | Some job ↦ leaf_tickets nodes tickets (leaf_of tree job.owner job.project)
-]
+abbrev pub job_share_tickets : Places → List (ℕ × ℕ) → List (ℕ × ℕ) → Option Job → ℕ
+job_share_tickets places tickets jobs None = 0
+job_share_tickets places tickets jobs (Some job) = leaf_tickets tickets jobs (leaf_at places job.owner job.project)
 
 -- share tickets of each of these jobs at a moment
 unfoldable pub share_tickets_of : Cluster → List ℕ → ℕ → List ℕ
 share_tickets_of c numbers now =
     let tree = tree_of c in
-    let nodes = weighed_tree c (jobs_of c numbers) now tree in
-    let tickets = node_tickets c nodes in
-    map (share_tickets_at c tree nodes tickets) numbers
+    let places = places_of tree in
+    let jobs = jobs_by_node places (jobs_of c numbers) in
+    let tickets = tickets_by_node c (usage_by_node c now places) jobs tree in
+    map (λ number. job_share_tickets places tickets jobs (at_number c.jobs number)) numbers

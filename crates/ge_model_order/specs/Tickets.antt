@@ -3,11 +3,10 @@ use Rattle.std.specs.Prelude.{ℕ, ◌/◌, Bool, not, ◌&&◌, List, [], ◌�
 use Rattle.std.specs.List.{list_any}
 use Rattle.ge_base.specs.Fixed.{cut_sum, cut_product}
 use Rattle.ge_collections.specs.Keyed.{text_eq, at_text, at_number}
-use Rattle.ge_rows.specs.Opening.{million}
-use Rattle.ge_rows.specs.declared.cluster.Cluster.{Cluster}
-use Rattle.ge_rows.specs.declared.jobs.Job.{Job}
-use Rattle.ge_rows.specs.declared.people.ProjectRow.{ProjectRow}
-use Rattle.ge_rows.specs.declared.people.UserRow.{UserRow}
+use Rattle.ge_model_rows.specs.ClusterRows.{Cluster}
+use Rattle.ge_model_rows.specs.JobRows.{Job}
+use Rattle.ge_model_rows.specs.PeopleRows.{UserRow, ProjectRow}
+use Rattle.ge_model_rows.specs.ValueRows.{million}
 use Rattle.ge_model_order.specs.Amounts.{cut_total, cut_at_64, portion, equal_part}
 use Rattle.ge_model_value.specs.Pieces.{is_empty}
 

@@ -2,28 +2,19 @@
 use Rattle.std.specs.Prelude.{ℕ, ◌+◌, ◌-◌, ◌/◌, ◌^◌, ◌==◌, if◌then◌else◌, min, max, List, Option, Some, None, codes}
 use Rattle.ge_base.specs.Fixed.{cut_sum, cut_product}
 use Rattle.ge_collections.specs.Keyed.{at_text, put_text}
-use Rattle.ge_rows.specs.Opening.{million}
-use Rattle.ge_rows.specs.declared.cluster.Cluster.{Cluster}
-use Rattle.ge_rows.specs.declared.jobs.Job.{Job}
-use Rattle.ge_rows.specs.declared.jobs.PeRequest.{PeRequest}
-use Rattle.ge_rows.specs.declared.jobs.Request.{Request}
-use Rattle.ge_rows.specs.declared.queues.PeRow.{PeRow}
-use Rattle.ge_rows.specs.declared.queues.UrgencySlots.{UrgencySlots}
-use Rattle.ge_rows.specs.declared.queues.UrgencySlots.TheVariants as assume
-use Rattle.ge_rows.specs.declared.values.ComplexDef.{ComplexDef}
-use Rattle.ge_rows.specs.declared.values.Kind.{Kind}
-use Rattle.ge_rows.specs.declared.values.Kind.TheVariants as kind
-use Rattle.ge_rows.specs.declared.values.Value.{Value}
-use Rattle.ge_rows.specs.declared.values.Value.TheVariants.{Amount, Flag, Word}
+use Rattle.ge_model_rows.specs.ClusterRows.{Cluster}
+use Rattle.ge_model_rows.specs.JobRows.{Job, Request, PeRequest}
+use Rattle.ge_model_rows.specs.PeRows.{PeRow, UrgencySlots}
+use Rattle.ge_model_rows.specs.ValueRows.{Value, Amount, Flag, Word, Kind, ComplexDef, million}
 use Rattle.ge_model_value.specs.Complexes.{complex_at}
 use Rattle.ge_model_order.specs.Amounts.{cut_total}
 
 -- how many slots are assumed of a range (sge_pe, urgency_slots)
 abbrev pub slots_by : UrgencySlots → ℕ → ℕ → ℕ
-slots_by (assume.Fixed count) low high = count
-slots_by assume.Min low high = low
-slots_by assume.Max low high = high
-slots_by assume.Avg low high = (low + high) / 2
+slots_by (UrgencySlots.Fixed count) low high = count
+slots_by UrgencySlots.Min low high = low
+slots_by UrgencySlots.Max low high = high
+slots_by UrgencySlots.Avg low high = (low + high) / 2
 
 abbrev pub slots_under : Option PeRow → PeRequest → ℕ
 slots_under None asked = 1
@@ -36,7 +27,7 @@ slots_assumed c (Some asked) = slots_under (at_text c.pes asked.name) asked
 
 -- a DOUBLE counts in ones
 abbrev pub in_ones : Kind → ℕ → ℕ
-in_ones kind.Double amount = amount / million
+in_ones Kind.Double amount = amount / million
 in_ones _ amount = amount
 
 -- what a requested value adds: a number its complex's urgency for each unit and slot, any other value that urgency once
