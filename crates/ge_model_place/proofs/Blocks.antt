@@ -3,13 +3,11 @@ use Rattle.std.proofs.Common.{◌≡◌, ℕ, zero, suc, ◌+◌, ◌*◌, ◌/�
 use Rattle.std.specs.Prelude.{nat_le}
 use native.Mathlib.Nat.{lt_of_mul-lt-mul_right, div-add-mod', mul-div_cancel, mul-mod_left}
 use Rattle.std.proofs.lemmas.Bool.{cond_both, cases_Bool, and_parts, and_cases, leb-true, leb-false, eqb-true, eqb-false, eq-eqb}
-use Rattle.ge_rows.specs.declared.cluster.Cluster.{Cluster}
-use Rattle.ge_rows.specs.declared.hosts.Groups.{Groups}
-use Rattle.ge_rows.specs.declared.hosts.InstanceId.{InstanceId}
-use Rattle.ge_rows.specs.declared.jobs.Grant.{Grant}
-use Rattle.ge_rows.specs.declared.jobs.Job.{Job}
-use Rattle.ge_rows.specs.declared.queues.Allocation.TheVariants.{Fixed}
-use Rattle.ge_rows.specs.declared.scheduling.Booking.{Booking}
+use Rattle.ge_model_rows.specs.ClusterRows.{Cluster}
+use Rattle.ge_model_rows.specs.HostRows.{Groups, InstanceId}
+use Rattle.ge_model_rows.specs.JobRows.{Job, Grant}
+use Rattle.ge_model_rows.specs.PeRows.{Fixed}
+use Rattle.ge_model_rows.specs.ScheduleRows.{Booking}
 use Rattle.ge_model_place.specs.Placement.{Cell, filled, slots_given, is_on, with_block, in_blocks, spread, granted}
 use Rattle.ge_model_place.specs.Choosing.{in_first_blocks, chosen_times, chosen_by, IsPlacedBy}
 use Rattle.ge_model_place.proofs.Chosen.{tally}

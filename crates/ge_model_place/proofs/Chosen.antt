@@ -1,28 +1,25 @@
 -- The next slot is the one that the rule's own words choose.
-use Rattle.std.proofs.Common.{◌≡◌, ℕ, ◌+◌, ◌≤◌, ◌⊎◌, ◌==◌, inl, inr, Bool, true, false, ◌&&◌, cond, min, List, [], ◌∷◌, ◌++◌, map, sum_by, Option, Some, None, option_map, refl, sym, subst, ap, ◌∙◌, append_assoc, arith}
+use Rattle.std.proofs.Common.{◌≡◌, ℕ, ◌+◌, ◌≤◌, ◌==◌, inl, inr, Bool, true, false, ◌&&◌, cond, min, List, [], ◌∷◌, ◌++◌, map, sum_by, Option, Some, None, option_map, refl, sym, subst, ap, ◌∙◌, append_assoc, arith}
 use Rattle.std.specs.List.{list_all, filter_map, cons_option}
 use Rattle.std.specs.Prelude.{nat_lt}
 use Rattle.std.proofs.lemmas.Bool.{cond_both, cond-true, cond-false, cases_Bool, and_parts, and_from, false_from_ne_true, le-leb, ltb-true, eqb-true}
 use Rattle.std.proofs.lemmas.List.Sums.{sum_by-cons}
-use Rattle.ge_rows.specs.declared.cluster.Cluster.{Cluster}
-use Rattle.ge_rows.specs.declared.hosts.Groups.{Groups}
-use Rattle.ge_rows.specs.declared.hosts.InstanceId.{InstanceId}
-use Rattle.ge_rows.specs.declared.jobs.Grant.{Grant}
-use Rattle.ge_rows.specs.declared.jobs.Job.{Job}
-use Rattle.ge_rows.specs.declared.scheduling.Booking.{Booking}
-use Rattle.ge_rows.specs.declared.scheduling.LimitId.{LimitId}
-use Rattle.ge_model_run.specs.Bookings.{peak}
+use Rattle.ge_model_rows.specs.ClusterRows.{Cluster}
+use Rattle.ge_model_rows.specs.HostRows.{Groups, InstanceId}
+use Rattle.ge_model_rows.specs.JobRows.{Job, Grant}
+use Rattle.ge_model_rows.specs.ScheduleRows.{LimitId, Booking}
+use Rattle.ge_model_bookings.specs.Bookings.{peak}
 use Rattle.ge_model_place.specs.Limits.{Counted, greatest_demand, counted_at, demands_of}
 use Rattle.ge_model_place.specs.Opening.{is_open}
-use Rattle.ge_model_place.specs.Placement.{Cell, room_of, slot_asks, asked_so_far, fits_one_more, takes_one_more, with_slot, one_more, grant_of, are_open, have_room, are_admissible}
-use Rattle.ge_model_place.specs.Windows.{end_from}
+use Rattle.ge_model_place.specs.Placement.{Cell, room_of, slot_asks, asked_so_far, asked_with_one, fits_one_more, takes_one_more, with_slot, one_more, grant_of, are_open, have_room, are_admissible}
+use Rattle.ge_model_place.specs.Windows.{end_from, is_in_time}
 use Rattle.ge_model_place.specs.Choosing.{grants_in, one_slot_more, chosen_from, chosen}
 use Rattle.ge_model_place.proofs.Admitted.{sound_is_admissible}
 use Rattle.ge_model_place.proofs.Exact.{admissible_keeps}
-use Rattle.ge_model_place.proofs.Filled.{each_parts, until, IsCell, HasRoom, IsSound, asked_more, takes_sound}
+use Rattle.ge_model_place.proofs.Filled.{each_parts, until, IsCell, IsKept, IsSound, asked_more, takes_sound}
 use Rattle.ge_model_place.proofs.Once.{Each, each_of_both}
 use Rattle.ge_model_place.proofs.Same.{limit_same}
-use Rattle.ge_model_place.proofs.Taken.{IsCounted, counted_at_each, with_one}
+use Rattle.ge_model_place.proofs.Taken.{IsCounted, counted_at_each, together_grows, asked_with_one_is, asked_with_one_some, with_one}
 
 -- the slots of cells, where there are none too
 abbrev pub slots_of_cell : Cell → Grant
@@ -64,7 +61,7 @@ module _ (c : Cluster) (groups : Groups) (job : Job) (bookings : List Booking) (
   -- where what one more slot asks has room, it fits
   each_one_fits : (cells : List Cell) (asked : LimitId → ℕ) (xs : List Counted) → Each (IsCounted c groups job) xs
       → ((limit : LimitId) → sum_by (slot_asks limit) (map (room_of bookings from (until c groups job bookings from)) xs) + asked_so_far cells limit ≤ asked limit)
-      → ((limit : LimitId) → (asked limit ≡ 0) ⊎ HasRoom c groups job bookings from limit (asked limit)) → list_all (fits_one_more cells) (map (room_of bookings from (until c groups job bookings from)) xs) ≡ true
+      → ((limit : LimitId) → IsKept c groups job bookings from limit (asked limit)) → list_all (fits_one_more cells) (map (room_of bookings from (until c groups job bookings from)) xs) ≡ true
   each_one_fits cells asked [] is within kept = refl
   each_one_fits cells asked (x ∷ xs) is within kept =
       let end = until c groups job bookings from in
@@ -74,18 +71,21 @@ module _ (c : Cluster) (groups : Groups) (job : Job) (bookings : List Booking) (
       let here = sums x.limit in
       let own = asks_own x in
       let all = within x.limit in
-      let fits : peak bookings x.limit from end + min (asked_so_far cells x.limit + x.amount) greatest_demand ≤ x.capacity =
+      let asks_so = asked_with_one_is c groups job cells x is.0 in
+      let some = asked_with_one_some c groups job cells x in
+      let grown = together_grows c groups job x.limit (asked_so_far cells x.limit + x.amount) (asked x.limit) (omega (arith, all, here, own)) in
+      let fits : peak bookings x.limit from end + min (asked_with_one cells x) greatest_demand ≤ x.capacity =
       rw is.0.capacity (elim (kept x.limit) [
-        | inl nothing ↦ absurd (counts (omega (arith, nothing, all, here, own)))
-        | inr room ↦ omega (arith, room, all, here, own)
+        | inl nothing ↦ absurd (counts (omega (arith, nothing, grown, asks_so, some)))
+        | inr room ↦ omega (arith, room, grown, asks_so)
       ]) in
       and_from (fits_one_more cells (room_of bookings from end x)) (list_all (fits_one_more cells) (map (room_of bookings from end) xs))
-      (le-leb (peak bookings x.limit from end + min (asked_so_far cells x.limit + x.amount) greatest_demand) x.capacity fits)
+      (le-leb (peak bookings x.limit from end + min (asked_with_one cells x) greatest_demand) x.capacity fits)
       (each_one_fits cells asked xs is.1 (λ limit. let more = sums limit in let most = within limit in omega (arith, more, most)) kept)
 
-  opened_of : (grants : List Grant) → are_admissible c groups job bookings from grants ≡ true → are_open c groups job grants ≡ true
+  opened_of : (grants : List Grant) → are_admissible c groups job bookings from grants ≡ true → (is_in_time c job from ≡ true) × (are_open c groups job grants ≡ true)
   unfolding are_admissible
-  opened_of grants e = (and_parts (are_open c groups job grants) (have_room c groups bookings from (end_from c job from) (demands_of c groups job grants)) e).0
+  opened_of grants e = and_parts (is_in_time c job from) (are_open c groups job grants) (and_parts (is_in_time c job from && are_open c groups job grants) (have_room c groups bookings from (end_from c job from) (demands_of c groups job grants)) e).0
 
   -- admissible grants with one more slot at a cell: it takes the slot
   admissible_takes : (before : List Cell) (cell : Cell) (behind : List Cell) → IsSound c groups job bookings from (before ++ cell ∷ behind)
@@ -98,7 +98,8 @@ module _ (c : Cluster) (groups : Groups) (job : Job) (bookings : List Booking) (
       let still : IsCell c groups job bookings from (with_one cell) = record { opened = here.opened; rooms = here.rooms } in
       let more_whole = each_of_both (IsCell c groups job bookings from) before (with_one cell ∷ behind) whole.0 (still, whole.1.1) in
       let some : ((cell.slots + 1) == 0) ≡ false = false_from_ne_true ((cell.slots + 1) == 0) (λ e. let none = eqb-true (cell.slots + 1) 0 e in absurd (omega (arith, none))) in
-      let opened = here.opened ∙ open_among before (with_one cell) behind some (opened_of (filter_map grant_of (before ++ with_one cell ∷ behind)) admissible) in
+      let may = opened_of (filter_map grant_of (before ++ with_one cell ∷ behind)) admissible in
+      let opened = here.opened ∙ and_from (is_in_time c job from) (is_open c groups job cell.at) may.0 (open_among before (with_one cell) behind some may.1) in
       and_from cell.opened (list_all (fits_one_more cells) cell.rooms) opened
       (elim (cases_Bool (nat_lt from end)) [
         | inl ever ↦
@@ -128,7 +129,10 @@ module _ (c : Cluster) (groups : Groups) (job : Job) (bookings : List Booking) (
       ap (λ gs. are_admissible c groups job bookings from gs) same
       ∙ same_test (are_admissible c groups job bookings from (filter_map grant_of (before ++ with_one cell ∷ behind))) (takes_one_more (before ++ cell ∷ behind) cell)
       (λ e. admissible_takes before cell behind sound e)
-      (λ e. sound_is_admissible c groups job bookings from (before ++ with_one cell ∷ behind) (takes_sound c groups job bookings from before cell behind sound e))
+      (λ e.
+      let here = (each_parts (IsCell c groups job bookings from) before (cell ∷ behind) sound.whole).1.0 in
+      let opened = sym here.opened ∙ (and_parts cell.opened (list_all (fits_one_more (before ++ cell ∷ behind)) cell.rooms) e).0 in
+      sound_is_admissible c groups job bookings from (before ++ with_one cell ∷ behind) (takes_sound c groups job bookings from before cell behind sound e) (and_parts (is_in_time c job from) (is_open c groups job cell.at) opened).0)
 
   abbrev tallied : List Cell → Option (List Cell) → Option (List Grant)
   tallied before found = option_map (λ cells. tally (before ++ cells)) found

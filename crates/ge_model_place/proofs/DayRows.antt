@@ -1,19 +1,13 @@
 -- A day: two runs over twelve jobs, four queue instances on three hosts, a consumable and a quota.
 use Rattle.std.specs.Prelude.{◌≡◌, ℕ, ◌*◌, ◌^◌, true, List, [], ◌∷◌, codes, refl}
 use Rattle.ge_collections.specs.Keyed.{put_text}
-use Rattle.ge_rows.specs.Opening.{plain_attr, bare_host, default_queue}
-use Rattle.ge_rows.specs.declared.cluster.Cluster.{Cluster}
-use Rattle.ge_rows.specs.declared.jobs.Job.{Job}
-use Rattle.ge_rows.specs.declared.queues.Allocation.TheVariants.{PeSlots}
-use Rattle.ge_rows.specs.declared.queues.QueueRow.{QueueRow}
-use Rattle.ge_rows.specs.declared.scheduling.Decision.TheVariants.{Skip}
-use Rattle.ge_rows.specs.declared.values.ComplexDef.{ComplexDef}
-use Rattle.ge_rows.specs.declared.values.Consumable.TheVariants as consumable
-use Rattle.ge_rows.specs.declared.values.Kind.TheVariants.{Memory}
-use Rattle.ge_rows.specs.declared.values.Relop.TheVariants.{Le}
-use Rattle.ge_rows.specs.declared.values.Requestable.TheVariants as requestable
-use Rattle.ge_rows.specs.declared.values.Value.{Value}
-use Rattle.ge_rows.specs.declared.values.Value.TheVariants.{Amount}
+use Rattle.ge_model_rows.specs.ClusterRows.{Cluster, default_queue, bare_host, plain_attr}
+use Rattle.ge_model_rows.specs.DecisionRows.{Skip}
+use Rattle.ge_model_rows.specs.JobRows.{Job}
+use Rattle.ge_model_rows.specs.PeRows.{PeSlots}
+use Rattle.ge_model_rows.specs.QueueRows.{QueueRow}
+use Rattle.ge_model_rows.specs.ValueRows.{Value, Amount, Memory, Le, Requestable, Consumable}
+use Rattle.ge_model_rows.specs.ValueRows.{ComplexDef}
 use Rattle.ge_model_site.specs.Groups.{expanded}
 use Rattle.ge_model_value.specs.Complexes.{opening_complexes, opening}
 use Rattle.ge_model_place.specs.InstanceOrder.{instance_order}
@@ -31,8 +25,8 @@ memory = record {
   shortcut = codes "mem";
   kind = Memory;
   relop = Le;
-  requestable = requestable.Yes;
-  consumable = consumable.Yes;
+  requestable = Requestable.Yes;
+  consumable = Consumable.Yes;
   fallback = gigabytes 1;
   urgency = 0;
 }

@@ -2,8 +2,8 @@
 use Rattle.std.proofs.Common.{◌≡◌, ℕ, ◌≤◌, ◌<◌, ◌⊎◌, Bool, true, false, ◌&&◌, ◌==◌, List, [], ◌∷◌, fold, Option, Some, None, refl, sym, subst, ◌∙◌, inl, inr, arith}
 use Rattle.std.specs.Prelude.{nat_lt}
 use Rattle.std.proofs.lemmas.Bool.{cond_both, and_parts, and_cases, and_from, or_cases, eqb-true, eq-eqb, or_left, or_right, ltb-true, ltb-false, lt-ltb, true≢false, false_from_ne_true}
-use Rattle.ge_rows.specs.declared.scheduling.Booking.{Booking}
-use Rattle.ge_model_run.specs.Bookings.{forever}
+use Rattle.ge_model_rows.specs.ScheduleRows.{Booking}
+use Rattle.ge_model_bookings.specs.Bookings.{forever}
 use Rattle.ge_model_place.specs.Running.{ends_after, is_earlier, earlier_end, earliest_end}
 use Rattle.ge_model_place.specs.Runs.{ends_at}
 

@@ -4,21 +4,18 @@ use Rattle.std.specs.List.{list_all}
 use Rattle.std.specs.Prelude.{nat_le, nat_lt}
 use Rattle.std.proofs.lemmas.Bool.{cond_both, cond-true, and_parts, eqb-true, leb-true, lt-ltb}
 use Rattle.std.proofs.lemmas.List.Sums.{sum_by-cons, sum_by-append}
-use Rattle.ge_rows.specs.declared.cluster.Cluster.{Cluster}
-use Rattle.ge_rows.specs.declared.hosts.Groups.{Groups}
-use Rattle.ge_rows.specs.declared.hosts.InstanceId.{InstanceId}
-use Rattle.ge_rows.specs.declared.jobs.Job.{Job}
-use Rattle.ge_rows.specs.declared.queues.Allocation.{Allocation}
-use Rattle.ge_rows.specs.declared.queues.Allocation.TheVariants.{Fixed, PeSlots, FillUp, RoundRobin}
-use Rattle.ge_rows.specs.declared.scheduling.Booking.{Booking}
-use Rattle.ge_rows.specs.declared.scheduling.LimitId.{LimitId}
-use Rattle.ge_model_run.specs.Bookings.{peak}
+use Rattle.ge_model_rows.specs.ClusterRows.{Cluster}
+use Rattle.ge_model_rows.specs.HostRows.{Groups, InstanceId}
+use Rattle.ge_model_rows.specs.JobRows.{Job}
+use Rattle.ge_model_rows.specs.PeRows.{Allocation, Fixed, PeSlots, FillUp, RoundRobin}
+use Rattle.ge_model_rows.specs.ScheduleRows.{LimitId, Booking}
+use Rattle.ge_model_bookings.specs.Bookings.{peak}
 use Rattle.ge_model_place.specs.Limits.{Counted, greatest_demand, capacity_of, counted_at}
 use Rattle.ge_model_place.specs.Opening.{is_open}
-use Rattle.ge_model_place.specs.Placement.{Cell, room_of, rooms_in, cell_of, slot_asks, cell_asks, asked_so_far, fits_one_more, takes_one_more, one_more, filled, everywhere, is_on, slots_given, hosts_in, fuller, with_block, with_turn, with_round, with_rounds, spread}
-use Rattle.ge_model_place.specs.Windows.{end_from}
+use Rattle.ge_model_place.specs.Placement.{Cell, room_of, rooms_in, cell_of, slot_asks, cell_asks, asked_so_far, asked_with_one, fits_one_more, takes_one_more, one_more, filled, everywhere, is_on, slots_given, hosts_in, fuller, with_block, with_turn, with_round, with_rounds, spread}
+use Rattle.ge_model_place.specs.Windows.{end_from, is_in_time}
 use Rattle.ge_model_place.proofs.Once.{Each, each_of_both, asks, asks_once}
-use Rattle.ge_model_place.proofs.Taken.{Takes, with_one, IsCounted, counted_at_apart, counted_at_each, one_more_takes}
+use Rattle.ge_model_place.proofs.Taken.{Takes, with_one, IsCounted, counted_at_apart, counted_at_each, together, together_none, asked_with_one_is, one_more_takes}
 
 pub each_parts : {X : Type 0} (P : X → Type 0) (xs ys : List X) → Each P (xs ++ ys) → Each P xs × Each P ys
 each_parts P [] ys each = (tt, each)
@@ -51,18 +48,22 @@ module _ (c : Cluster) (groups : Groups) (job : Job) (bookings : List Booking) (
 
   -- a cell of the placement, with any slots
   pub record IsCell (cell : Cell) : Type 0 where
-    pub opened : cell.opened ≡ is_open c groups job cell.at
+    pub opened : cell.opened ≡ (is_in_time c job from && is_open c groups job cell.at)
     pub rooms : cell.rooms ≡ rooms_in bookings from until (counted_at c groups job cell.at)
 
   -- a limit has room for this much
   abbrev pub HasRoom : LimitId → ℕ → Type 0
   HasRoom limit amount = peak bookings limit from until + min amount greatest_demand ≤ capacity_of c groups limit
 
+  -- what slots that count for so much of a limit ask together is nothing, or has room
+  abbrev pub IsKept : LimitId → ℕ → Type 0
+  IsKept limit n = (together c groups job limit n ≡ 0) ⊎ HasRoom limit (together c groups job limit n)
+
   -- the cells are the placement's, the slots stand on open instances, and what they ask has room
   pub record IsSound (cells : List Cell) : Type 0 where
     pub whole : Each IsCell cells
     pub opened : Each (λ (cell : Cell). (cell.slots ≡ 0) ⊎ (cell.opened ≡ true)) cells
-    pub kept : from < until → (limit : LimitId) → (asked_so_far cells limit ≡ 0) ⊎ HasRoom limit (asked_so_far cells limit)
+    pub kept : from < until → (limit : LimitId) → IsKept limit (asked_so_far cells limit)
 
   -- the rooms of a cell are those that are counted
   pub rooms_ask : (limit : LimitId) (xs : List Counted) → sum_by (slot_asks limit) (map (room_of bookings from until) xs) ≡ sum_by (asks (λ (x : Counted). x.limit) (λ (x : Counted). x.amount) limit) xs
@@ -74,24 +75,26 @@ module _ (c : Cluster) (groups : Groups) (job : Job) (bookings : List Booking) (
       ∙ sym (sum_by-cons (asks (λ (y : Counted). y.limit) (λ (y : Counted). y.amount) limit) x xs)
 
   fits_each : (cells : List Cell) (xs : List Counted) → Each (IsCounted c groups job) xs → list_all (fits_one_more cells) (map (room_of bookings from until) xs) ≡ true
-      → Each (λ (x : Counted). HasRoom x.limit (asked_so_far cells x.limit + x.amount)) xs
+      → Each (λ (x : Counted). HasRoom x.limit (together c groups job x.limit (asked_so_far cells x.limit + x.amount))) xs
   fits_each cells [] is fits = tt
   fits_each cells (x ∷ xs) is fits =
       let parts = and_parts (fits_one_more cells (room_of bookings from until x)) (list_all (fits_one_more cells) (map (room_of bookings from until) xs)) fits in
-      let first = leb-true (peak bookings x.limit from until + min (asked_so_far cells x.limit + x.amount) greatest_demand) x.capacity parts.0 in
-      (subst (λ n. peak bookings x.limit from until + min (asked_so_far cells x.limit + x.amount) greatest_demand ≤ n) is.0.capacity first, fits_each cells xs is.1 parts.1)
+      let first = leb-true (peak bookings x.limit from until + min (asked_with_one cells x) greatest_demand) x.capacity parts.0 in
+      let asked = asked_with_one_is c groups job cells x is.0 in
+      let capacity = is.0.capacity in
+      (omega (arith, first, asked, capacity), fits_each cells xs is.1 parts.1)
 
   -- what one more slot asks has room beside what was asked so far
   one_fits : from < until → (cells : List Cell) (cell : Cell) → IsCell cell → takes_one_more cells cell ≡ true → (limit : LimitId)
-      → (sum_by (slot_asks limit) cell.rooms ≡ 0) ⊎ HasRoom limit (asked_so_far cells limit + sum_by (slot_asks limit) cell.rooms)
+      → (sum_by (slot_asks limit) cell.rooms ≡ 0) ⊎ HasRoom limit (together c groups job limit (asked_so_far cells limit + sum_by (slot_asks limit) cell.rooms))
   one_fits ever cells cell is takes limit =
       let counts : cell.rooms ≡ map (room_of bookings from until) (counted_at c groups job cell.at) = is.rooms ∙ cond-true _ _ _ (lt-ltb from until ever) in
       let fits = subst (λ rs. list_all (fits_one_more cells) rs ≡ true) counts (and_parts cell.opened (list_all (fits_one_more cells) cell.rooms) takes).1 in
       let each = fits_each cells (counted_at c groups job cell.at) (counted_at_each c groups job cell.at) fits in
       let total : sum_by (slot_asks limit) cell.rooms ≡ sum_by (asks (λ (x : Counted). x.limit) (λ (x : Counted). x.amount) limit) (counted_at c groups job cell.at) =
       ap (λ rs. sum_by (slot_asks limit) rs) counts ∙ rooms_ask limit (counted_at c groups job cell.at) in
-      subst (λ n. (n ≡ 0) ⊎ HasRoom limit (asked_so_far cells limit + n)) (sym total)
-      (asks_once (λ (x : Counted). x.limit) (λ (x : Counted). x.amount) (λ l n. HasRoom l (asked_so_far cells l + n)) (counted_at c groups job cell.at) (counted_at_apart c groups job cell.at) each limit)
+      subst (λ n. (n ≡ 0) ⊎ HasRoom limit (together c groups job limit (asked_so_far cells limit + n))) (sym total)
+      (asks_once (λ (x : Counted). x.limit) (λ (x : Counted). x.amount) (λ l n. HasRoom l (together c groups job l (asked_so_far cells l + n))) (counted_at c groups job cell.at) (counted_at_apart c groups job cell.at) each limit)
 
   pub takes_sound : (before : List Cell) (cell : Cell) (behind : List Cell) → IsSound (before ++ cell ∷ behind) → takes_one_more (before ++ cell ∷ behind) cell ≡ true → IsSound (before ++ with_one cell ∷ behind)
   takes_sound before cell behind sound takes =
@@ -105,11 +108,11 @@ module _ (c : Cluster) (groups : Groups) (job : Job) (bookings : List Booking) (
         opened = each_of_both (λ (x : Cell). (x.slots ≡ 0) ⊎ (x.opened ≡ true)) before (with_one cell ∷ behind) opened.0 (inr open_here, opened.1.1);
         kept = λ ever limit.
             let more = asked_more before cell behind limit in
-            subst (λ n. (n ≡ 0) ⊎ HasRoom limit n) (sym more)
+            subst (λ n. IsKept limit n) (sym more)
             (elim (one_fits ever (before ++ cell ∷ behind) cell here takes limit) [
               | inl nothing ↦
                   let same : asked_so_far (before ++ cell ∷ behind) limit ≡ asked_so_far (before ++ cell ∷ behind) limit + sum_by (slot_asks limit) cell.rooms = omega (arith, nothing) in
-                  subst (λ n. (n ≡ 0) ⊎ HasRoom limit n) same (sound.kept ever limit)
+                  subst (λ n. IsKept limit n) same (sound.kept ever limit)
               | inr room ↦ inr room
             ]);
       }
@@ -188,4 +191,4 @@ module _ (c : Cluster) (groups : Groups) (job : Job) (bookings : List Booking) (
   each_is_empty (at ∷ order) = (inl refl, each_is_empty order)
 
   pub start_sound : (order : List InstanceId) → IsSound (map (cell_of c groups job bookings from) order)
-  start_sound order = record { whole = each_is_cell order; opened = each_is_empty order; kept = λ ever limit. inl (none_asked order limit) }
+  start_sound order = record { whole = each_is_cell order; opened = each_is_empty order; kept = λ ever limit. inl (ap (λ n. together c groups job limit n) (none_asked order limit) ∙ together_none c groups job limit) }

@@ -3,15 +3,12 @@ use Rattle.std.proofs.Common.{◌≡◌, ℕ, Bool, List, [], ◌∷◌, ◌++�
 use Rattle.std.specs.List.{filter_map}
 use Rattle.std.specs.Prelude.{find, nat_le}
 use Rattle.std.proofs.lemmas.Bool.{cond-true, cond-false, cases_Bool, le-leb, false_from_ne_true, leb-true}
-use Rattle.ge_rows.specs.declared.cluster.Cluster.{Cluster}
-use Rattle.ge_rows.specs.declared.hosts.Groups.{Groups}
-use Rattle.ge_rows.specs.declared.hosts.InstanceId.{InstanceId}
-use Rattle.ge_rows.specs.declared.jobs.Grant.{Grant}
-use Rattle.ge_rows.specs.declared.jobs.Job.{Job}
-use Rattle.ge_rows.specs.declared.jobs.PeRequest.{PeRequest}
-use Rattle.ge_rows.specs.declared.scheduling.Booking.{Booking}
+use Rattle.ge_model_rows.specs.ClusterRows.{Cluster}
+use Rattle.ge_model_rows.specs.HostRows.{Groups, InstanceId}
+use Rattle.ge_model_rows.specs.JobRows.{Job, PeRequest, Grant}
+use Rattle.ge_model_rows.specs.ScheduleRows.{Booking}
 use Rattle.ge_model_place.specs.Choosing.{no_slots, grants_in, one_slot_more, chosen_from, chosen}
-use Rattle.ge_model_place.specs.Placement.{Cell, one_more, filled, slots_given, everywhere, grant_of, granted, are_admissible, placed_by, job_placement}
+use Rattle.ge_model_place.specs.Placement.{Cell, one_more, filled, slots_given, everywhere, grant_of, granted, are_admissible, placed_by, placement_of, job_placement}
 use Rattle.ge_model_place.specs.Runs.{one_slot}
 use Rattle.ge_model_place.proofs.Chosen.{tally, grants_of_tally, chosen_is_one_more}
 use Rattle.ge_model_place.proofs.Filled.{start_sound}
@@ -65,4 +62,5 @@ module _ (c : Cluster) (groups : Groups) (job : Job) (bookings : List Booking) (
   asked_none order (Some request) none = absurd cc
 
   pub first_admissible : (order : List InstanceId) → job.request.pe ≡ None → job_placement c groups order bookings from (Some job) ≡ option_map one_slot (find takes_one order)
+  unfolding placement_of
   first_admissible order none = asked_none order job.request.pe none

@@ -5,14 +5,11 @@ use Rattle.std.specs.Prelude.{nat_lt, nat_le}
 use Rattle.std.proofs.lemmas.Bool.{cond_both, cases_Bool, cases_lt, leb-true, leb-false, ltb-true, ltb-false}
 use Rattle.std.proofs.lemmas.List.Sums.{sum_by-cons, sum_by-append}
 use Rattle.ge_model_value.specs.Pieces.{each_once}
-use Rattle.ge_rows.specs.declared.cluster.Cluster.{Cluster}
-use Rattle.ge_rows.specs.declared.hosts.Groups.{Groups}
-use Rattle.ge_rows.specs.declared.hosts.InstanceId.{InstanceId}
-use Rattle.ge_rows.specs.declared.jobs.Grant.{Grant}
-use Rattle.ge_rows.specs.declared.jobs.Job.{Job}
-use Rattle.ge_rows.specs.declared.queues.Allocation.{Allocation}
-use Rattle.ge_rows.specs.declared.queues.Allocation.TheVariants.{PeSlots, FillUp}
-use Rattle.ge_rows.specs.declared.scheduling.Booking.{Booking}
+use Rattle.ge_model_rows.specs.ClusterRows.{Cluster}
+use Rattle.ge_model_rows.specs.HostRows.{Groups, InstanceId}
+use Rattle.ge_model_rows.specs.JobRows.{Job, Grant}
+use Rattle.ge_model_rows.specs.PeRows.{Allocation, PeSlots, FillUp}
+use Rattle.ge_model_rows.specs.ScheduleRows.{Booking}
 use Rattle.ge_model_place.specs.Placement.{Cell, cell_of, one_more, filled, slots_given, everywhere, is_on, hosts_in, fuller, on_one_host, spread, grant_of, granted}
 use Rattle.ge_model_place.specs.Choosing.{no_slots, grants_in, chosen, chosen_times, on_first_host, chosen_by, IsPlacedBy}
 use Rattle.ge_model_place.proofs.Chosen.{tally, grants_of_tally, chosen_is_one_more}

@@ -6,14 +6,11 @@ use Rattle.std.proofs.lemmas.List.{append-nil}
 use Rattle.std.proofs.lemmas.List.Concat.{flat_map-append}
 use Rattle.ge_collections.specs.Keyed.{at_number}
 use Rattle.ge_model_site.specs.Groups.{expanded}
-use Rattle.ge_rows.specs.declared.cluster.Cluster.{Cluster}
-use Rattle.ge_rows.specs.declared.jobs.Grant.{Grant}
-use Rattle.ge_rows.specs.declared.scheduling.Booking.{Booking}
-use Rattle.ge_rows.specs.declared.scheduling.Decision.{Decision}
-use Rattle.ge_rows.specs.declared.scheduling.Decision.TheVariants.{Start, Reserve, Skip}
-use Rattle.ge_rows.specs.declared.scheduling.Start.{Start as Starting}
-use Rattle.ge_rows.specs.declared.scheduling.Reservation.{Reservation}
-use Rattle.ge_rows.specs.declared.tasks.TaskId.{TaskId}
+use Rattle.ge_model_rows.specs.ClusterRows.{Cluster}
+use Rattle.ge_model_rows.specs.DecisionRows.{Decision, Start, Reserve, Skip}
+use Rattle.ge_model_rows.specs.JobRows.{Grant}
+use Rattle.ge_model_rows.specs.ScheduleRows.{Booking, Start as Starting, Reservation}
+use Rattle.ge_model_rows.specs.TaskRows.{TaskId}
 use Rattle.ge_model_place.specs.Windows.{base_bookings}
 use Rattle.ge_model_place.specs.Running.{last_serial, task_of, serial_after, is_held_back, may_reserve, booked_by, reserve_at, placed_at, first_moment, reserve_from, later_decision, decision_with, decision_of, decide, run_of}
 use Rattle.ge_model_place.specs.Runs.{bookings_after, placed_after, IsEnd, IsUnplaced, IsSkipped, IsStarted, IsReserved, IsDecided, IsRunAfter, IsRun, DecidesEach, BookingsGrow}

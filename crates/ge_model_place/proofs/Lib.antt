@@ -18,7 +18,12 @@ pub mod Moments
 pub mod Sooner
 pub mod NextEnd
 pub mod First
+pub mod Whole
+pub mod Granted
 mod Site
 mod DayRows
 mod RunRows
+mod ConsumedRows
+mod AdvanceRows
 mod OpenRows
+mod LevelRows

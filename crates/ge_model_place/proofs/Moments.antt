@@ -1,21 +1,18 @@
 -- Admissible grants have room at each moment of their window, and are admissible since the last end of a booking before.
-use Rattle.std.proofs.Common.{◌≡◌, ℕ, ◌+◌, ◌-◌, ◌≤◌, ◌<◌, inl, inr, true, max, List, [], ◌∷◌, fold, refl, arith}
+use Rattle.std.proofs.Common.{◌≡◌, ℕ, ◌+◌, ◌-◌, ◌≤◌, ◌<◌, ◌&&◌, inl, inr, true, max, List, [], ◌∷◌, fold, refl, arith}
 use Rattle.std.specs.List.{list_all}
 use Rattle.std.specs.Prelude.{nat_le, nat_lt}
 use Rattle.std.proofs.lemmas.Bool.{cond_both, cases_Bool, and_parts, and_from, or_cases, or_left, or_right, leb-true, leb-false, le-leb, ltb-true}
-use Rattle.ge_rows.specs.declared.cluster.Cluster.{Cluster}
-use Rattle.ge_rows.specs.declared.hosts.Groups.{Groups}
-use Rattle.ge_rows.specs.declared.jobs.Grant.{Grant}
-use Rattle.ge_rows.specs.declared.jobs.Job.{Job}
-use Rattle.ge_rows.specs.declared.scheduling.Booking.{Booking}
-use Rattle.ge_rows.specs.declared.scheduling.Demand.{Demand}
-use Rattle.ge_rows.specs.declared.scheduling.LimitId.{LimitId}
-use Rattle.ge_model_run.specs.Bookings.{plain_sum, begins_inside, raised, peak}
-use Rattle.ge_model_run.proofs.Peaks.{within_peak}
+use Rattle.ge_model_rows.specs.ClusterRows.{Cluster}
+use Rattle.ge_model_rows.specs.HostRows.{Groups}
+use Rattle.ge_model_rows.specs.JobRows.{Job, Grant}
+use Rattle.ge_model_rows.specs.ScheduleRows.{LimitId, Demand, Booking}
+use Rattle.ge_model_bookings.specs.Bookings.{plain_sum, begins_inside, raised, peak}
+use Rattle.ge_model_bookings.proofs.Peaks.{within_peak}
 use Rattle.ge_model_place.specs.Limits.{capacity_of, demands_of}
 use Rattle.ge_model_place.specs.Placement.{has_room, have_room, are_open, are_admissible}
 use Rattle.ge_model_place.specs.Choosing.{has_room_at, AreAdmissible}
-use Rattle.ge_model_place.specs.Windows.{end_from}
+use Rattle.ge_model_place.specs.Windows.{end_from, is_in_time}
 
 -- the greatest sum of a window is at most what each of its moments is at most
 raised_within : (bookings : List Booking) (limit : LimitId) (from until most n : ℕ) (bs : List Booking) → most ≤ n → ((moment : ℕ) → from ≤ moment → moment < until → plain_sum bookings limit moment ≤ n)
@@ -66,9 +63,11 @@ module _ (c : Cluster) (groups : Groups) (job : Job) (bookings : List Booking) w
   admissible_is from grants e =
       let ds = demands_of c groups job grants in
       let until = end_from c job from in
-      let parts = and_parts (are_open c groups job grants) (have_room c groups bookings from until ds) e in
+      let parts = and_parts (is_in_time c job from && are_open c groups job grants) (have_room c groups bookings from until ds) e in
+      let may = and_parts (is_in_time c job from) (are_open c groups job grants) parts.0 in
       record {
-        opened = parts.0;
+        in_time = may.0;
+        opened = may.1;
         room = λ moment since before. elim (or_cases (nat_le until from) (list_all (has_room c groups bookings from until) ds) parts.1) [
           | inl empty ↦ let none = leb-true until from empty in absurd (omega (arith, none, since, before))
           | inr all ↦ room_at from moment ds since before all
@@ -80,7 +79,7 @@ module _ (c : Cluster) (groups : Groups) (job : Job) (bookings : List Booking) w
   is_admissible from grants are =
       let ds = demands_of c groups job grants in
       let until = end_from c job from in
-      and_from (are_open c groups job grants) (have_room c groups bookings from until ds) are.opened
+      and_from (is_in_time c job from && are_open c groups job grants) (have_room c groups bookings from until ds) (and_from (is_in_time c job from) (are_open c groups job grants) are.in_time are.opened)
       (elim (cases_Bool (nat_le until from)) [
         | inl empty ↦ or_left (nat_le until from) (list_all (has_room c groups bookings from until) ds) empty
         | inr ever ↦ or_right (nat_le until from) (list_all (has_room c groups bookings from until) ds) (room_over from ds (leb-false until from ever) are.room)

@@ -1,7 +1,7 @@
 -- The least end that passes a test is found by going from end to end.
 use Rattle.std.proofs.Common.{◌≡◌, ℕ, ◌<◌, Bool, true, false, List, Option, Some, None, refl, sym, ap, ◌∙◌, arith}
 use Rattle.std.proofs.lemmas.Bool.{true≢false}
-use Rattle.ge_rows.specs.declared.scheduling.Booking.{Booking}
+use Rattle.ge_model_rows.specs.ScheduleRows.{Booking}
 use Rattle.ge_model_place.specs.Running.{earliest_end, next_end_after}
 use Rattle.ge_model_place.specs.Runs.{ends_at}
 use Rattle.ge_model_place.proofs.Earliest.{Does, earliest_does, none_sooner, none_passes}

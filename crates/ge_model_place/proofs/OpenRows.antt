@@ -1,28 +1,18 @@
 -- Which instances take a job, their order, and what is counted there, each by computation.
 use Rattle.std.specs.Prelude.{◌≡◌, ℕ, ◌-◌, ◌*◌, ◌^◌, Bool, true, false, List, [], ◌∷◌, map, codes, refl}
 use Rattle.ge_collections.specs.Keyed.{put_text}
-use Rattle.ge_rows.specs.Opening.{plain_attr, bare_host, default_queue, default_sched}
-use Rattle.ge_rows.specs.declared.cluster.Cluster.{Cluster}
-use Rattle.ge_rows.specs.declared.hosts.InstanceId.{InstanceId}
-use Rattle.ge_rows.specs.declared.jobs.Job.{Job}
-use Rattle.ge_rows.specs.declared.queues.Allocation.TheVariants.{PeSlots, FillUp}
-use Rattle.ge_rows.specs.declared.queues.QueueRow.{QueueRow}
-use Rattle.ge_rows.specs.declared.scheduling.Booking.{Booking}
-use Rattle.ge_rows.specs.declared.scheduling.Decision.TheVariants.{Skip}
-use Rattle.ge_rows.specs.declared.scheduling.LimitId.TheVariants.{Instance, Host, Global, Pe, Quota}
-use Rattle.ge_rows.specs.declared.settings.SortMethod.{SortMethod}
-use Rattle.ge_rows.specs.declared.settings.SortMethod.TheVariants.{Load, Seqno}
-use Rattle.ge_rows.specs.declared.values.ComplexDef.{ComplexDef}
-use Rattle.ge_rows.specs.declared.values.Consumable.{Consumable}
-use Rattle.ge_rows.specs.declared.values.Consumable.TheVariants as consumable
-use Rattle.ge_rows.specs.declared.values.Kind.{Kind}
-use Rattle.ge_rows.specs.declared.values.Kind.TheVariants.{Int, Memory, Bool as Flags}
-use Rattle.ge_rows.specs.declared.values.Relop.{Relop}
-use Rattle.ge_rows.specs.declared.values.Relop.TheVariants.{Eq, Le, Ge}
-use Rattle.ge_rows.specs.declared.values.Requestable.{Requestable}
-use Rattle.ge_rows.specs.declared.values.Requestable.TheVariants as requestable
-use Rattle.ge_rows.specs.declared.values.Value.{Value}
-use Rattle.ge_rows.specs.declared.values.Value.TheVariants.{Amount, Flag, Word}
+use Rattle.ge_model_rows.specs.ClusterRows.{Cluster, default_queue, default_sched, bare_host}
+use Rattle.ge_model_rows.specs.ClusterRows.{plain_attr}
+use Rattle.ge_model_rows.specs.DecisionRows.{Skip}
+use Rattle.ge_model_rows.specs.HostRows.{InstanceId}
+use Rattle.ge_model_rows.specs.JobRows.{Job}
+use Rattle.ge_model_rows.specs.PeRows.{PeSlots, FillUp}
+use Rattle.ge_model_rows.specs.QueueRows.{QueueRow}
+use Rattle.ge_model_rows.specs.ScheduleRows.{Instance, Host, Global, Pe, Quota, Booking}
+use Rattle.ge_model_rows.specs.SettingRows.{SortMethod, Load, Seqno}
+use Rattle.ge_model_rows.specs.ValueRows.{Value, Amount, Flag, Word, Kind, Int, Memory, Relop, Eq}
+use Rattle.ge_model_rows.specs.ValueRows.{Le, Ge, Requestable, Consumable, ComplexDef}
+use Rattle.ge_rows.specs.declared.values.Kind.TheVariants.{Bool as Flags}
 use Rattle.ge_model_site.specs.Groups.{expanded}
 use Rattle.ge_model_value.specs.Complexes.{opening_complexes, opening}
 use Rattle.ge_model_place.specs.InstanceOrder.{instance_order}
@@ -49,21 +39,21 @@ abbrev of_ann : ℕ → List (List ℕ × Value) → ℕ × Job
 of_ann number asked = (number, asking asked (job number (codes "ann")))
 
 -- 4 is not at least 5, and arch is at no level
-values_that_admit : run_of (with_complex (codes "ver") (complex Int Ge requestable.Yes consumable.No (Amount 0)) (Amount 5)
+values_that_admit : run_of (with_complex (codes "ver") (complex Int Ge Requestable.Yes Consumable.No (Amount 0)) (Amount 5)
     (of_ann 1 ((codes "ver", Amount 5) ∷ []) ∷ of_ann 2 ((codes "ver", Amount 4) ∷ []) ∷ of_ann 3 ((codes "arch", Word (codes "lx")) ∷ []) ∷ []))
     (task 1 1 ∷ task 2 1 ∷ task 3 1 ∷ []) 0
     ≡ start 1 (task 1 1) (local 1) ∷ Skip (task 2 1) ∷ Skip (task 3 1) ∷ []
 unfolding with_complex runs
 values_that_admit = refl
 
-forced_is_for_those_who_ask : run_of (with_complex (codes "gpu") (complex Flags Eq requestable.Forced consumable.No (Flag false)) (Flag true)
+forced_is_for_those_who_ask : run_of (with_complex (codes "gpu") (complex Flags Eq Requestable.Forced Consumable.No (Flag false)) (Flag true)
     (of_ann 1 [] ∷ of_ann 2 ((codes "gpu", Flag true) ∷ []) ∷ [])) (task 1 1 ∷ task 2 1 ∷ []) 0
     ≡ Skip (task 1 1) ∷ start 1 (task 2 1) (local 1) ∷ []
 unfolding with_complex runs
 forced_is_for_those_who_ask = refl
 
 -- slots count as asked for
-forced_slots : run_of (with_complex (codes "slots") (complex Int Le requestable.Forced consumable.Yes (Amount 1)) (Amount 1) (of_ann 1 [] ∷ of_ann 2 [] ∷ [])) (task 1 1 ∷ task 2 1 ∷ []) 0
+forced_slots : run_of (with_complex (codes "slots") (complex Int Le Requestable.Forced Consumable.Yes (Amount 1)) (Amount 1) (of_ann 1 [] ∷ of_ann 2 [] ∷ [])) (task 1 1 ∷ task 2 1 ∷ []) 0
     ≡ start 1 (task 1 1) (local 1) ∷ Skip (task 2 1) ∷ []
 unfolding with_complex runs
 forced_slots = refl
@@ -72,7 +62,7 @@ abbrev gigabyte : Value
 gigabyte = Amount (2 ^ 30)
 
 abbrev memory : ComplexDef
-memory = complex Memory Le requestable.Yes consumable.Yes gigabyte
+memory = complex Memory Le Requestable.Yes Consumable.Yes gigabyte
 
 -- a job without a request takes the default, one that asks for nothing takes nothing
 nothing_asked : run_of (with_complex (codes "mem") memory gigabyte (of_ann 1 [] ∷ of_ann 2 ((codes "mem", Amount 0) ∷ []) ∷ [])) (task 1 1 ∷ task 2 1 ∷ []) 0

@@ -1,17 +1,13 @@
 -- The placement of a task is that of its rule in its own words.
 use Rattle.std.proofs.Common.{ℕ, List, Option, Some, None, refl}
 use Rattle.ge_collections.specs.Keyed.{at_text, at_number}
-use Rattle.ge_rows.specs.declared.cluster.Cluster.{Cluster}
-use Rattle.ge_rows.specs.declared.hosts.Groups.{Groups}
-use Rattle.ge_rows.specs.declared.hosts.InstanceId.{InstanceId}
-use Rattle.ge_rows.specs.declared.jobs.Job.{Job}
-use Rattle.ge_rows.specs.declared.jobs.PeRequest.{PeRequest}
-use Rattle.ge_rows.specs.declared.queues.Allocation.{Allocation}
-use Rattle.ge_rows.specs.declared.queues.Allocation.TheVariants.{Fixed, PeSlots, FillUp, RoundRobin}
-use Rattle.ge_rows.specs.declared.queues.PeRow.{PeRow}
-use Rattle.ge_rows.specs.declared.scheduling.Booking.{Booking}
-use Rattle.ge_rows.specs.declared.tasks.TaskId.{TaskId}
-use Rattle.ge_model_place.specs.Placement.{spread, granted, placed_with, placed_by, job_placement, placement}
+use Rattle.ge_model_rows.specs.ClusterRows.{Cluster}
+use Rattle.ge_model_rows.specs.HostRows.{Groups, InstanceId}
+use Rattle.ge_model_rows.specs.JobRows.{Job, PeRequest}
+use Rattle.ge_model_rows.specs.PeRows.{PeRow, Allocation, Fixed, PeSlots, FillUp, RoundRobin}
+use Rattle.ge_model_rows.specs.ScheduleRows.{Booking}
+use Rattle.ge_model_rows.specs.TaskRows.{TaskId}
+use Rattle.ge_model_place.specs.Placement.{spread, granted, placed_with, placed_by, placement_of, job_placement, placement}
 use Rattle.ge_model_place.specs.Choosing.{IsPlacedBy, PlacesRow, PlacesRequest, PlacesJob, PlacesTask}
 use Rattle.ge_model_place.proofs.Blocks.{fixed_is_greatest}
 use Rattle.ge_model_place.proofs.Greatest.{start, fill_up_is_greatest, pe_slots_is_greatest}
@@ -32,9 +28,14 @@ module _ (c : Cluster) (groups : Groups) (order : List InstanceId) (bookings : L
   places_request job None = rule_is_greatest job FillUp 1 1
   places_request job (Some request) = by_row job request (at_text c.pes request.name)
 
+  -- the placement of a job
+  pub places_of : (job : Job) → PlacesRequest c groups order bookings from job job.request.pe (placement_of c groups order bookings job from)
+  unfolding placement_of
+  places_of job = places_request job job.request.pe
+
   places_job : (job : Option Job) → PlacesJob c groups order bookings from job (job_placement c groups order bookings from job)
   places_job None = refl
-  places_job (Some job) = places_request job job.request.pe
+  places_job (Some job) = places_of job
 
   -- the placement of a task
   pub places_task : (task : TaskId) → PlacesTask c groups order bookings task from

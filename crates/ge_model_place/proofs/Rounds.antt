@@ -1,13 +1,11 @@
 -- Under $round_robin the placement is that of the rule in its own words.
 use Rattle.std.proofs.Common.{◌≡◌, ℕ, zero, suc, ◌+◌, ◌-◌, ◌≤◌, ◌<◌, ◌⊎◌, ◌==◌, inl, inr, List, [], ◌∷◌, fold, Option, Some, None, option_map, unwrap_or, refl, sym, subst, ap, ◌∙◌, arith}
 use Rattle.std.proofs.lemmas.Bool.{cond-true, cond-false, cases_Bool, cases_lt, lt-ltb, le-ltb, eqb-true, eq-eqb, ne_eqb}
-use Rattle.ge_rows.specs.declared.cluster.Cluster.{Cluster}
-use Rattle.ge_rows.specs.declared.hosts.Groups.{Groups}
-use Rattle.ge_rows.specs.declared.hosts.InstanceId.{InstanceId}
-use Rattle.ge_rows.specs.declared.jobs.Grant.{Grant}
-use Rattle.ge_rows.specs.declared.jobs.Job.{Job}
-use Rattle.ge_rows.specs.declared.queues.Allocation.TheVariants.{RoundRobin}
-use Rattle.ge_rows.specs.declared.scheduling.Booking.{Booking}
+use Rattle.ge_model_rows.specs.ClusterRows.{Cluster}
+use Rattle.ge_model_rows.specs.HostRows.{Groups, InstanceId}
+use Rattle.ge_model_rows.specs.JobRows.{Job, Grant}
+use Rattle.ge_model_rows.specs.PeRows.{RoundRobin}
+use Rattle.ge_model_rows.specs.ScheduleRows.{Booking}
 use Rattle.ge_model_place.specs.Placement.{Cell, one_more, slots_given, is_on, hosts_in, with_turn, with_round, with_rounds, spread, granted}
 use Rattle.ge_model_place.specs.Choosing.{chosen, taking_turn, in_rounds, no_slots, chosen_by, IsPlacedBy}
 use Rattle.ge_model_place.proofs.Chosen.{tally, chosen_is_one_more}

@@ -1,14 +1,11 @@
 -- Runs with reservations, quotas and parallel environments, each by computation.
 use Rattle.std.specs.Prelude.{◌≡◌, ℕ, true, false, List, [], ◌∷◌, map, codes, refl}
-use Rattle.ge_rows.specs.Opening.{plain_attr, bare_host, default_queue, default_sched}
-use Rattle.ge_rows.specs.declared.cluster.Cluster.{Cluster}
-use Rattle.ge_rows.specs.declared.jobs.Job.{Job}
-use Rattle.ge_rows.specs.declared.jobs.Grant.{Grant}
-use Rattle.ge_rows.specs.declared.queues.Allocation.{Allocation}
-use Rattle.ge_rows.specs.declared.queues.Allocation.TheVariants.{Fixed, PeSlots, FillUp, RoundRobin}
-use Rattle.ge_rows.specs.declared.quotas.Rule.{Rule}
-use Rattle.ge_rows.specs.declared.scheduling.Decision.{Decision}
-use Rattle.ge_rows.specs.declared.scheduling.Decision.TheVariants.{Skip}
+use Rattle.ge_model_rows.specs.ClusterRows.{Cluster, default_queue, default_sched, bare_host}
+use Rattle.ge_model_rows.specs.ClusterRows.{plain_attr}
+use Rattle.ge_model_rows.specs.DecisionRows.{Decision, Skip}
+use Rattle.ge_model_rows.specs.JobRows.{Job, Grant}
+use Rattle.ge_model_rows.specs.PeRows.{Allocation, Fixed, PeSlots, FillUp, RoundRobin}
+use Rattle.ge_model_rows.specs.QuotaRows.{Rule}
 use Rattle.ge_model_value.specs.Complexes.{opening}
 use Rattle.ge_model_place.specs.Running.{run_of}
 use Rattle.ge_model_place.proofs.Site.{runs, local, lasting, job, in_queues, with_pe, reserving, task, slots_of, one, start, reserve, running, pe, filter_of, user_rule, rule_set}

@@ -3,11 +3,10 @@ use Rattle.std.proofs.Common.{◌≡◌, ℕ, true, ◌&&◌, ◌==◌, List, []
 use Rattle.std.specs.Prelude.{nat_eq}
 use Rattle.std.proofs.lemmas.Bool.{and_parts, and_from, eqb-true, eq-eqb, true≢false}
 use Rattle.ge_collections.specs.Keyed.{text_eq}
-use Rattle.ge_rows.specs.declared.hosts.InstanceId.{InstanceId}
-use Rattle.ge_rows.specs.declared.scheduling.LimitId.{LimitId}
-use Rattle.ge_rows.specs.declared.scheduling.LimitId.TheVariants.{Instance, Host, Global, Pe, Quota}
-use Rattle.ge_rows.specs.declared.scheduling.QuotaKey.{QuotaKey}
-use Rattle.ge_model_run.specs.Bookings.{same_instance, same_filters, same_key, same_limit}
+use Rattle.ge_model_rows.specs.HostRows.{InstanceId}
+use Rattle.ge_model_rows.specs.ScheduleRows.{LimitId, Instance, Host, Global, Pe, Quota}
+use Rattle.ge_model_rows.specs.ScheduleRows.{Advance as Booked, QuotaKey}
+use Rattle.ge_model_bookings.specs.Bookings.{same_instance, same_filters, same_key, same_limit}
 
 -- texts that pass the test are equal, and a text passes it beside itself
 pub texts_equal : (a b : List ℕ) → text_eq a b ≡ true → a ≡ b
@@ -64,6 +63,8 @@ limits_equal (Host a name) (Host b other) e =
 limits_equal (Global name) (Global other) e = ap Global (texts_equal name other e)
 limits_equal (Pe name) (Pe other) e = ap Pe (texts_equal name other e)
 limits_equal (Quota a) (Quota b) e = ap Quota (keys_equal a b e)
+limits_equal (Booked n a) (Booked m b) e =
+    let parts = and_parts (n == m) (same_instance a b) e in ap (λ x. Booked x a) (eqb-true n m parts.0) ∙ ap (λ x. Booked m x) (instances_equal a b parts.1)
 limits_equal _ _ e = absurd (true≢false (sym e))
 
 pub limit_same : (a : LimitId) → same_limit a a ≡ true
@@ -72,3 +73,4 @@ limit_same (Host a name) = and_from (text_eq a a) (text_eq name name) (text_same
 limit_same (Global name) = text_same name
 limit_same (Pe name) = text_same name
 limit_same (Quota a) = key_same a
+limit_same (Booked n a) = and_from (n == n) (same_instance a a) (eq-eqb n n refl) (instance_same a)

@@ -1,24 +1,15 @@
 -- What the rows' clusters are made of.
 use Rattle.std.specs.Prelude.{ℕ, Bool, true, false, pos, List, [], ◌∷◌, Option, Some, None, codes}
-use Rattle.ge_rows.specs.Opening.{default_queue, default_sched, opening_cluster}
+use Rattle.ge_model_rows.specs.ClusterRows.{opening_cluster, default_queue, default_sched}
+use Rattle.ge_model_rows.specs.DecisionRows.{Decision, Start, Reserve}
+use Rattle.ge_model_rows.specs.HostRows.{HostRow, InstanceId}
+use Rattle.ge_model_rows.specs.JobRows.{Job, Running, Grant}
+use Rattle.ge_model_rows.specs.PeRows.{PeRow, Allocation, Min}
+use Rattle.ge_model_rows.specs.QuotaRows.{QuotaRow, Rule, Filter}
+use Rattle.ge_model_rows.specs.TaskRows.{TaskId}
+use Rattle.ge_model_rows.specs.ValueRows.{Value, Amount}
 use Rattle.ge_model_place.specs.Running.{runs_in_full}
 use Rattle.ge_model_value.specs.Complexes.{opening, opening_complexes}
-use Rattle.ge_rows.specs.declared.values.Value.TheVariants.{Amount}
-use Rattle.ge_rows.specs.declared.hosts.HostRow.{HostRow}
-use Rattle.ge_rows.specs.declared.hosts.InstanceId.{InstanceId}
-use Rattle.ge_rows.specs.declared.jobs.Grant.{Grant}
-use Rattle.ge_rows.specs.declared.jobs.Job.{Job}
-use Rattle.ge_rows.specs.declared.jobs.Running.{Running}
-use Rattle.ge_rows.specs.declared.queues.Allocation.{Allocation}
-use Rattle.ge_rows.specs.declared.queues.PeRow.{PeRow}
-use Rattle.ge_rows.specs.declared.queues.UrgencySlots.TheVariants.{Min}
-use Rattle.ge_rows.specs.declared.quotas.Filter.{Filter}
-use Rattle.ge_rows.specs.declared.quotas.QuotaRow.{QuotaRow}
-use Rattle.ge_rows.specs.declared.quotas.Rule.{Rule}
-use Rattle.ge_rows.specs.declared.scheduling.Decision.{Decision}
-use Rattle.ge_rows.specs.declared.scheduling.Decision.TheVariants.{Start, Reserve}
-use Rattle.ge_rows.specs.declared.tasks.TaskId.{TaskId}
-use Rattle.ge_rows.specs.declared.values.Value.{Value}
 
 -- a job of a user in the group staff that asks for nothing
 unfoldable pub job : ℕ → List ℕ → Job
@@ -47,6 +38,7 @@ job number owner = record {
   oticket = 0;
   words = [];
   script = [];
+  advance = 0;
 }
 
 -- the same with requests

@@ -1,5 +1,5 @@
 -- What a run books of a limit: at each moment from now on no more than there is, unless more was booked before it.
-use Rattle.std.proofs.Common.{◌≡◌, ℕ, ◌+◌, ◌≤◌, ◌<◌, ◌⊎◌, inl, inr, true, max, List, [], ◌∷◌, ◌++◌, fold, Option, Some, None, refl, sym, subst, ap, arith}
+use Rattle.std.proofs.Common.{◌≡◌, ℕ, ◌+◌, ◌≤◌, ◌<◌, ◌⊎◌, ◌&&◌, inl, inr, true, max, List, [], ◌∷◌, ◌++◌, fold, Option, Some, None, refl, sym, subst, ap, arith}
 use Rattle.std.specs.List.{list_all}
 use Rattle.std.specs.Prelude.{nat_lt, nat_le}
 use Rattle.std.proofs.lemmas.Bool.{cond_both, cases_Bool, and_parts, or_cases, ltb-true, leb-true}
@@ -7,22 +7,17 @@ use Rattle.std.proofs.lemmas.List.{append-nil}
 use Rattle.std.proofs.lemmas.List.Sums.{sum_by_push}
 use Rattle.ge_collections.specs.Keyed.{at_number}
 use Rattle.ge_model_site.specs.Groups.{expanded}
-use Rattle.ge_rows.specs.declared.cluster.Cluster.{Cluster}
-use Rattle.ge_rows.specs.declared.hosts.Groups.{Groups}
-use Rattle.ge_rows.specs.declared.hosts.InstanceId.{InstanceId}
-use Rattle.ge_rows.specs.declared.jobs.Grant.{Grant}
-use Rattle.ge_rows.specs.declared.jobs.Job.{Job}
-use Rattle.ge_rows.specs.declared.scheduling.Booking.{Booking}
-use Rattle.ge_rows.specs.declared.scheduling.Decision.{Decision}
-use Rattle.ge_rows.specs.declared.scheduling.Decision.TheVariants.{Start, Skip}
-use Rattle.ge_rows.specs.declared.scheduling.Demand.{Demand}
-use Rattle.ge_rows.specs.declared.scheduling.LimitId.{LimitId}
-use Rattle.ge_rows.specs.declared.tasks.TaskId.{TaskId}
-use Rattle.ge_model_run.specs.Bookings.{is_within, taken_by, demand_on, plain_sum, peak}
-use Rattle.ge_model_run.proofs.Peaks.{within_peak}
+use Rattle.ge_model_rows.specs.ClusterRows.{Cluster}
+use Rattle.ge_model_rows.specs.DecisionRows.{Decision, Start, Skip}
+use Rattle.ge_model_rows.specs.HostRows.{Groups, InstanceId}
+use Rattle.ge_model_rows.specs.JobRows.{Job, Grant}
+use Rattle.ge_model_rows.specs.ScheduleRows.{LimitId, Demand, Booking}
+use Rattle.ge_model_rows.specs.TaskRows.{TaskId}
+use Rattle.ge_model_bookings.specs.Bookings.{is_within, taken_by, demand_on, plain_sum, peak}
+use Rattle.ge_model_bookings.proofs.Peaks.{within_peak}
 use Rattle.ge_model_place.specs.Limits.{capacity_of, demands_of}
 use Rattle.ge_model_place.specs.Placement.{has_room, have_room, are_open, are_admissible, job_placement, placement}
-use Rattle.ge_model_place.specs.Windows.{end_from, booking_of, base_bookings}
+use Rattle.ge_model_place.specs.Windows.{end_from, is_in_time, booking_of, base_bookings}
 use Rattle.ge_model_place.specs.Running.{last_serial, serial_after, is_held_back, may_reserve, booking_at, booked_by, reserve_at, placed_at, first_moment, reserve_from, later_decision, decision_with, decision_of, decide, run_of}
 use Rattle.ge_model_place.specs.Runs.{IsRun, KeepsLimits}
 use Rattle.ge_model_place.proofs.Once.{Each, asks_once}
@@ -53,7 +48,7 @@ module _ (c : Cluster) (g : Groups) (limit : LimitId) (moment : ℕ) where
   room_or_none job booked from grants ever admissible =
       let until = end_from c job from in
       let ds = demands_of c g job grants in
-      let rooms = (and_parts (are_open c g job grants) (have_room c g booked from until ds) admissible).1 in
+      let rooms = (and_parts (is_in_time c job from && are_open c g job grants) (have_room c g booked from until ds) admissible).1 in
       elim (or_cases (nat_le until from) (list_all (has_room c g booked from until) ds) rooms) [
         | inl empty ↦ absurd (let past : until ≤ from = leb-true until from empty in omega (arith, past, ever))
         | inr all ↦
@@ -61,7 +56,7 @@ module _ (c : Cluster) (g : Groups) (limit : LimitId) (moment : ℕ) where
       ]
 
   -- admissible grants, booked
-  one_booked : (job : Job) (task : TaskId) (booked : List Booking) (from : ℕ) (grants : List Grant) → are_admissible c g job booked from grants ≡ true
+  pub one_booked : (job : Job) (task : TaskId) (booked : List Booking) (from : ℕ) (grants : List Grant) → are_admissible c g job booked from grants ≡ true
       → Keeps booked (booked ++ booking_of c g job task grants from ∷ [])
   one_booked job task booked from grants admissible =
       let b = booking_of c g job task grants from in

@@ -4,22 +4,16 @@ use Rattle.std.specs.Prelude.{◌≡◌, ℕ, zero, suc, ◌+◌, ◌/◌, ◌%�
 use Rattle.ge_model_value.specs.Pieces.{each_once}
 use Rattle.std.specs.List.{list_all}
 use Rattle.std.specs.Prelude.{nat_le}
-use Rattle.ge_model_run.specs.Bookings.{plain_sum}
-use Rattle.ge_rows.specs.declared.scheduling.Demand.{Demand}
+use Rattle.ge_model_bookings.specs.Bookings.{plain_sum}
+use Rattle.ge_model_rows.specs.ClusterRows.{Cluster}
+use Rattle.ge_model_rows.specs.HostRows.{Groups, InstanceId}
+use Rattle.ge_model_rows.specs.JobRows.{Job, PeRequest, Grant}
+use Rattle.ge_model_rows.specs.PeRows.{PeRow, Allocation, Fixed, PeSlots, FillUp, RoundRobin}
+use Rattle.ge_model_rows.specs.ScheduleRows.{Demand, Booking}
+use Rattle.ge_model_rows.specs.TaskRows.{TaskId}
 use Rattle.ge_collections.specs.Keyed.{at_text, at_number}
-use Rattle.ge_rows.specs.declared.cluster.Cluster.{Cluster}
-use Rattle.ge_rows.specs.declared.hosts.Groups.{Groups}
-use Rattle.ge_rows.specs.declared.hosts.InstanceId.{InstanceId}
-use Rattle.ge_rows.specs.declared.jobs.Grant.{Grant}
-use Rattle.ge_rows.specs.declared.jobs.Job.{Job}
-use Rattle.ge_rows.specs.declared.jobs.PeRequest.{PeRequest}
-use Rattle.ge_rows.specs.declared.queues.Allocation.{Allocation}
-use Rattle.ge_rows.specs.declared.queues.Allocation.TheVariants.{Fixed, PeSlots, FillUp, RoundRobin}
-use Rattle.ge_rows.specs.declared.queues.PeRow.{PeRow}
-use Rattle.ge_rows.specs.declared.scheduling.Booking.{Booking}
-use Rattle.ge_rows.specs.declared.tasks.TaskId.{TaskId}
 use Rattle.ge_model_place.specs.Limits.{capacity_of, demands_of}
-use Rattle.ge_model_place.specs.Windows.{end_from}
+use Rattle.ge_model_place.specs.Windows.{end_from, is_in_time}
 use Rattle.ge_model_place.specs.Placement.{are_open, everywhere, is_on, are_admissible, placement}
 
 -- no slot of any instance yet
@@ -42,8 +36,9 @@ module _ (c : Cluster) (groups : Groups) (job : Job) (bookings : List Booking) (
   abbrev pub has_room_at : ℕ → Demand → Bool
   has_room_at moment demand = nat_le (plain_sum bookings demand.limit moment + demand.amount) (capacity_of c groups demand.limit)
 
-  -- what admissible grants are: their instances are open, and at each moment of the window there is room for all that they ask
+  -- what admissible grants are: the job's reservation lasts where it is sent into one, the instances are open, and at each moment of the window there is room for all that they ask
   pub record AreAdmissible (grants : List Grant) : Type 0 where
+    pub in_time : is_in_time c job from ≡ true
     pub opened : are_open c groups job grants ≡ true
     pub room : (moment : ℕ) → from ≤ moment → moment < end_from c job from → list_all (has_room_at moment) (demands_of c groups job grants) ≡ true
 

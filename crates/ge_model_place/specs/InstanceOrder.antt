@@ -6,15 +6,11 @@ use Rattle.std.specs.Ordering.{ordering_then, nat_cmp}
 use Rattle.std.specs.declared.cmp.Ordering.{Ordering}
 use Rattle.ge_collections.specs.Keyed.{text_cmp, at_text}
 use Rattle.ge_model_site.specs.Queues.{attr_at, instances_of}
-use Rattle.ge_rows.specs.Opening.{infinity}
-use Rattle.ge_rows.specs.declared.cluster.Cluster.{Cluster}
-use Rattle.ge_rows.specs.declared.hosts.Groups.{Groups}
-use Rattle.ge_rows.specs.declared.hosts.InstanceId.{InstanceId}
-use Rattle.ge_rows.specs.declared.queues.QueueRow.{QueueRow}
-use Rattle.ge_rows.specs.declared.settings.SortMethod.{SortMethod}
-use Rattle.ge_rows.specs.declared.settings.SortMethod.TheVariants.{Load, Seqno}
-use Rattle.ge_rows.specs.declared.values.Value.{Value}
-use Rattle.ge_rows.specs.declared.values.Value.TheVariants.{Amount, Flag, Word}
+use Rattle.ge_model_rows.specs.ClusterRows.{Cluster}
+use Rattle.ge_model_rows.specs.HostRows.{Groups, InstanceId}
+use Rattle.ge_model_rows.specs.QueueRows.{QueueRow}
+use Rattle.ge_model_rows.specs.SettingRows.{SortMethod, Load, Seqno}
+use Rattle.ge_model_rows.specs.ValueRows.{Value, Amount, Flag, Word, infinity}
 use Rattle.ge_model_place.specs.Opening.{reported}
 
 -- a report that is no amount counts as none

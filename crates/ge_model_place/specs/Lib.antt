@@ -1,9 +1,12 @@
 pub mod Quotas
 pub mod Opening
+pub mod StandIns
 pub mod Limits
 pub mod Windows
 pub mod InstanceOrder
+pub mod Demands
 pub mod Placement
 pub mod Choosing
+pub mod Advances
 pub mod Running
 pub mod Runs

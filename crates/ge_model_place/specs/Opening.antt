@@ -8,18 +8,12 @@ use Rattle.ge_model_text.specs.Pattern.{pattern_covers}
 use Rattle.ge_model_value.specs.Complexes.{complex_at, is_consumable}
 use Rattle.ge_model_value.specs.Pieces.{is_empty, before_byte, behind_byte, has_byte, is_one_of}
 use Rattle.ge_model_value.specs.Relops.{admits, holds_between}
-use Rattle.ge_rows.specs.declared.cluster.Cluster.{Cluster}
-use Rattle.ge_rows.specs.declared.hosts.Groups.{Groups}
-use Rattle.ge_rows.specs.declared.hosts.HostRow.{HostRow}
-use Rattle.ge_rows.specs.declared.hosts.InstanceId.{InstanceId}
-use Rattle.ge_rows.specs.declared.jobs.Job.{Job}
-use Rattle.ge_rows.specs.declared.jobs.PeRequest.{PeRequest}
-use Rattle.ge_rows.specs.declared.queues.PeRow.{PeRow}
-use Rattle.ge_rows.specs.declared.queues.QueueRow.{QueueRow}
-use Rattle.ge_rows.specs.declared.values.ComplexDef.{ComplexDef}
-use Rattle.ge_rows.specs.declared.values.Requestable.{Requestable}
-use Rattle.ge_rows.specs.declared.values.Requestable.TheVariants as requestable
-use Rattle.ge_rows.specs.declared.values.Value.{Value}
+use Rattle.ge_model_rows.specs.ClusterRows.{Cluster}
+use Rattle.ge_model_rows.specs.HostRows.{HostRow, Groups, InstanceId}
+use Rattle.ge_model_rows.specs.JobRows.{Job, PeRequest}
+use Rattle.ge_model_rows.specs.PeRows.{PeRow}
+use Rattle.ge_model_rows.specs.QueueRows.{QueueRow}
+use Rattle.ge_model_rows.specs.ValueRows.{Value, Requestable, ComplexDef}
 
 -- the resource that each queue has by itself: queue_conf, slots
 abbrev pub slots_name : List ℕ
@@ -102,9 +96,9 @@ abbrev pub consumes_what_is : Cluster → Groups → InstanceId → QueueRow →
 consumes_what_is c groups at q asked = not (is_consumable c asked.0) || is_configured c groups at q asked.0
 
 abbrev pub is_forced : Requestable → Bool
-is_forced requestable.No = false
-is_forced requestable.Yes = false
-is_forced requestable.Forced = true
+is_forced Requestable.No = false
+is_forced Requestable.Yes = false
+is_forced Requestable.Forced = true
 
 -- whether a job asks for an attribute; it always asks for slots
 abbrev pub asks_for : Job → List ℕ → Bool

@@ -3,24 +3,17 @@ use Rattle.std.specs.Prelude.{ℕ, zero, suc, ◌+◌, ◌*◌, ◌==◌, Bool, 
 use Rattle.std.specs.List.{list_all}
 use Rattle.std.specs.Option.{option_map}
 use Rattle.ge_collections.specs.Keyed.{text_eq, at_text, at_number}
-use Rattle.ge_model_run.specs.Bookings.{same_limit, peak}
+use Rattle.ge_model_bookings.specs.Bookings.{same_limit, peak}
 use Rattle.ge_model_value.specs.Pieces.{each_once}
-use Rattle.ge_rows.specs.declared.queues.PeRow.{PeRow}
-use Rattle.ge_rows.specs.declared.scheduling.Booking.{Booking}
-use Rattle.ge_rows.specs.declared.scheduling.Demand.{Demand}
-use Rattle.ge_rows.specs.declared.scheduling.LimitId.{LimitId}
-use Rattle.ge_rows.specs.declared.cluster.Cluster.{Cluster}
-use Rattle.ge_rows.specs.declared.jobs.Grant.{Grant}
-use Rattle.ge_rows.specs.declared.hosts.Groups.{Groups}
-use Rattle.ge_rows.specs.declared.hosts.InstanceId.{InstanceId}
-use Rattle.ge_rows.specs.declared.jobs.Job.{Job}
-use Rattle.ge_rows.specs.declared.jobs.PeRequest.{PeRequest}
-use Rattle.ge_rows.specs.declared.queues.Allocation.{Allocation}
-use Rattle.ge_rows.specs.declared.queues.Allocation.TheVariants.{Fixed, PeSlots, FillUp, RoundRobin}
-use Rattle.ge_rows.specs.declared.tasks.TaskId.{TaskId}
+use Rattle.ge_model_rows.specs.ClusterRows.{Cluster}
+use Rattle.ge_model_rows.specs.HostRows.{Groups, InstanceId}
+use Rattle.ge_model_rows.specs.JobRows.{Job, PeRequest, Grant}
+use Rattle.ge_model_rows.specs.PeRows.{PeRow, Allocation, Fixed, PeSlots, FillUp, RoundRobin}
+use Rattle.ge_model_rows.specs.ScheduleRows.{LimitId, Demand, Booking}
+use Rattle.ge_model_rows.specs.TaskRows.{TaskId}
 use Rattle.ge_model_place.specs.Limits.{Counted, greatest_demand, capacity_of, counted_at, demands_of}
 use Rattle.ge_model_place.specs.Opening.{is_open}
-use Rattle.ge_model_place.specs.Windows.{end_from}
+use Rattle.ge_model_place.specs.Windows.{end_from, is_in_time}
 
 -- whether there is room for a demand at each moment of a window
 abbrev pub has_room : Cluster → Groups → List Booking → ℕ → ℕ → Demand → Bool
@@ -34,16 +27,16 @@ have_room c groups bookings from until demands = nat_le until from || list_all (
 abbrev pub are_open : Cluster → Groups → Job → List Grant → Bool
 are_open c groups job grants = list_all (λ grant. is_open c groups job grant.at) grants
 
--- whether grants are admissible from a moment on, over what is booked
+-- whether grants are admissible from a moment on, over what is booked; of a job that is sent into a reservation only while that lasts
 unfoldable pub are_admissible : Cluster → Groups → Job → List Booking → ℕ → List Grant → Bool
-are_admissible c groups job bookings from grants = are_open c groups job grants && have_room c groups bookings from (end_from c job from) (demands_of c groups job grants)
+are_admissible c groups job bookings from grants = is_in_time c job from && are_open c groups job grants && have_room c groups bookings from (end_from c job from) (demands_of c groups job grants)
 
 -- a limit that a slot at an instance counts for, with the most that is booked of it in the window
 pub record Room : Type 0 where
   pub counted : Counted
   pub booked : ℕ
 
--- an instance while slots are given: whether it is open, the limits that a slot there counts for, and the slots that it was given
+-- an instance while slots are given: whether it takes slots from that moment on, the limits that a slot there counts for, and the slots that it was given
 pub record Cell : Type 0 where
   pub at : InstanceId
   pub opened : Bool
@@ -60,7 +53,7 @@ rooms_in bookings from until counted = if nat_lt from until then map (room_of bo
 -- an instance before any slot is given
 abbrev pub cell_of : Cluster → Groups → Job → List Booking → ℕ → InstanceId → Cell
 cell_of c groups job bookings from at =
-    record { at = at; opened = is_open c groups job at; rooms = rooms_in bookings from (end_from c job from) (counted_at c groups job at); slots = 0 }
+    record { at = at; opened = is_in_time c job from && is_open c groups job at; rooms = rooms_in bookings from (end_from c job from) (counted_at c groups job at); slots = 0 }
 
 -- what one room counts of a limit for one slot
 abbrev pub slot_asks : LimitId → Room → ℕ
@@ -74,9 +67,13 @@ cell_asks limit cell = cond (cell.slots == 0) 0 (cell.slots * sum_by (slot_asks 
 abbrev pub asked_so_far : List Cell → LimitId → ℕ
 asked_so_far cells limit = sum_by (cell_asks limit) cells
 
+-- what one more slot and those given so far ask of a limit; what is asked once doesn't grow
+abbrev pub asked_with_one : List Cell → Counted → ℕ
+asked_with_one cells counted = if counted.once then counted.amount else asked_so_far cells counted.limit + counted.amount
+
 -- whether a limit has room for one more slot beside those given so far
 abbrev pub fits_one_more : List Cell → Room → Bool
-fits_one_more cells room = nat_le (room.booked + min (asked_so_far cells room.counted.limit + room.counted.amount) greatest_demand) room.counted.capacity
+fits_one_more cells room = nat_le (room.booked + min (asked_with_one cells room.counted) greatest_demand) room.counted.capacity
 
 -- whether an instance takes one more slot beside those given so far
 abbrev pub takes_one_more : List Cell → Cell → Bool
@@ -169,11 +166,15 @@ abbrev pub placed_by : Cluster → List Cell → Option PeRequest → Option (Li
 placed_by c cells None = granted 1 (spread FillUp 1 cells)
 placed_by c cells (Some request) = placed_with cells request (at_text c.pes request.name)
 
--- the grants of a task of a job from a moment on, over what is booked
+-- the grants of a task of a job from a moment on, over what is booked; the job may be one that isn't in the table
+unfoldable pub placement_of : Cluster → Groups → List InstanceId → List Booking → Job → ℕ → Option (List Grant)
+placement_of c groups order bookings job from = placed_by c (map (cell_of c groups job bookings from) order) job.request.pe
+
 abbrev pub job_placement : Cluster → Groups → List InstanceId → List Booking → ℕ → Option Job → Option (List Grant)
 job_placement c groups order bookings from None = None
-job_placement c groups order bookings from (Some job) = placed_by c (map (cell_of c groups job bookings from) order) job.request.pe
+job_placement c groups order bookings from (Some job) = placement_of c groups order bookings job from
 
--- the grants of a task from a moment on, over what is booked
+-- the grants of a task of the table's jobs from a moment on, over what is booked
 unfoldable pub placement : Cluster → Groups → List InstanceId → List Booking → TaskId → ℕ → Option (List Grant)
+unfolding placement_of
 placement c groups order bookings task from = job_placement c groups order bookings from (at_number c.jobs task.job)

@@ -6,12 +6,10 @@ use Rattle.ge_model_site.specs.Access.{in_user_set}
 use Rattle.ge_model_site.specs.Groups.{group_has}
 use Rattle.ge_model_text.specs.Pattern.{pattern_covers}
 use Rattle.ge_model_value.specs.Pieces.{is_empty}
-use Rattle.ge_rows.specs.declared.cluster.Cluster.{Cluster}
-use Rattle.ge_rows.specs.declared.hosts.Groups.{Groups}
-use Rattle.ge_rows.specs.declared.quotas.Filter.{Filter}
-use Rattle.ge_rows.specs.declared.quotas.QuotaRow.{QuotaRow}
-use Rattle.ge_rows.specs.declared.quotas.Rule.{Rule}
-use Rattle.ge_rows.specs.declared.scheduling.QuotaKey.{QuotaKey}
+use Rattle.ge_model_rows.specs.ClusterRows.{Cluster}
+use Rattle.ge_model_rows.specs.HostRows.{Groups}
+use Rattle.ge_model_rows.specs.QuotaRows.{QuotaRow, Rule, Filter}
+use Rattle.ge_model_rows.specs.ScheduleRows.{QuotaKey}
 
 -- who asks, and where: what a rule's filters look at; project and PE are empty where there is none
 pub record Who : Type 0 where

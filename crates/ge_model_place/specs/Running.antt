@@ -1,18 +1,16 @@
 -- A scheduling run: one decision for each task, in the order of the tasks.
 use Rattle.std.specs.Prelude.{ℕ, ◌+◌, ◌-◌, ◌^◌, ◌==◌, Bool, true, false, not, ◌&&◌, cond, if◌then◌else◌, nat_lt, nat_le, List, [], ◌∷◌, ◌++◌, fold, length, sum_by, count_by, Option, Some, None, is_some}
 use Rattle.ge_collections.specs.Keyed.{text_eq, at_number}
-use Rattle.ge_model_run.specs.Bookings.{forever}
+use Rattle.ge_limits.specs.Limits as limit
+use Rattle.ge_model_bookings.specs.Bookings.{forever}
 use Rattle.ge_model_site.specs.Groups.{members_of, expanded}
 use Rattle.ge_model_site.specs.Queues.{instances_of, resolved}
-use Rattle.ge_rows.specs.declared.cluster.Cluster.{Cluster}
-use Rattle.ge_rows.specs.declared.hosts.Groups.{Groups}
-use Rattle.ge_rows.specs.declared.hosts.InstanceId.{InstanceId}
-use Rattle.ge_rows.specs.declared.jobs.Grant.{Grant}
-use Rattle.ge_rows.specs.declared.jobs.Job.{Job}
-use Rattle.ge_rows.specs.declared.scheduling.Booking.{Booking}
-use Rattle.ge_rows.specs.declared.scheduling.Decision.{Decision}
-use Rattle.ge_rows.specs.declared.scheduling.Decision.TheVariants as decision
-use Rattle.ge_rows.specs.declared.tasks.TaskId.{TaskId}
+use Rattle.ge_model_rows.specs.ClusterRows.{Cluster}
+use Rattle.ge_model_rows.specs.DecisionRows.{Decision}
+use Rattle.ge_model_rows.specs.HostRows.{Groups, InstanceId}
+use Rattle.ge_model_rows.specs.JobRows.{Job, Grant}
+use Rattle.ge_model_rows.specs.ScheduleRows.{Booking}
+use Rattle.ge_model_rows.specs.TaskRows.{TaskId}
 use Rattle.ge_model_place.specs.InstanceOrder.{instance_order}
 use Rattle.ge_model_place.specs.Limits.{counted_at, demands_of}
 use Rattle.ge_model_place.specs.Opening.{is_open, reaches_threshold}
@@ -21,23 +19,23 @@ use Rattle.ge_model_place.specs.Windows.{booking_of, base_bookings}
 
 -- the last number that a dispatch gets
 abbrev pub last_serial : ℕ
-last_serial = 2 ^ 48 - 1
+last_serial = limit.last_serial
 
 -- the task of a decision
 abbrev pub task_of : Decision → TaskId
-task_of (decision.Start start) = start.task
-task_of (decision.Reserve kept) = kept.task
-task_of (decision.Skip task) = task
+task_of (Decision.Start start) = start.task
+task_of (Decision.Reserve kept) = kept.task
+task_of (Decision.Skip task) = task
 
 abbrev pub is_start : Decision → Bool
-is_start (decision.Start start) = true
-is_start (decision.Reserve kept) = false
-is_start (decision.Skip task) = false
+is_start (Decision.Start start) = true
+is_start (Decision.Reserve kept) = false
+is_start (Decision.Skip task) = false
 
 abbrev pub is_reserve : Decision → Bool
-is_reserve (decision.Start start) = false
-is_reserve (decision.Reserve kept) = true
-is_reserve (decision.Skip task) = false
+is_reserve (Decision.Start start) = false
+is_reserve (Decision.Reserve kept) = true
+is_reserve (Decision.Skip task) = false
 
 -- the number that the next start gets, after these decisions
 abbrev pub serial_after : Cluster → List Decision → ℕ
@@ -69,11 +67,11 @@ abbrev pub is_held_back : Cluster → List Decision → Option Job → Bool
 is_held_back c decisions None = false
 is_held_back c decisions (Some job) = owner_is_full c decisions job.owner
 
--- the bound on the reservations of one run: qsub, -R; sched_conf, max_reservation
+-- the bound on the reservations of one run: qsub, -R; sched_conf, max_reservation; a job that is sent into an advance reservation asks for none
 
 abbrev pub asks_reservation : Option Job → Bool
 asks_reservation None = false
-asks_reservation (Some job) = job.reserve
+asks_reservation (Some job) = job.reserve && job.advance == 0
 
 -- whether a task may be reserved, after these decisions
 abbrev pub may_reserve : Cluster → List Decision → Option Job → Bool
@@ -106,18 +104,18 @@ booking_at c groups None task grants from = []
 booking_at c groups (Some job) task grants from = booking_of c groups job task grants from ∷ []
 
 abbrev pub booked_by : Cluster → Groups → ℕ → Decision → List Booking
-booked_by c groups now (decision.Start start) = booking_at c groups (at_number c.jobs start.task.job) start.task start.grants now
-booked_by c groups now (decision.Reserve kept) = booking_at c groups (at_number c.jobs kept.task.job) kept.task kept.grants kept.at
-booked_by c groups now (decision.Skip task) = []
+booked_by c groups now (Decision.Start start) = booking_at c groups (at_number c.jobs start.task.job) start.task start.grants now
+booked_by c groups now (Decision.Reserve kept) = booking_at c groups (at_number c.jobs kept.task.job) kept.task kept.grants kept.at
+booked_by c groups now (Decision.Skip task) = []
 
 -- a start with these grants and the next number, where there is one left
 abbrev pub start_with : TaskId → ℕ → List Grant → Decision
-start_with task serial grants = if nat_lt last_serial serial then decision.Skip task else decision.Start (record { task = task; serial = serial; grants = grants })
+start_with task serial grants = if nat_lt last_serial serial then Decision.Skip task else Decision.Start (record { task = task; serial = serial; grants = grants })
 
 -- a reservation from a moment on with the grants that there are then
 abbrev pub reserve_at : TaskId → ℕ → Option (List Grant) → Decision
-reserve_at task moment None = decision.Skip task
-reserve_at task moment (Some grants) = decision.Reserve (record { task = task; at = moment; grants = grants })
+reserve_at task moment None = Decision.Skip task
+reserve_at task moment (Some grants) = Decision.Reserve (record { task = task; at = moment; grants = grants })
 
 module _ (c : Cluster) (groups : Groups) (order : List InstanceId) (now : ℕ) where
   -- the grants of a task from a moment on
@@ -129,12 +127,12 @@ module _ (c : Cluster) (groups : Groups) (order : List InstanceId) (now : ℕ) w
   first_moment bookings task = earliest_end (λ moment. is_some (placed_at bookings task moment)) now bookings
 
   abbrev pub reserve_from : List Booking → TaskId → Option ℕ → Decision
-  reserve_from bookings task None = decision.Skip task
+  reserve_from bookings task None = Decision.Skip task
   reserve_from bookings task (Some moment) = reserve_at task moment (placed_at bookings task moment)
 
   -- of a task that can't start now: a reservation, or none
   abbrev pub later_decision : List Booking → List Decision → TaskId → Decision
-  later_decision bookings decisions task = if may_reserve c decisions (at_number c.jobs task.job) then reserve_from bookings task (first_moment bookings task) else decision.Skip task
+  later_decision bookings decisions task = if may_reserve c decisions (at_number c.jobs task.job) then reserve_from bookings task (first_moment bookings task) else Decision.Skip task
 
   -- of a task whose owner may have one more: a start where it can be placed now
   abbrev pub decision_with : List Booking → List Decision → TaskId → Option (List Grant) → Decision
@@ -144,7 +142,7 @@ module _ (c : Cluster) (groups : Groups) (order : List InstanceId) (now : ℕ) w
   -- the decision of a task, over what is booked and was decided before
   abbrev pub decision_of : List Booking → List Decision → TaskId → Decision
   decision_of bookings decisions task =
-      if is_held_back c decisions (at_number c.jobs task.job) then decision.Skip task else decision_with bookings decisions task (placed_at bookings task now)
+      if is_held_back c decisions (at_number c.jobs task.job) then Decision.Skip task else decision_with bookings decisions task (placed_at bookings task now)
 
   abbrev pub with_decision : List Booking × List Decision → Decision → List Booking × List Decision
   with_decision so_far d = (so_far.0 ++ booked_by c groups now d, so_far.1 ++ d ∷ [])

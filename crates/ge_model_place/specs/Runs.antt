@@ -2,17 +2,14 @@
 use Rattle.std.specs.Prelude.{◌≡◌, ℕ, ◌≤◌, ◌<◌, ◌⊎◌, true, false, max, List, [], ◌∷◌, ◌++◌, map, flat_map, Option, Some, None, ◌==◌, Bool}
 use Rattle.std.specs.List.{list_any}
 use Rattle.ge_collections.specs.Keyed.{at_number}
-use Rattle.ge_model_run.specs.Bookings.{forever, plain_sum}
+use Rattle.ge_model_bookings.specs.Bookings.{forever, plain_sum}
 use Rattle.ge_model_site.specs.Groups.{expanded}
-use Rattle.ge_rows.specs.declared.cluster.Cluster.{Cluster}
-use Rattle.ge_rows.specs.declared.hosts.InstanceId.{InstanceId}
-use Rattle.ge_rows.specs.declared.jobs.Grant.{Grant}
-use Rattle.ge_rows.specs.declared.jobs.Job.{Job}
-use Rattle.ge_rows.specs.declared.scheduling.Booking.{Booking}
-use Rattle.ge_rows.specs.declared.scheduling.Decision.{Decision}
-use Rattle.ge_rows.specs.declared.scheduling.Decision.TheVariants as decision
-use Rattle.ge_rows.specs.declared.scheduling.LimitId.{LimitId}
-use Rattle.ge_rows.specs.declared.tasks.TaskId.{TaskId}
+use Rattle.ge_model_rows.specs.ClusterRows.{Cluster}
+use Rattle.ge_model_rows.specs.DecisionRows.{Decision}
+use Rattle.ge_model_rows.specs.HostRows.{InstanceId}
+use Rattle.ge_model_rows.specs.JobRows.{Job, Grant}
+use Rattle.ge_model_rows.specs.ScheduleRows.{LimitId, Booking}
+use Rattle.ge_model_rows.specs.TaskRows.{TaskId}
 use Rattle.ge_model_place.specs.InstanceOrder.{instance_order}
 use Rattle.ge_model_place.specs.Limits.{capacity_of}
 use Rattle.ge_model_place.specs.Placement.{are_admissible, placement}
@@ -87,9 +84,9 @@ module _ (c : Cluster) (now : ℕ) where
 
   -- a decision of a task that may come after these decisions of a run
   abbrev pub IsDecided : List Decision → TaskId → Decision → Type 0
-  IsDecided before task (decision.Start start) = (start.task ≡ task) × IsStarted before task start.serial start.grants
-  IsDecided before task (decision.Reserve kept) = (kept.task ≡ task) × IsReserved before task kept.at kept.grants
-  IsDecided before task (decision.Skip skipped) = (skipped ≡ task) × IsSkipped before task
+  IsDecided before task (Decision.Start start) = (start.task ≡ task) × IsStarted before task start.serial start.grants
+  IsDecided before task (Decision.Reserve kept) = (kept.task ≡ task) × IsReserved before task kept.at kept.grants
+  IsDecided before task (Decision.Skip skipped) = (skipped ≡ task) × IsSkipped before task
 
   -- decisions of these tasks, one for each and in their order, that come after the decisions before
   abbrev pub IsRunAfter : List Decision → List TaskId → List Decision → Type 0
