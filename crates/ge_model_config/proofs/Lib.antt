@@ -2,6 +2,7 @@ pub mod Site
 mod ObjectRows
 mod QueueRows
 mod TableRows
+mod ShareRows
 mod LimitRows
 mod PrintRows
 mod UsedRows
@@ -19,6 +20,7 @@ mod ReadBackPeople
 mod ReadBackEnvironments
 pub mod ReadBackTables
 pub mod ReadBackObjects
+pub mod Answered
 pub mod ReadBackChanged
 mod ReadBackCases
 pub mod ReadBackNamed

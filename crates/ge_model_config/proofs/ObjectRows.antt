@@ -1,10 +1,12 @@
 -- Bodies of hosts, groups, parallel environments, user sets, users, projects and settings, and what answers them.
-use Rattle.std.specs.Prelude.{true, false, [], ◌∷◌, Some, None, codes, refl}
-use Rattle.ge_base.specs.declared.refusal.Refusal.TheVariants.{NoSuchObject, Exists, BadValue, Cycle}
-use Rattle.ge_rows.specs.declared.entries.ObjectKind.TheVariants as object
+use Rattle.std.specs.Prelude.{◌≡◌, Ok, Err, true, false, [], ◌∷◌, Some, None, codes, refl}
+use Rattle.ge_base.specs.declared.refusal.Refusal.TheVariants.{Syntax, NoSuchObject, Exists, BadValue, Cycle}
+use Rattle.ge_model_rows.specs.EntryRows.{Item, ObjectKind}
+use Rattle.ge_model_grammar.specs.Bodies.{grammar_of_bodies}
+use Rattle.ge_model_config.specs.Reading.{body_read, items_of_bodies}
 use Rattle.ge_model_config.proofs.Site.{site, answer, Answers}
 
-hosts_added : Answers site object.Host true (
+hosts_added : Answers site ObjectKind.Host true (
     (codes "hostname h5", None)
     ∷ (codes "hostname h5\ncomplex_values mem=1G, mem=2G ver=1", Some NoSuchObject)
     ∷ (codes "hostname n1", Some Exists)
@@ -18,14 +20,14 @@ hosts_added : Answers site object.Host true (
 unfolding answer site
 hosts_added = refl
 
-hosts_changed : Answers site object.Host false (
+hosts_changed : Answers site ObjectKind.Host false (
     (codes "hostname h5", Some NoSuchObject)
     ∷ (codes "hostname a/b", Some NoSuchObject)
     ∷ [])
 unfolding answer site
 hosts_changed = refl
 
-groups_added : Answers site object.Group true (
+groups_added : Answers site ObjectKind.Group true (
     (codes "group_name @c\nhostlist @c", Some NoSuchObject)
     ∷ (codes "group_name @c\nhostlist n1 @big", None)
     ∷ (codes "group_name c", Some BadValue)
@@ -38,7 +40,7 @@ groups_added : Answers site object.Group true (
 unfolding answer site
 groups_added = refl
 
-groups_changed : Answers site object.Group false (
+groups_changed : Answers site ObjectKind.Group false (
     (codes "group_name @big\nhostlist @big", Some Cycle)
     ∷ (codes "group_name @big\nhostlist n1 @all", Some Cycle)
     ∷ (codes "group_name @c", Some NoSuchObject)
@@ -46,7 +48,7 @@ groups_changed : Answers site object.Group false (
 unfolding answer site
 groups_changed = refl
 
-pes_added : Answers site object.Pe true (
+pes_added : Answers site ObjectKind.Pe true (
     (codes "pe_name mpi", None)
     ∷ (codes "pe_name smp", Some Exists)
     ∷ (codes "pe_name mpi\nslots 1.5", Some BadValue)
@@ -62,13 +64,13 @@ pes_added : Answers site object.Pe true (
 unfolding answer site
 pes_added = refl
 
-pes_changed : Answers site object.Pe false (
+pes_changed : Answers site ObjectKind.Pe false (
     (codes "pe_name mpi", Some NoSuchObject)
     ∷ [])
 unfolding answer site
 pes_changed = refl
 
-sets_added : Answers site object.Set true (
+sets_added : Answers site ObjectKind.Set true (
     (codes "name x\nentries ann, @staff", None)
     ∷ (codes "name x\nentries a/b", Some BadValue)
     ∷ (codes "name x\nentries @", Some BadValue)
@@ -79,13 +81,13 @@ sets_added : Answers site object.Set true (
 unfolding answer site
 sets_added = refl
 
-sets_changed : Answers site object.Set false (
+sets_changed : Answers site ObjectKind.Set false (
     (codes "name x", Some NoSuchObject)
     ∷ [])
 unfolding answer site
 sets_changed = refl
 
-users_added : Answers site object.User true (
+users_added : Answers site ObjectKind.User true (
     (codes "name ann\nfshare 4294967295", None)
     ∷ (codes "name ann\nfshare 4294967296", Some BadValue)
     ∷ (codes "name ann\noticket x", Some BadValue)
@@ -94,13 +96,13 @@ users_added : Answers site object.User true (
 unfolding answer site
 users_added = refl
 
-users_changed : Answers site object.User false (
+users_changed : Answers site ObjectKind.User false (
     (codes "name ann", Some NoSuchObject)
     ∷ [])
 unfolding answer site
 users_changed = refl
 
-projects_added : Answers site object.Project true (
+projects_added : Answers site ObjectKind.Project true (
     (codes "name lab\nacl dev\noticket 7", None)
     ∷ (codes "name lab\nxacl nosuch", Some NoSuchObject)
     ∷ (codes "name web", Some Exists)
@@ -109,13 +111,13 @@ projects_added : Answers site object.Project true (
 unfolding answer site
 projects_added = refl
 
-projects_changed : Answers site object.Project false (
+projects_changed : Answers site ObjectKind.Project false (
     (codes "name lab", Some NoSuchObject)
     ∷ [])
 unfolding answer site
 projects_changed = refl
 
-settings : Answers site object.Sched false (
+settings : Answers site ObjectKind.Sched false (
     (codes "max_reservation 4", None)
     ∷ (codes "load_formula nosuch", Some NoSuchObject)
     ∷ (codes "load_formula arch", Some BadValue)
@@ -134,3 +136,16 @@ settings : Answers site object.Sched false (
     ∷ [])
 unfolding answer site
 settings = refl
+
+-- a body is answered with what it gives, or with its first refusal; off the grammar with a syntax error
+a_set : body_read site ObjectKind.Set true (codes "name qa\nentries eve") ≡ Ok (Item.Set (codes "qa") (codes "eve" ∷ []))
+unfolding body_read site items_of_bodies grammar_of_bodies
+a_set = refl
+
+a_refused_set : body_read site ObjectKind.Set true (codes "name dev\nentries @") ≡ Err Exists
+unfolding body_read site items_of_bodies grammar_of_bodies
+a_refused_set = refl
+
+no_set : body_read site ObjectKind.Set true (codes "entries eve") ≡ Err Syntax
+unfolding body_read site items_of_bodies grammar_of_bodies
+no_set = refl

@@ -1,10 +1,10 @@
 -- Bodies of queues, and what answers them.
 use Rattle.std.specs.Prelude.{true, false, [], ◌∷◌, Some, None, codes, refl}
 use Rattle.ge_base.specs.declared.refusal.Refusal.TheVariants.{Syntax, NoSuchObject, Exists, BadValue}
-use Rattle.ge_rows.specs.declared.entries.ObjectKind.TheVariants as object
+use Rattle.ge_model_rows.specs.EntryRows.{ObjectKind}
 use Rattle.ge_model_config.proofs.Site.{site, answer, Answers}
 
-queues_added : Answers site object.Queue true (
+queues_added : Answers site ObjectKind.Queue true (
     (codes "qname a", None)
     ∷ (codes "qname all.q", Some Exists)
     ∷ (codes "qname a/b", Some BadValue)
@@ -30,13 +30,13 @@ queues_added : Answers site object.Queue true (
 unfolding answer site
 queues_added = refl
 
-queues_changed : Answers site object.Queue false (
+queues_changed : Answers site ObjectKind.Queue false (
     (codes "qname a", Some NoSuchObject)
     ∷ [])
 unfolding answer site
 queues_changed = refl
 
-overrides : Answers site object.Queue true (
+overrides : Answers site ObjectKind.Queue true (
     (codes "qname a\nslots 1,[n1=2],[@big=3]", None)
     ∷ (codes "qname a\nslots 1 , [n1=2]\t,[n2=3] ", None)
     ∷ (codes "qname a\nslots 1,[n9=2]", Some NoSuchObject)

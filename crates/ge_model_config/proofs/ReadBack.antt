@@ -4,21 +4,15 @@ use Rattle.std.specs.Int.{is_in_range}
 use Rattle.std.specs.List.{list_all}
 use Rattle.ge_base.specs.declared.refusal.Refusal.{Refusal}
 use Rattle.ge_collections.specs.Keyed.{put_text}
-use Rattle.ge_rows.specs.Opening.{infinity}
-use Rattle.ge_rows.specs.declared.cluster.Cluster.{Cluster}
-use Rattle.ge_rows.specs.declared.entries.Item.{Item}
-use Rattle.ge_rows.specs.declared.entries.Item.TheVariants as item
-use Rattle.ge_rows.specs.declared.entries.ObjectKind.{ObjectKind}
-use Rattle.ge_rows.specs.declared.entries.ObjectKind.TheVariants as object
-use Rattle.ge_rows.specs.declared.people.ProjectRow.{ProjectRow}
-use Rattle.ge_rows.specs.declared.people.UserRow.{UserRow}
-use Rattle.ge_rows.specs.declared.queues.Allocation.{Allocation}
-use Rattle.ge_rows.specs.declared.queues.Allocation.TheVariants as allocation
-use Rattle.ge_rows.specs.declared.queues.PeRow.{PeRow}
-use Rattle.ge_rows.specs.declared.queues.UrgencySlots.{UrgencySlots}
-use Rattle.ge_rows.specs.declared.queues.UrgencySlots.TheVariants as assumed
+use Rattle.ge_model_rows.specs.ClusterRows.{Cluster}
+use Rattle.ge_model_rows.specs.EntryRows.{Item, ObjectKind}
+use Rattle.ge_model_rows.specs.PeRows.{PeRow, Allocation, UrgencySlots}
+use Rattle.ge_model_rows.specs.PeopleRows.{UserRow, ProjectRow}
+use Rattle.ge_model_rows.specs.ValueRows.{infinity}
 use Rattle.ge_model_script.specs.Names.{is_name}
-use Rattle.ge_model_grammar.specs.Bodies.{Body, Attributes, body_of}
+use Rattle.ge_model_grammar.specs.declared.Body.{Body}
+use Rattle.ge_model_grammar.specs.declared.Body.TheVariants.{Attributes}
+use Rattle.ge_model_grammar.specs.Bodies.{body_of}
 use Rattle.ge_model_grammar.specs.Configuring.{is_group_name}
 use Rattle.ge_model_config.specs.Cited.{is_named, cited, is_host_or_group}
 use Rattle.ge_model_config.specs.Named.{name_faults}
@@ -71,11 +65,11 @@ abbrev pub are_slots : ℕ → Bool
 are_slots n = is_in_range 1 1000000 n
 
 abbrev pub IsAllocation : Allocation → Type 0
-IsAllocation (allocation.Fixed n) = are_slots n ≡ true
+IsAllocation (Allocation.Fixed n) = are_slots n ≡ true
 IsAllocation _ = Unit {0}
 
 abbrev pub IsAssumed : UrgencySlots → Type 0
-IsAssumed (assumed.Fixed n) = are_slots n ≡ true
+IsAssumed (UrgencySlots.Fixed n) = are_slots n ≡ true
 IsAssumed _ = Unit {0}
 
 -- a parallel environment
@@ -89,23 +83,23 @@ pub record IsEnvironment (c : Cluster) (name : List ℕ) (pe : PeRow) : Type 0 w
 
 -- what a body of a kind is read to without a refusal; the other kinds aren't spoken of here
 abbrev pub IsRead : Cluster → ObjectKind → Item → Type 0
-IsRead c object.Group (item.Group name hosts) = IsGroup c name hosts
-IsRead c object.Set (item.Set name entries) = IsSet name entries
-IsRead c object.User (item.User name user) = IsUser name user
-IsRead c object.Project (item.Project name project) = IsProject c name project
-IsRead c object.Pe (item.Pe name pe) = IsEnvironment c name pe
+IsRead c ObjectKind.Group (Item.Group name hosts) = IsGroup c name hosts
+IsRead c ObjectKind.Set (Item.Set name entries) = IsSet name entries
+IsRead c ObjectKind.User (Item.User name user) = IsUser name user
+IsRead c ObjectKind.Project (Item.Project name project) = IsProject c name project
+IsRead c ObjectKind.Pe (Item.Pe name pe) = IsEnvironment c name pe
 IsRead c _ _ = ⊥
 
 -- ---- what is read back
 
 -- the refusals of an object's name, the only ones that depend on whether it is added or changed
 abbrev pub faults_of_name : Cluster → Bool → Item → List Refusal
-faults_of_name c adding (item.Host name values) = name_faults object.Host 4096 c.hosts adding name
-faults_of_name c adding (item.Group name hosts) = name_faults object.Group 1024 c.groups adding name
-faults_of_name c adding (item.Set name entries) = name_faults object.Set 1024 c.sets adding name
-faults_of_name c adding (item.User name user) = name_faults object.User 100000 c.users adding name
-faults_of_name c adding (item.Project name project) = name_faults object.Project 10000 c.projects adding name
-faults_of_name c adding (item.Pe name pe) = name_faults object.Pe 256 c.pes adding name
+faults_of_name c adding (Item.Host name values) = name_faults ObjectKind.Host 4096 c.hosts adding name
+faults_of_name c adding (Item.Group name hosts) = name_faults ObjectKind.Group 1024 c.groups adding name
+faults_of_name c adding (Item.Set name entries) = name_faults ObjectKind.Set 1024 c.sets adding name
+faults_of_name c adding (Item.User name user) = name_faults ObjectKind.User 100000 c.users adding name
+faults_of_name c adding (Item.Project name project) = name_faults ObjectKind.Project 10000 c.projects adding name
+faults_of_name c adding (Item.Pe name pe) = name_faults ObjectKind.Pe 256 c.pes adding name
 faults_of_name c adding _ = []
 
 -- the printed lines of an object, joined by line feeds, with or without one behind the last, are a body. It is read to the object again, and refused

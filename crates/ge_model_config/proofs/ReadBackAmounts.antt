@@ -4,7 +4,7 @@ use Rattle.std.specs.List.{list_all}
 use Rattle.std.proofs.Math.Nat.{div-div-eq-div-mul}
 use Rattle.std.proofs.lemmas.Bool.{and_parts, cond-true}
 use Rattle.std.proofs.lemmas.Nat.{div-add-mod'}
-use Rattle.ge_rows.specs.Opening.{million}
+use Rattle.ge_model_rows.specs.ValueRows.{million}
 use Rattle.ge_model_text.specs.declared.Form.TheVariants as form
 use Rattle.ge_model_text.specs.declared.Progress.{Progress}
 use Rattle.ge_model_text.specs.declared.Progress.TheVariants.{Whole, Minutes, Seconds, Part}
@@ -13,7 +13,7 @@ use Rattle.ge_model_text.specs.declared.ValueFault.TheVariants.{Digit}
 use Rattle.ge_model_text.specs.Reading.{cut, bounded, if_occurs, reading_from, reading}
 use Rattle.ge_model_text.specs.Value.{is_digit, unit_at, number_after, number}
 use Rattle.ge_model_value.specs.Values.{digit_at, fixed_text, clock_text}
-use Rattle.ge_model_tasks.proofs.Digits.{decimal_digits, decimal_worth, all_digits}
+use Rattle.ge_model_tasks.proofs.Digits.{decimal_digits, decimal_number, all_digits}
 use Rattle.ge_model_config.proofs.ReadBackNumbers.{GoesOn, decimal_on, cut_twice, within_limit}
 
 -- ---- digits behind a colon
@@ -58,9 +58,9 @@ clock_back n small =
     ap (reading form.Time) (append_assoc (decimal (n / 3600) ++ codes ":" ++ decimal (n / 60 % 60)) (codes ":") (decimal (n % 60)) ∙ append_assoc (decimal (n / 3600) ++ codes ":") (decimal (n / 60 % 60)) seconds ∙ append_assoc (decimal (n / 3600)) (codes ":") (decimal (n / 60 % 60) ++ seconds))
     ∙ hours.1
     ∙ minutes.1
-    ∙ ap (λ z. reading_from form.Time (Minutes (cut (n / 3600)) (cut z)) minutes.0 seconds) (decimal_worth (n / 60 % 60) (omega arith))
+    ∙ ap (λ z. reading_from form.Time (Minutes (cut (n / 3600)) (cut z)) minutes.0 seconds) (decimal_number (n / 60 % 60) (omega arith))
     ∙ seconds_on (cut (n / 3600)) (cut (n / 60 % 60)) 0 (minutes.0 + 1) (decimal (n % 60)) (digits_of (n % 60))
-    ∙ ap (λ z. bounded (cut (3600 * cut (n / 3600) + 60 * cut (n / 60 % 60) + cut z))) (decimal_worth (n % 60) (omega arith))
+    ∙ ap (λ z. bounded (cut (3600 * cut (n / 3600) + 60 * cut (n / 60 % 60) + cut z))) (decimal_number (n % 60) (omega arith))
     ∙ ap (λ z. bounded (cut z)) (clock_worth n small)
     ∙ within_limit n small
   where

@@ -3,13 +3,15 @@ use Rattle.std.proofs.Common.{◌≡◌, ℕ, ◌-◌, arith, ◌&&◌, Bool, tr
 use Rattle.std.specs.List.{list_all, before_first, after_first}
 use Rattle.std.proofs.lemmas.Bool.{and_parts, and_from, not-true, true≢false}
 use Rattle.std.proofs.lemmas.List.Folds.{list_all-append}
-use Rattle.ge_rows.specs.declared.entries.ObjectKind.{ObjectKind}
+use Rattle.ge_model_rows.specs.EntryRows.{ObjectKind}
 use Rattle.ge_model_text.specs.Words.{is_blank}
 use Rattle.ge_model_value.specs.Pieces.{is_empty, trimmed, is_one_of, joined_by}
 use Rattle.ge_model_tasks.proofs.Digits.{AreWithout, pieces_joined}
 use Rattle.ge_model_grammar.specs.Lines.{is_plain_byte, is_plain_line, text_lines, begins_with, ends_in}
 use Rattle.ge_model_grammar.specs.Attributes.{known_attributes, naming_attributes}
-use Rattle.ge_model_grammar.specs.Bodies.{Body, Attributes, counts, joined_lines, body_lines, attribute_line, has_attribute, with_attribute, attributes_after, if_named, attribute_body, body_in, body_of}
+use Rattle.ge_model_grammar.specs.declared.Body.{Body}
+use Rattle.ge_model_grammar.specs.declared.Body.TheVariants.{Attributes}
+use Rattle.ge_model_grammar.specs.Bodies.{counts, joined_lines, body_lines, attribute_line, has_attribute, with_attribute, attributes_after, if_named, attribute_body, body_in, body_of}
 use Rattle.ge_model_config.specs.Printing.{attribute_line as printed_line}
 use Rattle.ge_model_config.proofs.ReadBackTexts.{is_printing_byte, is_printing, is_shown, shown_bytes, all_weaker, shown_plain, plain_without_feed, not_joined, shown_printing, shown_whole, trimmed_between, trimmed_shown, word_before, text_behind}
 

@@ -9,22 +9,19 @@ use Rattle.std.proofs.lemmas.Map.Text.{is_eq-slice_cmp}
 use Rattle.ge_base.specs.declared.refusal.Refusal.{Refusal}
 use Rattle.ge_base.specs.declared.refusal.Refusal.TheVariants.{BadValue, Limit}
 use Rattle.ge_collections.specs.Keyed.{text_cmp, text_eq, put_text}
-use Rattle.ge_rows.specs.Opening.{infinity}
-use Rattle.ge_rows.specs.declared.cluster.Cluster.{Cluster}
-use Rattle.ge_rows.specs.declared.entries.Item.{Item}
-use Rattle.ge_rows.specs.declared.entries.Item.TheVariants as item
-use Rattle.ge_rows.specs.declared.entries.ObjectKind.TheVariants as object
-use Rattle.ge_rows.specs.declared.values.ComplexDef.{ComplexDef}
-use Rattle.ge_rows.specs.declared.values.Kind.{Kind}
-use Rattle.ge_rows.specs.declared.values.Kind.TheVariants as kind
-use Rattle.ge_rows.specs.declared.values.Value.{Value}
+use Rattle.ge_model_rows.specs.ClusterRows.{Cluster}
+use Rattle.ge_model_rows.specs.EntryRows.{Item, ObjectKind}
+use Rattle.ge_model_rows.specs.ValueRows.{Value, Kind, ComplexDef, infinity}
 use Rattle.ge_model_script.specs.Names.{is_name}
 use Rattle.ge_model_value.specs.Faults.{when}
 use Rattle.ge_model_value.specs.Pieces.{is_one_of}
 use Rattle.ge_model_value.specs.Values.{value_of}
 use Rattle.ge_model_grammar.specs.Lines.{is_plain_line, text_lines, read_after, read_each}
-use Rattle.ge_model_grammar.specs.Bodies.{Body, ComplexRows, ComplexLine, complex_line, complex_body, body_lines, body_of}
-use Rattle.ge_model_config.specs.Complexes.{fits_relop, older_complex, kind_in, relop_in, consumable_in, urgency_read, complex_row, row_faults, put_complex, are_distinct, words_for, use_faults, complexes_item}
+use Rattle.ge_model_grammar.specs.declared.Body.{Body}
+use Rattle.ge_model_grammar.specs.declared.ComplexLine.{ComplexLine}
+use Rattle.ge_model_grammar.specs.declared.Body.TheVariants.{ComplexRows}
+use Rattle.ge_model_grammar.specs.Bodies.{complex_line, complex_body, body_lines, body_of}
+use Rattle.ge_model_config.specs.Complexes.{fits_use, older_complex, kind_in, relop_in, consumable_in, urgency_read, complex_row, row_faults, put_complex, are_distinct, words_for, use_faults, complexes_item}
 use Rattle.ge_model_config.specs.Printing.{complex_line as printed_line, printed}
 use Rattle.ge_model_config.specs.Reading.{item_of}
 use Rattle.ge_model_config.proofs.ReadBackTables.{AllAbove, Rises, above_put, above_more, put_behind}
@@ -59,12 +56,12 @@ lines_whole ended (row ∷ []) = λ h. row_whole row
 lines_whole ended (row ∷ next ∷ rows) = (row_whole row, lines_whole ended (next ∷ rows))
 
 -- the printed lines of a table are read to its words
-pub table_parsed : (rows : List (List ℕ × ComplexDef)) (ended : Bool) → AreComplexes rows → body_of object.Complexes (text_of_lines ended (map printed_line rows)) ≡ Some (ComplexRows (map words_of rows))
+pub table_parsed : (rows : List (List ℕ × ComplexDef)) (ended : Bool) → AreComplexes rows → body_of ObjectKind.Complexes (text_of_lines ended (map printed_line rows)) ≡ Some (ComplexRows (map words_of rows))
 unfolding body_of complex_body
 table_parsed [] true all = refl
 table_parsed [] false all = refl
 table_parsed (row ∷ rows) ended all =
-    lines_back object.Complexes (printed_line row) (map printed_line rows) ended (lines_are (row ∷ rows) all) (lines_whole ended (row ∷ rows))
+    lines_back ObjectKind.Complexes (printed_line row) (map printed_line rows) ended (lines_are (row ∷ rows) all) (lines_whole ended (row ∷ rows))
     ∙ ap (option_map ComplexRows) (rows_read [] (row ∷ rows) all)
 
 -- ---- the table
@@ -113,8 +110,8 @@ pub record IsTable (c : Cluster) (table : List (List ℕ × ComplexDef)) : Type 
 -- a table is printed as it is read, and given in place of the whole table it is refused for nothing
 pub record TableReadsBack (c : Cluster) (table : List (List ℕ × ComplexDef)) (ended : Bool) : Type 0 where
   pub body : Body
-  pub parsed : body_of object.Complexes (text_of_lines ended (printed c (item.Complexes table))) ≡ Some body
-  pub again : item_of c object.Complexes false body ≡ (item.Complexes table, [])
+  pub parsed : body_of ObjectKind.Complexes (text_of_lines ended (printed c (Item.Complexes table))) ≡ Some body
+  pub again : item_of c ObjectKind.Complexes false body ≡ (Item.Complexes table, [])
 
 pub table_back : (c : Cluster) (table : List (List ℕ × ComplexDef)) → IsTable c table → (ended : Bool) → TableReadsBack c table ended
 unfolding printed item_of complexes_item
@@ -123,11 +120,11 @@ table_back c table is ended = record {
   parsed = table_parsed table ended is.rows;
   again =
       ap (λ rows. (
-        item.Complexes rows,
+        Item.Complexes rows,
         flat_map (row_faults c) lines ++ when (not (are_distinct (map (λ line. line.name) lines))) BadValue ++ when (not (are_distinct (flat_map words_for rows))) BadValue
             ++ flat_map (use_faults c rows) c.complexes ++ when (nat_lt 1024 (length rows)) Limit,
       )) (rows_put c [] table is.rows)
-      ∙ (λ i. (item.Complexes table, rows_accepted c table is.rows i ++ when (not (names_differ table is.rows i)) BadValue ++ is.words i ++ is.used i ++ is.few i));
+      ∙ (λ i. (Item.Complexes table, rows_accepted c table is.rows i ++ when (not (names_differ table is.rows i)) BadValue ++ is.words i ++ is.used i ++ is.few i));
 }
   where
     lines : List ComplexLine
@@ -144,7 +141,7 @@ fallback_fits k (Some value) old fits some = fits
 row_read : (c : Cluster) (line : ComplexLine) → row_faults c line ≡ [] → IsComplex line.name (complex_row c line)
 row_read c line none =
     let five = both_empty _ (urgency_read line).1 none in
-    let four = both_empty _ (when (not (fits_relop (kind_in c line) (relop_in c line) (consumable_in line))) BadValue) five.0 in
+    let four = both_empty _ (when (not (fits_use line.name (kind_in c line) (relop_in c line) (consumable_in line))) BadValue) five.0 in
     let three = both_empty _ (when (is_none (value_of (kind_in c line) line.fallback)) BadValue) four.0 in
     let two = both_empty _ _ three.0 in
     let one = both_empty (when (not (is_name line.name && is_name line.shortcut)) BadValue) _ two.0 in
@@ -153,8 +150,8 @@ row_read c line none =
       named = names.0;
       short = names.1;
       fallback = fallback_fits (kind_in c line) (value_of (kind_in c line) line.fallback) (older_complex c line).fallback (value_fits (kind_in c line) line.fallback) three.1;
-      urgency = in_range 0 infinity (value_of kind.Double line.urgency) five.1;
-      compared = holds_unless (fits_relop (kind_in c line) (relop_in c line) (consumable_in line)) BadValue four.1;
+      urgency = in_range 0 infinity (value_of Kind.Double line.urgency) five.1;
+      compared = holds_unless (fits_use line.name (kind_in c line) (relop_in c line) (consumable_in line)) BadValue four.1;
     }
 
 put_complexes : (name : List ℕ) (d : ComplexDef) (rows : List (List ℕ × ComplexDef)) → IsComplex name d → AreComplexes rows → AreComplexes (put_text rows name d)
@@ -174,7 +171,7 @@ rows_are c table (line ∷ lines) all none =
     rows_are c (put_complex c table line) lines (put_complexes line.name (complex_row c line) table (row_read c line parts.0) all) parts.1
 
 abbrev pub IsTableItem : Cluster → Item → Type 0
-IsTableItem c (item.Complexes table) = IsTable c table
+IsTableItem c (Item.Complexes table) = IsTable c table
 IsTableItem c _ = ⊥
 
 -- that a body is rows, where there is one
@@ -183,7 +180,7 @@ AreRows None = Unit {0}
 AreRows (Some (ComplexRows rows)) = Unit {0}
 AreRows (Some _) = ⊥
 
-are_rows : (text : List ℕ) → AreRows (body_of object.Complexes text)
+are_rows : (text : List ℕ) → AreRows (body_of ObjectKind.Complexes text)
 unfolding body_of complex_body
 are_rows text = by (list_all is_plain_line (text_lines text))
   where
@@ -196,8 +193,8 @@ are_rows text = by (list_all is_plain_line (text_lines text))
     by false = tt
 
 -- what is read without a refusal is a table, where the table that it is added to is one; in place of the whole table it always is
-pub complexes_read : (c : Cluster) (adding : Bool) (text : List ℕ) (body : Body) (thing : Item) → (adding ≡ true → AreComplexes c.complexes) → body_of object.Complexes text ≡ Some body
-    → item_of c object.Complexes adding body ≡ (thing, []) → IsTableItem c thing
+pub complexes_read : (c : Cluster) (adding : Bool) (text : List ℕ) (body : Body) (thing : Item) → (adding ≡ true → AreComplexes c.complexes) → body_of ObjectKind.Complexes text ≡ Some body
+    → item_of c ObjectKind.Complexes adding body ≡ (thing, []) → IsTableItem c thing
 unfolding item_of complexes_item
 complexes_read c adding text body thing known parsed is = subst TableFrom is (by body (subst AreRows parsed (are_rows text))) refl
   where
@@ -208,7 +205,7 @@ complexes_read c adding text body thing known parsed is = subst TableFrom is (by
     before true known = known refl
     before false known = tt
 
-    rows : (lines : List ComplexLine) → TableFrom (item_of c object.Complexes adding (ComplexRows lines))
+    rows : (lines : List ComplexLine) → TableFrom (item_of c ObjectKind.Complexes adding (ComplexRows lines))
     rows lines none =
         let table = fold (put_complex c) (if adding then c.complexes else []) lines in
         let five = both_empty _ (when (nat_lt 1024 (length table)) Limit) none in
@@ -217,11 +214,11 @@ complexes_read c adding text body thing known parsed is = subst TableFrom is (by
         let two = both_empty (flat_map (row_faults c) lines) _ three.0 in
         record { rows = rows_are c (if adding then c.complexes else []) lines (before adding known) two.0; words = three.1; used = four.1; few = five.1 }
 
-    by : (body : Body) → AreRows (Some body) → TableFrom (item_of c object.Complexes adding body)
+    by : (body : Body) → AreRows (Some body) → TableFrom (item_of c ObjectKind.Complexes adding body)
     by (ComplexRows lines) fits = rows lines
     by _ fits = absurd fits
 
 -- a table of complexes that was read without a refusal reads back
-pub complexes_read_back : (c : Cluster) (adding : Bool) (text : List ℕ) (body : Body) (table : List (List ℕ × ComplexDef)) → (adding ≡ true → AreComplexes c.complexes) → body_of object.Complexes text ≡ Some body
-    → item_of c object.Complexes adding body ≡ (item.Complexes table, []) → (ended : Bool) → TableReadsBack c table ended
-complexes_read_back c adding text body table known parsed is = table_back c table (complexes_read c adding text body (item.Complexes table) known parsed is)
+pub complexes_read_back : (c : Cluster) (adding : Bool) (text : List ℕ) (body : Body) (table : List (List ℕ × ComplexDef)) → (adding ≡ true → AreComplexes c.complexes) → body_of ObjectKind.Complexes text ≡ Some body
+    → item_of c ObjectKind.Complexes adding body ≡ (Item.Complexes table, []) → (ended : Bool) → TableReadsBack c table ended
+complexes_read_back c adding text body table known parsed is = table_back c table (complexes_read c adding text body (Item.Complexes table) known parsed is)

@@ -1,20 +1,15 @@
 -- A printed parallel environment reads back.
 use Rattle.std.proofs.Common.{◌≡◌, ℕ, ◌≤◌, Bool, true, false, if◌then◌else◌, List, [], ◌∷◌, ◌++◌, Some, decimal, refl, ap, ◌∙◌, arith, codes}
 use Rattle.ge_collections.specs.Keyed.{text_eq}
-use Rattle.ge_rows.specs.Opening.{infinity}
-use Rattle.ge_rows.specs.declared.cluster.Cluster.{Cluster}
-use Rattle.ge_rows.specs.declared.entries.Item.{Item}
-use Rattle.ge_rows.specs.declared.entries.Item.TheVariants as item
-use Rattle.ge_rows.specs.declared.entries.ObjectKind.TheVariants as object
-use Rattle.ge_rows.specs.declared.queues.Allocation.{Allocation}
-use Rattle.ge_rows.specs.declared.queues.Allocation.TheVariants as allocation
-use Rattle.ge_rows.specs.declared.queues.PeRow.{PeRow}
-use Rattle.ge_rows.specs.declared.queues.UrgencySlots.{UrgencySlots}
-use Rattle.ge_rows.specs.declared.queues.UrgencySlots.TheVariants as assumed
-use Rattle.ge_rows.specs.declared.values.Kind.TheVariants as kind
+use Rattle.ge_model_rows.specs.ClusterRows.{Cluster}
+use Rattle.ge_model_rows.specs.EntryRows.{Item, ObjectKind}
+use Rattle.ge_model_rows.specs.PeRows.{PeRow, Allocation, UrgencySlots}
+use Rattle.ge_model_rows.specs.ValueRows.{Kind, infinity}
 use Rattle.ge_model_value.specs.Pieces.{list_items, list_text}
 use Rattle.ge_model_value.specs.Values.{value_of}
-use Rattle.ge_model_grammar.specs.Bodies.{Body, Attributes, body_of}
+use Rattle.ge_model_grammar.specs.declared.Body.{Body}
+use Rattle.ge_model_grammar.specs.declared.Body.TheVariants.{Attributes}
+use Rattle.ge_model_grammar.specs.Bodies.{body_of}
 use Rattle.ge_model_config.specs.Cited.{Read, number_read, is_named, cited, given, none_text}
 use Rattle.ge_model_config.specs.Named.{name_faults}
 use Rattle.ge_model_config.specs.Objects.{slots_read, allocation_read, assumed_read, pe_item}
@@ -36,42 +31,42 @@ slots_back n is = number_back 1 1000000 n (let small : n ≤ 1000000 = grind ari
 -- what is read by the word that a text is, or else as a number
 abbrev allocated : Bool → Bool → Bool → Read ℕ → Read Allocation
 allocated pe_slots fill_up round_robin slots =
-    if pe_slots then (allocation.PeSlots, []) else (if fill_up then (allocation.FillUp, []) else (if round_robin then (allocation.RoundRobin, []) else (allocation.Fixed slots.0, slots.1)))
+    if pe_slots then (Allocation.PeSlots, []) else (if fill_up then (Allocation.FillUp, []) else (if round_robin then (Allocation.RoundRobin, []) else (Allocation.Fixed slots.0, slots.1)))
 
 abbrev assumption_of : Bool → Bool → Bool → Read ℕ → Read UrgencySlots
 assumption_of min max avg slots =
-    if min then (assumed.Min, []) else (if max then (assumed.Max, []) else (if avg then (assumed.Avg, []) else (assumed.Fixed slots.0, slots.1)))
+    if min then (UrgencySlots.Min, []) else (if max then (UrgencySlots.Max, []) else (if avg then (UrgencySlots.Avg, []) else (UrgencySlots.Fixed slots.0, slots.1)))
 
 allocation_back : (rule : Allocation) → IsAllocation rule → allocation_read (allocation_text rule) ≡ (rule, [])
-allocation_back (allocation.Fixed n) is =
+allocation_back (Allocation.Fixed n) is =
     (λ i. allocated (decimal_no_word n 36 (codes "pe_slots") refl i) (decimal_no_word n 36 (codes "fill_up") refl i) (decimal_no_word n 36 (codes "round_robin") refl i) (slots_read (decimal n)))
     ∙ ap (allocated false false false) (slots_back n is)
-allocation_back allocation.PeSlots is = refl
-allocation_back allocation.FillUp is = refl
-allocation_back allocation.RoundRobin is = refl
+allocation_back Allocation.PeSlots is = refl
+allocation_back Allocation.FillUp is = refl
+allocation_back Allocation.RoundRobin is = refl
 
 assumed_back : (slots : UrgencySlots) → IsAssumed slots → assumed_read (assumed_text slots) ≡ (slots, [])
-assumed_back (assumed.Fixed n) is =
+assumed_back (UrgencySlots.Fixed n) is =
     (λ i. assumption_of (decimal_no_word n 109 (codes "in") refl i) (decimal_no_word n 109 (codes "ax") refl i) (decimal_no_word n 97 (codes "vg") refl i) (slots_read (decimal n)))
     ∙ ap (assumption_of false false false) (slots_back n is)
-assumed_back assumed.Min is = refl
-assumed_back assumed.Max is = refl
-assumed_back assumed.Avg is = refl
+assumed_back UrgencySlots.Min is = refl
+assumed_back UrgencySlots.Max is = refl
+assumed_back UrgencySlots.Avg is = refl
 
 allocation_shown : (rule : Allocation) → is_shown (allocation_text rule) ≡ true
-allocation_shown (allocation.Fixed n) = decimal_shown n
-allocation_shown allocation.PeSlots = refl
-allocation_shown allocation.FillUp = refl
-allocation_shown allocation.RoundRobin = refl
+allocation_shown (Allocation.Fixed n) = decimal_shown n
+allocation_shown Allocation.PeSlots = refl
+allocation_shown Allocation.FillUp = refl
+allocation_shown Allocation.RoundRobin = refl
 
 assumed_shown : (slots : UrgencySlots) → is_shown (assumed_text slots) ≡ true
-assumed_shown (assumed.Fixed n) = decimal_shown n
-assumed_shown assumed.Min = refl
-assumed_shown assumed.Max = refl
-assumed_shown assumed.Avg = refl
+assumed_shown (UrgencySlots.Fixed n) = decimal_shown n
+assumed_shown UrgencySlots.Min = refl
+assumed_shown UrgencySlots.Max = refl
+assumed_shown UrgencySlots.Avg = refl
 
 slots_are : (text : List ℕ) → (slots_read text).1 ≡ [] → are_slots (slots_read text).0 ≡ true
-slots_are text none = in_range 1 1000000 (value_of kind.Int text) none
+slots_are text none = in_range 1 1000000 (value_of Kind.Int text) none
 
 -- what is read without a refusal
 abbrev FitsAllocation : Read Allocation → Type 0
@@ -103,16 +98,16 @@ assumed_is text = by (text_eq text (codes "min")) (text_eq text (codes "max")) (
 -- an environment of what is read
 abbrev environment_with : Cluster → Bool → List ℕ → Read ℕ → List (List ℕ) → List (List ℕ) → Read Allocation → Read UrgencySlots → Read Item
 environment_with c adding name slots users xusers rule urgency = (
-  item.Pe name (record { slots = slots.0; users = users; xusers = xusers; rule = rule.0; urgency_slots = urgency.0 }),
-  name_faults object.Pe 256 c.pes adding name ++ slots.1 ++ cited (is_named c.sets) users ++ cited (is_named c.sets) xusers ++ rule.1 ++ urgency.1,
+  Item.Pe name (record { slots = slots.0; users = users; xusers = xusers; rule = rule.0; urgency_slots = urgency.0 }),
+  name_faults ObjectKind.Pe 256 c.pes adding name ++ slots.1 ++ cited (is_named c.sets) users ++ cited (is_named c.sets) xusers ++ rule.1 ++ urgency.1,
 )
 
 -- a parallel environment is printed as it is read
-pub environment_back : (c : Cluster) (name : List ℕ) (pe : PeRow) → IsEnvironment c name pe → (ended : Bool) → ReadsBack c object.Pe (item.Pe name pe) ended
+pub environment_back : (c : Cluster) (name : List ℕ) (pe : PeRow) → IsEnvironment c name pe → (ended : Bool) → ReadsBack c ObjectKind.Pe (Item.Pe name pe) ended
 unfolding printed item_of pe_item
 environment_back c name pe is ended = record {
   body = Attributes ((codes "pe_name", name) ∷ values);
-  parsed = body_back object.Pe (codes "pe_name", name) values ended (λ lines. refl) refl refl (
+  parsed = body_back ObjectKind.Pe (codes "pe_name", name) values ended (λ lines. refl) refl refl (
     item_shown name (name_item name is.named),
     (
       decimal_shown pe.slots,
@@ -127,8 +122,8 @@ environment_back c name pe is ended = record {
   );
   again = λ adding.
       (λ i. environment_with c adding name (slots_again i) (list_back pe.users is.users.listed i) (list_back pe.xusers is.xusers.listed i) (allocation_back pe.rule is.rule i) (assumed_back pe.urgency_slots is.urgency i))
-      ∙ ap (λ z. (item.Pe name pe, z))
-      (none_behind _ [] refl ∙ none_behind _ [] refl ∙ none_behind _ _ is.xusers.known ∙ none_behind _ _ is.users.known ∙ none_behind (name_faults object.Pe 256 c.pes adding name) [] refl);
+      ∙ ap (λ z. (Item.Pe name pe, z))
+      (none_behind _ [] refl ∙ none_behind _ [] refl ∙ none_behind _ _ is.xusers.known ∙ none_behind _ _ is.users.known ∙ none_behind (name_faults ObjectKind.Pe 256 c.pes adding name) [] refl);
 }
   where
     values : List (List ℕ × List ℕ)
@@ -136,24 +131,24 @@ environment_back c name pe is ended = record {
         (codes "slots", decimal pe.slots) ∷ (codes "user_lists", list_text pe.users) ∷ (codes "xuser_lists", list_text pe.xusers)
         ∷ (codes "allocation_rule", allocation_text pe.rule) ∷ (codes "urgency_slots", assumed_text pe.urgency_slots) ∷ []
 
-    slots_again : number_read kind.Int 0 infinity (decimal pe.slots) ≡ (pe.slots, [])
+    slots_again : number_read Kind.Int 0 infinity (decimal pe.slots) ≡ (pe.slots, [])
     slots_again = number_back 0 infinity pe.slots (let s = is.slots in let small : pe.slots ≤ infinity = grind arith in omega arith) is.slots
 
 -- what is read without a refusal is a parallel environment
-pub environments_read : (c : Cluster) (adding : Bool) (text : List ℕ) (body : Body) (thing : Item) → HasNames c → body_of object.Pe text ≡ Some body
-    → item_of c object.Pe adding body ≡ (thing, []) → IsRead c object.Pe thing × (faults_of_name c adding thing ≡ [])
+pub environments_read : (c : Cluster) (adding : Bool) (text : List ℕ) (body : Body) (thing : Item) → HasNames c → body_of ObjectKind.Pe text ≡ Some body
+    → item_of c ObjectKind.Pe adding body ≡ (thing, []) → IsRead c ObjectKind.Pe thing × (faults_of_name c adding thing ≡ [])
 unfolding item_of pe_item
-environments_read c adding text body thing names = read_from c object.Pe adding text body thing (λ lines. refl) each
+environments_read c adding text body thing names = read_from c ObjectKind.Pe adding text body thing (λ lines. refl) each
   where
-    each : (values : List (List ℕ × List ℕ)) → ReadFrom c object.Pe adding (item_of c object.Pe adding (Attributes values))
+    each : (values : List (List ℕ × List ℕ)) → ReadFrom c ObjectKind.Pe adding (item_of c ObjectKind.Pe adding (Attributes values))
     each values none =
         let name = given values (codes "pe_name") [] in
-        let slots = number_read kind.Int 0 infinity (given values (codes "slots") (codes "0")) in
+        let slots = number_read Kind.Int 0 infinity (given values (codes "slots") (codes "0")) in
         let users = given values (codes "user_lists") none_text in
         let xusers = given values (codes "xuser_lists") none_text in
         let rule = given values (codes "allocation_rule") (codes "$pe_slots") in
         let urgency = given values (codes "urgency_slots") (codes "min") in
-        let faults = name_faults object.Pe 256 c.pes adding name in
+        let faults = name_faults ObjectKind.Pe 256 c.pes adding name in
         let lists = faults ++ slots.1 ++ cited (is_named c.sets) (list_items users) in
         let all = both_empty (lists ++ cited (is_named c.sets) (list_items xusers) ++ (allocation_read rule).1) (assumed_read urgency).1 none in
         let most = both_empty (lists ++ cited (is_named c.sets) (list_items xusers)) (allocation_read rule).1 all.0 in
@@ -161,8 +156,8 @@ environments_read c adding text body thing names = read_from c object.Pe adding 
         let few = both_empty (faults ++ slots.1) (cited (is_named c.sets) (list_items users)) half.0 in
         let front = both_empty faults slots.1 few.0 in (
           record {
-            named = named_by object.Pe 256 c.pes adding name front.0;
-            slots = in_range 0 infinity (value_of kind.Int (given values (codes "slots") (codes "0"))) front.1;
+            named = named_by ObjectKind.Pe 256 c.pes adding name front.0;
+            slots = in_range 0 infinity (value_of Kind.Int (given values (codes "slots") (codes "0"))) front.1;
             users = sets_are c users names few.1;
             xusers = sets_are c xusers names half.1;
             rule = allocation_is rule most.1;

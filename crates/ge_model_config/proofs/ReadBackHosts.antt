@@ -1,14 +1,14 @@
 -- A printed host reads back, but where a line feed ends its last line and that line a backslash: there the backslash joins it with nothing.
 use Rattle.std.proofs.Common.{◌≡◌, ℕ, Bool, true, false, List, [], ◌∷◌, ◌++◌, Some, refl, ap, ◌∙◌, subst, codes}
 use Rattle.ge_base.specs.declared.refusal.Refusal.{Refusal}
-use Rattle.ge_rows.specs.declared.cluster.Cluster.{Cluster}
-use Rattle.ge_rows.specs.declared.entries.Item.{Item}
-use Rattle.ge_rows.specs.declared.entries.Item.TheVariants as item
-use Rattle.ge_rows.specs.declared.entries.ObjectKind.TheVariants as object
-use Rattle.ge_rows.specs.declared.values.Value.{Value}
+use Rattle.ge_model_rows.specs.ClusterRows.{Cluster}
+use Rattle.ge_model_rows.specs.EntryRows.{Item, ObjectKind}
+use Rattle.ge_model_rows.specs.ValueRows.{Value}
 use Rattle.ge_model_script.specs.Names.{is_name}
 use Rattle.ge_model_grammar.specs.Lines.{ends_in}
-use Rattle.ge_model_grammar.specs.Bodies.{Body, Attributes, body_of}
+use Rattle.ge_model_grammar.specs.declared.Body.{Body}
+use Rattle.ge_model_grammar.specs.declared.Body.TheVariants.{Attributes}
+use Rattle.ge_model_grammar.specs.Bodies.{body_of}
 use Rattle.ge_model_config.specs.Cited.{given, none_text}
 use Rattle.ge_model_config.specs.Named.{name_faults, absent_faults}
 use Rattle.ge_model_config.specs.Objects.{host_item}
@@ -33,15 +33,15 @@ KeepsLast c table ended = ended ≡ true → ends_in (codes "\\") (values_text c
 
 -- a host is printed as it is read
 pub host_back : (c : Cluster) (name : List ℕ) (table : List (List ℕ × Value)) → HasNames c → IsHost c name table → (ended : Bool) → KeepsLast c table ended
-    → ReadsBack c object.Host (item.Host name table) ended
+    → ReadsBack c ObjectKind.Host (Item.Host name table) ended
 unfolding printed item_of host_item
 host_back c name table names is ended last = record {
   body = Attributes values;
-  parsed = printing_back object.Host (codes "hostname", name) ((codes "complex_values", values_text c table) ∷ []) ended (λ lines. refl) refl refl
+  parsed = printing_back ObjectKind.Host (codes "hostname", name) ((codes "complex_values", values_text c table) ∷ []) ended (λ lines. refl) refl refl
       (shown_printing name named, (values_printing c table names is.values, tt)) (shown_whole name named, last);
   again = λ adding.
-      ap (λ read. (item.Host name read.0, name_faults object.Host 4096 c.hosts adding name ++ absent_faults object.Host values ++ read.1)) (values_back c table names is.values)
-      ∙ ap (λ faults. (item.Host name table, faults)) (none_behind _ [] refl ∙ none_behind (name_faults object.Host 4096 c.hosts adding name) [] refl);
+      ap (λ read. (Item.Host name read.0, name_faults ObjectKind.Host 4096 c.hosts adding name ++ absent_faults ObjectKind.Host values ++ read.1)) (values_back c table names is.values)
+      ∙ ap (λ faults. (Item.Host name table, faults)) (none_behind _ [] refl ∙ none_behind (name_faults ObjectKind.Host 4096 c.hosts adding name) [] refl);
 }
   where
     values : List (List ℕ × List ℕ)
@@ -53,29 +53,29 @@ host_back c name table names is ended last = record {
 -- ---- what is read
 
 abbrev pub IsHostItem : Cluster → Item → Type 0
-IsHostItem c (item.Host name table) = IsHost c name table
+IsHostItem c (Item.Host name table) = IsHost c name table
 IsHostItem c _ = ⊥
 
 abbrev HostFrom : Cluster → Bool → Item × List Refusal → Type 0
 HostFrom c adding read = read.1 ≡ [] → IsHostItem c read.0 × (faults_of_name c adding read.0 ≡ [])
 
 -- what is read without a refusal is a host
-pub hosts_read : (c : Cluster) (adding : Bool) (text : List ℕ) (body : Body) (thing : Item) → body_of object.Host text ≡ Some body
-    → item_of c object.Host adding body ≡ (thing, []) → IsHostItem c thing × (faults_of_name c adding thing ≡ [])
+pub hosts_read : (c : Cluster) (adding : Bool) (text : List ℕ) (body : Body) (thing : Item) → body_of ObjectKind.Host text ≡ Some body
+    → item_of c ObjectKind.Host adding body ≡ (thing, []) → IsHostItem c thing × (faults_of_name c adding thing ≡ [])
 unfolding item_of host_item
 hosts_read c adding text body thing parsed is =
-    subst (HostFrom c adding) is (of_bodies c object.Host adding text body (HostFrom c adding) (λ lines. refl) each parsed) refl
+    subst (HostFrom c adding) is (of_bodies c ObjectKind.Host adding text body (HostFrom c adding) (λ lines. refl) each parsed) refl
   where
-    each : (values : List (List ℕ × List ℕ)) → HostFrom c adding (item_of c object.Host adding (Attributes values))
+    each : (values : List (List ℕ × List ℕ)) → HostFrom c adding (item_of c ObjectKind.Host adding (Attributes values))
     each values none =
         let name = given values (codes "hostname") [] in
         let text = given values (codes "complex_values") none_text in
-        let faults = name_faults object.Host 4096 c.hosts adding name in
-        let all = both_empty (faults ++ absent_faults object.Host values) (values_read c any_fits text).1 none in
-        let front = both_empty faults (absent_faults object.Host values) all.0 in
-        (record { named = named_by object.Host 4096 c.hosts adding name front.0; values = values_are c text }, front.0)
+        let faults = name_faults ObjectKind.Host 4096 c.hosts adding name in
+        let all = both_empty (faults ++ absent_faults ObjectKind.Host values) (values_read c any_fits text).1 none in
+        let front = both_empty faults (absent_faults ObjectKind.Host values) all.0 in
+        (record { named = named_by ObjectKind.Host 4096 c.hosts adding name front.0; values = values_are c text }, front.0)
 
 -- a host that was read without a refusal reads back
-pub hosts_read_back : (c : Cluster) (adding : Bool) (text : List ℕ) (body : Body) (name : List ℕ) (table : List (List ℕ × Value)) → HasNames c → body_of object.Host text ≡ Some body
-    → item_of c object.Host adding body ≡ (item.Host name table, []) → (ended : Bool) → KeepsLast c table ended → ReadsBack c object.Host (item.Host name table) ended
-hosts_read_back c adding text body name table names parsed is ended last = host_back c name table names (hosts_read c adding text body (item.Host name table) parsed is).0 ended last
+pub hosts_read_back : (c : Cluster) (adding : Bool) (text : List ℕ) (body : Body) (name : List ℕ) (table : List (List ℕ × Value)) → HasNames c → body_of ObjectKind.Host text ≡ Some body
+    → item_of c ObjectKind.Host adding body ≡ (Item.Host name table, []) → (ended : Bool) → KeepsLast c table ended → ReadsBack c ObjectKind.Host (Item.Host name table) ended
+hosts_read_back c adding text body name table names parsed is ended last = host_back c name table names (hosts_read c adding text body (Item.Host name table) parsed is).0 ended last

@@ -8,21 +8,17 @@ use Rattle.std.proofs.lemmas.Map.Text.{is_eq-slice_cmp}
 use Rattle.std.proofs.lemmas.Slice.Eq.{bytes_eq-Decides}
 use Rattle.ge_base.specs.declared.refusal.Refusal.TheVariants.{NoSuchObject, BadValue, InUse, Limit}
 use Rattle.ge_collections.specs.Keyed.{text_cmp, at_text}
-use Rattle.ge_rows.specs.Opening.{opening_cluster, default_sched}
-use Rattle.ge_rows.specs.declared.values.ComplexDef.{ComplexDef}
-use Rattle.ge_rows.specs.declared.values.Kind.{Kind}
-use Rattle.ge_rows.specs.declared.values.Kind.TheVariants as kind
-use Rattle.ge_rows.specs.declared.cluster.Cluster.{Cluster}
-use Rattle.ge_rows.specs.declared.entries.Item.{Item}
-use Rattle.ge_rows.specs.declared.entries.Item.TheVariants as item
-use Rattle.ge_rows.specs.declared.entries.ObjectKind.{ObjectKind}
-use Rattle.ge_rows.specs.declared.entries.ObjectKind.TheVariants as object
+use Rattle.ge_model_rows.specs.ClusterRows.{Cluster, opening_cluster, default_sched}
+use Rattle.ge_model_rows.specs.EntryRows.{Item, ObjectKind}
+use Rattle.ge_model_rows.specs.ValueRows.{Kind, ComplexDef}
 use Rattle.ge_model_script.specs.Names.{is_name}
 use Rattle.ge_model_value.specs.Faults.{when}
 use Rattle.ge_model_value.specs.Values.{is_number_kind}
 use Rattle.ge_model_value.specs.Complexes.{opening_complexes}
 use Rattle.ge_model_value.specs.Pieces.{list_items}
-use Rattle.ge_model_grammar.specs.Bodies.{Body, Attributes, RuleSet, Nodes, ComplexRows, ComplexLine}
+use Rattle.ge_model_grammar.specs.declared.Body.{Body}
+use Rattle.ge_model_grammar.specs.declared.ComplexLine.{ComplexLine}
+use Rattle.ge_model_grammar.specs.declared.Body.TheVariants.{Attributes, RuleSet, Nodes, ComplexRows}
 use Rattle.ge_model_grammar.specs.Configuring.{is_group_name}
 use Rattle.ge_model_config.specs.Columns.{is_same_kind}
 use Rattle.ge_model_config.specs.Complexes.{row_faults, urgency_read, complex_row, put_complex, breaks_use, use_faults, complexes_item}
@@ -52,10 +48,10 @@ pub record IsWellNamed (c : Cluster) : Type 0 where
 
 -- that an item has a name of its kind, of the kinds whose names are listed elsewhere, and that a table of complexes is one that is read and has the default load formula
 abbrev pub PutsName : Item → Type 0
-PutsName (item.Host name values) = is_name name ≡ true
-PutsName (item.Group name hosts) = is_group_name name ≡ true
-PutsName (item.Set name entries) = is_name name ≡ true
-PutsName (item.Complexes rows) = (list_all is_name (keys_of rows) ≡ true) × IsFormulaIn rows × AreComplexes rows
+PutsName (Item.Host name values) = is_name name ≡ true
+PutsName (Item.Group name hosts) = is_group_name name ≡ true
+PutsName (Item.Set name entries) = is_name name ≡ true
+PutsName (Item.Complexes rows) = (list_all is_name (keys_of rows) ≡ true) × IsFormulaIn rows × AreComplexes rows
 PutsName _ = Unit {0}
 
 -- ---- tables of complexes
@@ -76,15 +72,15 @@ rows_named c table (line ∷ lines) names none =
 
 -- a kind of amounts is none but itself
 same_number : (k other : Kind) → is_same_kind k other ≡ true → is_number_kind k ≡ true → is_number_kind other ≡ true
-same_number kind.Int kind.Int same is = refl
-same_number kind.Time kind.Time same is = refl
-same_number kind.Memory kind.Memory same is = refl
-same_number kind.Double kind.Double same is = refl
-same_number kind.Bool other same is = absurd (true≢false (sym is))
-same_number kind.Str other same is = absurd (true≢false (sym is))
-same_number kind.CStr other same is = absurd (true≢false (sym is))
-same_number kind.ReStr other same is = absurd (true≢false (sym is))
-same_number kind.Host other same is = absurd (true≢false (sym is))
+same_number Kind.Int Kind.Int same is = refl
+same_number Kind.Time Kind.Time same is = refl
+same_number Kind.Memory Kind.Memory same is = refl
+same_number Kind.Double Kind.Double same is = refl
+same_number Kind.Bool other same is = absurd (true≢false (sym is))
+same_number Kind.Str other same is = absurd (true≢false (sym is))
+same_number Kind.CStr other same is = absurd (true≢false (sym is))
+same_number Kind.ReStr other same is = absurd (true≢false (sym is))
+same_number Kind.Host other same is = absurd (true≢false (sym is))
 same_number _ _ same is = absurd (true≢false (sym same))
 
 -- a used complex whose values are amounts stays one
@@ -147,26 +143,26 @@ complexes_named c adding lines named none =
 -- what is read without a refusal has one
 pub item_named : (c : Cluster) (kind : ObjectKind) (adding : Bool) (body : Body) → IsWellNamed c → (item_of c kind adding body).1 ≡ [] → PutsName (item_of c kind adding body).0
 unfolding item_of host_item group_item pe_item set_item user_item project_item queue_item sched_item quota_item shares_item
-item_named c object.Host adding (Attributes values) named none =
+item_named c ObjectKind.Host adding (Attributes values) named none =
     let name = given values (codes "hostname") [] in
-    let faults = name_faults object.Host 4096 c.hosts adding name in
-    let all = both_empty (faults ++ absent_faults object.Host values) _ none in
-    named_by object.Host 4096 c.hosts adding name (both_empty faults (absent_faults object.Host values) all.0).0
-item_named c object.Group adding (Attributes values) named none =
+    let faults = name_faults ObjectKind.Host 4096 c.hosts adding name in
+    let all = both_empty (faults ++ absent_faults ObjectKind.Host values) _ none in
+    named_by ObjectKind.Host 4096 c.hosts adding name (both_empty faults (absent_faults ObjectKind.Host values) all.0).0
+item_named c ObjectKind.Group adding (Attributes values) named none =
     let name = given values (codes "group_name") [] in
     let hosts = list_items (given values (codes "hostlist") none_text) in
-    let faults = name_faults object.Group 1024 c.groups adding name in
+    let faults = name_faults ObjectKind.Group 1024 c.groups adding name in
     let all = both_empty (faults ++ cited (is_host_or_group c) hosts) _ none in
-    named_by object.Group 1024 c.groups adding name (both_empty faults (cited (is_host_or_group c) hosts) all.0).0
-item_named c object.Set adding (Attributes values) named none =
+    named_by ObjectKind.Group 1024 c.groups adding name (both_empty faults (cited (is_host_or_group c) hosts) all.0).0
+item_named c ObjectKind.Set adding (Attributes values) named none =
     let name = given values (codes "name") [] in
-    named_by object.Set 1024 c.sets adding name (both_empty (name_faults object.Set 1024 c.sets adding name) _ none).0
+    named_by ObjectKind.Set 1024 c.sets adding name (both_empty (name_faults ObjectKind.Set 1024 c.sets adding name) _ none).0
 item_named c _ adding (Attributes values) named none = tt
-item_named c object.Quota adding (RuleSet values rules) named none = tt
+item_named c ObjectKind.Quota adding (RuleSet values rules) named none = tt
 item_named c _ adding (RuleSet values rules) named none = tt
-item_named c object.Shares adding (Nodes nodes) named none = tt
+item_named c ObjectKind.Shares adding (Nodes nodes) named none = tt
 item_named c _ adding (Nodes nodes) named none = tt
-item_named c object.Complexes adding (ComplexRows rows) named none = complexes_named c adding rows named none
+item_named c ObjectKind.Complexes adding (ComplexRows rows) named none = complexes_named c adding rows named none
 item_named c _ adding (ComplexRows rows) named none = tt
 
 -- so it is with the opening cluster

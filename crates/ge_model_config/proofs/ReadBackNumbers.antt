@@ -5,8 +5,7 @@ use Rattle.std.specs.List.{list_all}
 use Rattle.std.proofs.lemmas.Bool.{and_parts, cond-true, eqb-true, lt-ltb, true≢false}
 use Rattle.ge_base.specs.declared.refusal.Refusal.TheVariants.{BadValue}
 use Rattle.ge_collections.specs.Keyed.{text_eq}
-use Rattle.ge_rows.specs.declared.values.Kind.TheVariants as kind
-use Rattle.ge_rows.specs.declared.values.Value.{Value}
+use Rattle.ge_model_rows.specs.ValueRows.{Value, Kind}
 use Rattle.ge_model_text.specs.declared.Form.{Form}
 use Rattle.ge_model_text.specs.declared.Form.TheVariants as form
 use Rattle.ge_model_text.specs.declared.Progress.{Progress}
@@ -17,7 +16,7 @@ use Rattle.ge_model_text.specs.Reading.{cut, appended, bounded, if_occurs, readi
 use Rattle.ge_model_text.specs.Value.{is_digit, number_after, number}
 use Rattle.ge_model_value.specs.Pieces.{is_digits}
 use Rattle.ge_model_value.specs.Values.{amount_in, read_amount}
-use Rattle.ge_model_tasks.proofs.Digits.{decimal_digits, decimal_worth, all_digits}
+use Rattle.ge_model_tasks.proofs.Digits.{decimal_digits, decimal_number, all_digits}
 use Rattle.ge_model_config.specs.Cited.{Read, amount_within, number_read}
 use Rattle.ge_model_config.proofs.ReadBackTexts.{is_shown_byte, is_shown, all_weaker}
 
@@ -50,7 +49,7 @@ whole_on sort n place (b ∷ digits) rest all =
 
 -- a decimal in front of a text
 pub decimal_on : (sort : Form) (n : ℕ) (rest : List ℕ) → n < 2 ^ 64 → GoesOn sort (Whole (cut n)) rest (reading sort (decimal n ++ rest))
-decimal_on sort n rest small = by (decimal n) (decimal_digits n) (decimal_worth n small)
+decimal_on sort n rest small = by (decimal n) (decimal_digits n) (decimal_number n small)
   where
     by : (digits : List ℕ) → is_digits digits ≡ true → number digits ≡ n → GoesOn sort (Whole (cut n)) rest (reading sort (digits ++ rest))
     by [] none worth = absurd (let f : false ≡ true = none in cc)
@@ -70,7 +69,7 @@ int_back n small = ap (reading form.Int) (sym (append-nil (decimal n))) ∙ (dec
 -- ---- amounts
 
 -- a decimal below 2^48 is read to its number
-pub number_back : (low high n : ℕ) → n < 2 ^ 48 → is_in_range low high n ≡ true → number_read kind.Int low high (decimal n) ≡ (n, [])
+pub number_back : (low high n : ℕ) → n < 2 ^ 48 → is_in_range low high n ≡ true → number_read Kind.Int low high (decimal n) ≡ (n, [])
 number_back low high n small fits =
     ap (λ z. amount_within low high (read_amount z))
     (int_back n small)

@@ -1,11 +1,9 @@
 -- Printed groups, user sets, users, projects and parallel environments read back, and given as a change where they are they change nothing.
 use Rattle.std.proofs.Common.{◌≡◌, ℕ, Bool, List, [], Some, ap, ◌∙◌}
-use Rattle.ge_rows.specs.declared.cluster.Cluster.{Cluster}
-use Rattle.ge_rows.specs.declared.entries.Item.{Item}
-use Rattle.ge_rows.specs.declared.entries.Item.TheVariants as item
-use Rattle.ge_rows.specs.declared.entries.ObjectKind.{ObjectKind}
-use Rattle.ge_rows.specs.declared.entries.ObjectKind.TheVariants as object
-use Rattle.ge_model_grammar.specs.Bodies.{Body, body_of}
+use Rattle.ge_model_rows.specs.ClusterRows.{Cluster}
+use Rattle.ge_model_rows.specs.EntryRows.{Item, ObjectKind}
+use Rattle.ge_model_grammar.specs.declared.Body.{Body}
+use Rattle.ge_model_grammar.specs.Bodies.{body_of}
 use Rattle.ge_model_config.specs.Reading.{item_of}
 use Rattle.ge_model_config.specs.Printing.{printed}
 use Rattle.ge_model_config.proofs.ReadBackBodies.{text_of_lines}
@@ -19,30 +17,30 @@ use Rattle.ge_model_config.proofs.ReadBackEnvironments.{environment_back, enviro
 
 -- the kinds that are spoken of here
 abbrev pub IsPrinted : ObjectKind → Type 0
-IsPrinted object.Group = Unit {0}
-IsPrinted object.Set = Unit {0}
-IsPrinted object.User = Unit {0}
-IsPrinted object.Project = Unit {0}
-IsPrinted object.Pe = Unit {0}
+IsPrinted ObjectKind.Group = Unit {0}
+IsPrinted ObjectKind.Set = Unit {0}
+IsPrinted ObjectKind.User = Unit {0}
+IsPrinted ObjectKind.Project = Unit {0}
+IsPrinted ObjectKind.Pe = Unit {0}
 IsPrinted _ = ⊥
 
 -- what a text of such a kind is read to without a refusal looks so, and its name isn't refused
 pub object_read : (c : Cluster) (kind : ObjectKind) (adding : Bool) (text : List ℕ) (body : Body) (thing : Item) → IsPrinted kind → HasNames c → body_of kind text ≡ Some body
     → item_of c kind adding body ≡ (thing, []) → IsRead c kind thing × (faults_of_name c adding thing ≡ [])
-object_read c object.Group adding text body thing of names = groups_read c adding text body thing names
-object_read c object.Set adding text body thing of names = sets_read c adding text body thing
-object_read c object.User adding text body thing of names = users_read c adding text body thing
-object_read c object.Project adding text body thing of names = projects_read c adding text body thing names
-object_read c object.Pe adding text body thing of names = environments_read c adding text body thing names
+object_read c ObjectKind.Group adding text body thing of names = groups_read c adding text body thing names
+object_read c ObjectKind.Set adding text body thing of names = sets_read c adding text body thing
+object_read c ObjectKind.User adding text body thing of names = users_read c adding text body thing
+object_read c ObjectKind.Project adding text body thing of names = projects_read c adding text body thing names
+object_read c ObjectKind.Pe adding text body thing of names = environments_read c adding text body thing names
 object_read c _ adding text body thing of names = absurd of
 
 -- and what looks so reads back
 pub object_back : (c : Cluster) (kind : ObjectKind) (thing : Item) → IsRead c kind thing → (ended : Bool) → ReadsBack c kind thing ended
-object_back c object.Group (item.Group name hosts) is = group_back c name hosts is
-object_back c object.Set (item.Set name entries) is = set_back c name entries is
-object_back c object.User (item.User name user) is = user_back c name user is
-object_back c object.Project (item.Project name project) is = project_back c name project is
-object_back c object.Pe (item.Pe name pe) is = environment_back c name pe is
+object_back c ObjectKind.Group (Item.Group name hosts) is = group_back c name hosts is
+object_back c ObjectKind.Set (Item.Set name entries) is = set_back c name entries is
+object_back c ObjectKind.User (Item.User name user) is = user_back c name user is
+object_back c ObjectKind.Project (Item.Project name project) is = project_back c name project is
+object_back c ObjectKind.Pe (Item.Pe name pe) is = environment_back c name pe is
 object_back c _ _ is = absurd is
 
 -- what was read without a refusal is given again by its printed lines, and without a refusal where it is read as it was

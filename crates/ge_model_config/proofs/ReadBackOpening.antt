@@ -3,18 +3,13 @@ use Rattle.std.proofs.Common.{◌≡◌, ℕ, ◌^◌, ◌&&◌, ◌||◌, Bool,
 use Rattle.std.proofs.lemmas.Bool.{and_parts, ltb-true, true≢false}
 use Rattle.ge_base.specs.declared.refusal.Refusal.TheVariants.{InUse}
 use Rattle.ge_collections.specs.Keyed.{text_cmp}
-use Rattle.ge_rows.specs.Opening.{infinity, opening_cluster}
-use Rattle.ge_rows.specs.declared.cluster.Cluster.{Cluster}
-use Rattle.ge_rows.specs.declared.values.ComplexDef.{ComplexDef}
-use Rattle.ge_rows.specs.declared.values.Kind.{Kind}
-use Rattle.ge_rows.specs.declared.values.Kind.TheVariants as kind
-use Rattle.ge_rows.specs.declared.values.Value.{Value}
-use Rattle.ge_rows.specs.declared.values.Value.TheVariants.{Amount, Word}
+use Rattle.ge_model_rows.specs.ClusterRows.{Cluster, opening_cluster}
+use Rattle.ge_model_rows.specs.ValueRows.{Value, Amount, Word, Kind, ComplexDef, infinity}
 use Rattle.ge_model_script.specs.Names.{is_name}
 use Rattle.ge_model_value.specs.Faults.{when}
 use Rattle.ge_model_value.specs.Complexes.{opening_complexes, is_consumed}
 use Rattle.ge_model_config.specs.Columns.{is_same_kind}
-use Rattle.ge_model_config.specs.Complexes.{fits_relop, breaks_use, use_faults}
+use Rattle.ge_model_config.specs.Complexes.{fits_use, breaks_use, use_faults}
 use Rattle.ge_model_config.specs.Used.{rule_where, is_complex_used}
 use Rattle.ge_model_config.specs.Cited.{is_named}
 use Rattle.ge_model_config.proofs.ReadBackSettings.{is_up_to}
@@ -35,15 +30,15 @@ fits_empty _ = false
 
 -- amounts, and no words
 fits_plainly : Kind → Value → Bool
-fits_plainly kind.Int value = fits_amount value
-fits_plainly kind.Time value = fits_amount value
-fits_plainly kind.Memory value = fits_amount value
-fits_plainly kind.Double value = fits_amount value
-fits_plainly kind.Bool value = false
+fits_plainly Kind.Int value = fits_amount value
+fits_plainly Kind.Time value = fits_amount value
+fits_plainly Kind.Memory value = fits_amount value
+fits_plainly Kind.Double value = fits_amount value
+fits_plainly Kind.Bool value = false
 fits_plainly _ value = fits_empty value
 
 is_complex : List ℕ → ComplexDef → Bool
-is_complex name d = is_name name && is_name d.shortcut && fits_plainly d.kind d.fallback && is_up_to infinity d.urgency && fits_relop d.kind d.relop d.consumable
+is_complex name d = is_name name && is_name d.shortcut && fits_plainly d.kind d.fallback && is_up_to infinity d.urgency && fits_use name d.kind d.relop d.consumable
 
 is_below : List ℕ → List (List ℕ × ComplexDef) → Bool
 is_below low [] = true
@@ -55,25 +50,25 @@ are_complexes (row ∷ rows) = is_complex row.0 row.1 && is_below row.0 rows && 
 
 amount_fits : (k : Kind) (value : Value) → fits_plainly k value ≡ true → FitsKind k value
 unfolding fits_amount fits_empty fits_plainly
-amount_fits kind.Int (Amount n) h = ltb-true n (2 ^ 48) h
-amount_fits kind.Time (Amount n) h = ltb-true n (2 ^ 48) h
-amount_fits kind.Memory (Amount n) h = ltb-true n (2 ^ 48) h
-amount_fits kind.Double (Amount n) h = ltb-true n (2 ^ 48) h
-amount_fits kind.Str (Word []) h = tt
-amount_fits kind.CStr (Word []) h = tt
-amount_fits kind.ReStr (Word []) h = tt
-amount_fits kind.Host (Word []) h = tt
-amount_fits kind.Str (Word (b ∷ word)) h = absurd (true≢false (sym h))
-amount_fits kind.CStr (Word (b ∷ word)) h = absurd (true≢false (sym h))
-amount_fits kind.ReStr (Word (b ∷ word)) h = absurd (true≢false (sym h))
-amount_fits kind.Host (Word (b ∷ word)) h = absurd (true≢false (sym h))
-amount_fits kind.Bool value h = absurd (true≢false (sym h))
+amount_fits Kind.Int (Amount n) h = ltb-true n (2 ^ 48) h
+amount_fits Kind.Time (Amount n) h = ltb-true n (2 ^ 48) h
+amount_fits Kind.Memory (Amount n) h = ltb-true n (2 ^ 48) h
+amount_fits Kind.Double (Amount n) h = ltb-true n (2 ^ 48) h
+amount_fits Kind.Str (Word []) h = tt
+amount_fits Kind.CStr (Word []) h = tt
+amount_fits Kind.ReStr (Word []) h = tt
+amount_fits Kind.Host (Word []) h = tt
+amount_fits Kind.Str (Word (b ∷ word)) h = absurd (true≢false (sym h))
+amount_fits Kind.CStr (Word (b ∷ word)) h = absurd (true≢false (sym h))
+amount_fits Kind.ReStr (Word (b ∷ word)) h = absurd (true≢false (sym h))
+amount_fits Kind.Host (Word (b ∷ word)) h = absurd (true≢false (sym h))
+amount_fits Kind.Bool value h = absurd (true≢false (sym h))
 amount_fits _ _ h = absurd (true≢false (sym h))
 
 complex_is : (name : List ℕ) (d : ComplexDef) → is_complex name d ≡ true → IsComplex name d
 unfolding is_complex
 complex_is name d h =
-    let five = and_parts (is_name name && is_name d.shortcut && fits_plainly d.kind d.fallback && is_up_to infinity d.urgency) (fits_relop d.kind d.relop d.consumable) h in
+    let five = and_parts (is_name name && is_name d.shortcut && fits_plainly d.kind d.fallback && is_up_to infinity d.urgency) (fits_use name d.kind d.relop d.consumable) h in
     let four = and_parts (is_name name && is_name d.shortcut && fits_plainly d.kind d.fallback) (is_up_to infinity d.urgency) five.0 in
     let three = and_parts (is_name name && is_name d.shortcut) (fits_plainly d.kind d.fallback) four.0 in
     let two = and_parts (is_name name) (is_name d.shortcut) three.0 in
@@ -105,15 +100,15 @@ opening_rows = complexes_are opening_complexes refl
 -- ---- a table in place of itself
 
 same_kind : (k : Kind) → is_same_kind k k ≡ true
-same_kind kind.Int = refl
-same_kind kind.Time = refl
-same_kind kind.Memory = refl
-same_kind kind.Double = refl
-same_kind kind.Bool = refl
-same_kind kind.Str = refl
-same_kind kind.CStr = refl
-same_kind kind.ReStr = refl
-same_kind kind.Host = refl
+same_kind Kind.Int = refl
+same_kind Kind.Time = refl
+same_kind Kind.Memory = refl
+same_kind Kind.Double = refl
+same_kind Kind.Bool = refl
+same_kind Kind.Str = refl
+same_kind Kind.CStr = refl
+same_kind Kind.ReStr = refl
+same_kind Kind.Host = refl
 
 -- a complex that stays breaks no use
 keeps_use : (c : Cluster) (name : List ℕ) (d : ComplexDef) → breaks_use c name d (Some d) ≡ false

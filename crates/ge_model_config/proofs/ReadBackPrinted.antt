@@ -3,9 +3,7 @@ use Rattle.std.proofs.Common.{◌≡◌, ℕ, ◌/◌, ◌%◌, ◌<◌, ◌==�
 use Rattle.std.specs.List.{list_all}
 use Rattle.std.proofs.lemmas.Bool.{and_from, true≢false}
 use Rattle.std.proofs.lemmas.List.Folds.{list_all-append}
-use Rattle.ge_rows.specs.Opening.{infinity, million}
-use Rattle.ge_rows.specs.declared.values.Kind.{Kind}
-use Rattle.ge_rows.specs.declared.values.Kind.TheVariants as kind
+use Rattle.ge_model_rows.specs.ValueRows.{Kind, infinity, million}
 use Rattle.ge_model_text.specs.Value.{is_digit}
 use Rattle.ge_model_value.specs.Values.{digit_at, fixed_text, clock_text}
 use Rattle.ge_model_tasks.proofs.Digits.{decimal_digits, all_digits}
@@ -78,10 +76,10 @@ endless_item n text plain = by (n == infinity)
 
 -- a printed amount is an item
 pub number_item : (k : Kind) (n : ℕ) → is_item (number_text k n) ≡ true
-number_item kind.Time n = endless_item n (clock_text n) (clock_item n)
-number_item kind.Memory n = endless_item n (decimal n) (decimal_item n)
-number_item kind.Double n = fixed_item n
-number_item kind.Int n = decimal_item n
+number_item Kind.Time n = endless_item n (clock_text n) (clock_item n)
+number_item Kind.Memory n = endless_item n (decimal n) (decimal_item n)
+number_item Kind.Double n = fixed_item n
+number_item Kind.Int n = decimal_item n
 number_item _ n = decimal_item n
 
 pub number_shown : (k : Kind) (n : ℕ) → is_shown (number_text k n) ≡ true

@@ -3,8 +3,7 @@ use Rattle.std.proofs.Common.{◌≡◌, ℕ, ◌&&◌, Bool, true, false, not, 
 use Rattle.std.specs.List.{list_all, suffix_len}
 use Rattle.std.proofs.lemmas.Bool.{and_parts, and_from, eqb-true, true≢false}
 use Rattle.std.proofs.lemmas.List.Folds.{list_all-append}
-use Rattle.ge_rows.specs.declared.values.ComplexDef.{ComplexDef}
-use Rattle.ge_rows.specs.declared.values.Kind.TheVariants as kind
+use Rattle.ge_model_rows.specs.ValueRows.{Kind, ComplexDef}
 use Rattle.ge_model_text.specs.Words.{is_blank}
 use Rattle.ge_model_script.specs.Names.{is_name_byte, is_name}
 use Rattle.ge_model_value.specs.Pieces.{is_empty, trimmed, joined_by, without_last_blanks}
@@ -88,7 +87,7 @@ whole_words name words last =
 
 -- the line of a row
 pub row_line : (row : List ℕ × ComplexDef) → IsComplex row.0 row.1 → IsLine (printed_line row)
-row_line row is = line_of_words row.0 (words_behind row.1) is.named (words_print row is) (number_shown kind.Double row.1.urgency)
+row_line row is = line_of_words row.0 (words_behind row.1) is.named (words_print row is) (number_shown Kind.Double row.1.urgency)
 
 pub row_whole : (row : List ℕ × ComplexDef) → ends_in (codes "\\") (printed_line row) ≡ false
-row_whole row = whole_words row.0 (words_behind row.1) (number_shown kind.Double row.1.urgency)
+row_whole row = whole_words row.0 (words_behind row.1) (number_shown Kind.Double row.1.urgency)

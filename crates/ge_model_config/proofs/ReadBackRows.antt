@@ -5,27 +5,18 @@ use Rattle.std.proofs.lemmas.Bool.{and_parts, true≢false}
 use Rattle.std.proofs.lemmas.List.Splits.{slice_split_none, slice_split_at}
 use Rattle.std.proofs.lemmas.List.Sums.{AllPass-from_list_all}
 use Rattle.ge_base.specs.declared.refusal.Refusal.TheVariants.{BadValue}
-use Rattle.ge_rows.specs.Opening.{infinity}
-use Rattle.ge_rows.specs.declared.cluster.Cluster.{Cluster}
-use Rattle.ge_rows.specs.declared.values.ComplexDef.{ComplexDef}
-use Rattle.ge_rows.specs.declared.values.Consumable.{Consumable}
-use Rattle.ge_rows.specs.declared.values.Consumable.TheVariants as consumable
-use Rattle.ge_rows.specs.declared.values.Kind.{Kind}
-use Rattle.ge_rows.specs.declared.values.Kind.TheVariants as kind
-use Rattle.ge_rows.specs.declared.values.Relop.{Relop}
-use Rattle.ge_rows.specs.declared.values.Relop.TheVariants as relop
-use Rattle.ge_rows.specs.declared.values.Requestable.{Requestable}
-use Rattle.ge_rows.specs.declared.values.Requestable.TheVariants as requestable
-use Rattle.ge_rows.specs.declared.values.Value.{Value}
-use Rattle.ge_rows.specs.declared.values.Value.TheVariants.{Amount, Flag, Word}
+use Rattle.ge_model_rows.specs.ClusterRows.{Cluster}
+use Rattle.ge_model_rows.specs.ValueRows.{Value, Amount, Flag, Word, Kind, Relop, Requestable}
+use Rattle.ge_model_rows.specs.ValueRows.{Consumable, ComplexDef, infinity}
 use Rattle.ge_model_text.specs.Words.{is_blank}
 use Rattle.ge_model_script.specs.Names.{is_name}
 use Rattle.ge_model_value.specs.Faults.{when}
 use Rattle.ge_model_value.specs.Pieces.{is_empty, blank_pieces, joined_by}
 use Rattle.ge_model_value.specs.Values.{value_of, value_text, fixed_text}
-use Rattle.ge_model_grammar.specs.Bodies.{ComplexLine, complex_with, complex_line}
+use Rattle.ge_model_grammar.specs.declared.ComplexLine.{ComplexLine}
+use Rattle.ge_model_grammar.specs.Bodies.{complex_with, complex_line}
 use Rattle.ge_model_config.specs.Columns.{kind_text, kind_of, relop_text, relop_of, requestable_text, requestable_of, consumable_text, consumable_of}
-use Rattle.ge_model_config.specs.Complexes.{fits_relop, older_complex, kind_in, relop_in, consumable_in, urgency_read, complex_row, row_faults}
+use Rattle.ge_model_config.specs.Complexes.{fits_use, older_complex, kind_in, relop_in, consumable_in, urgency_read, complex_row, row_faults}
 use Rattle.ge_model_config.specs.Printing.{number_text, complex_line as printed_line}
 use Rattle.ge_model_config.proofs.ReadBackTexts.{is_printing_byte, is_printing, all_weaker, no_blank, shown_printing}
 use Rattle.ge_model_config.proofs.ReadBackLists.{is_piece_byte}
@@ -67,60 +58,62 @@ words_back word words (first, all) = ap (filter (λ piece. not (is_empty piece))
 -- ---- the words of columns
 
 kind_back : (k : Kind) → kind_of (kind_text k) ≡ Some k
-kind_back kind.Int = refl
-kind_back kind.Time = refl
-kind_back kind.Memory = refl
-kind_back kind.Double = refl
-kind_back kind.Bool = refl
-kind_back kind.Str = refl
-kind_back kind.CStr = refl
-kind_back kind.ReStr = refl
-kind_back kind.Host = refl
+kind_back Kind.Int = refl
+kind_back Kind.Time = refl
+kind_back Kind.Memory = refl
+kind_back Kind.Double = refl
+kind_back Kind.Bool = refl
+kind_back Kind.Str = refl
+kind_back Kind.CStr = refl
+kind_back Kind.ReStr = refl
+kind_back Kind.Host = refl
 
 relop_back : (r : Relop) → relop_of (relop_text r) ≡ Some r
-relop_back relop.Eq = refl
-relop_back relop.Ne = refl
-relop_back relop.Lt = refl
-relop_back relop.Le = refl
-relop_back relop.Gt = refl
-relop_back relop.Ge = refl
+relop_back Relop.Eq = refl
+relop_back Relop.Ne = refl
+relop_back Relop.Lt = refl
+relop_back Relop.Le = refl
+relop_back Relop.Gt = refl
+relop_back Relop.Ge = refl
 
 requestable_back : (r : Requestable) → requestable_of (requestable_text r) ≡ Some r
-requestable_back requestable.No = refl
-requestable_back requestable.Yes = refl
-requestable_back requestable.Forced = refl
+requestable_back Requestable.No = refl
+requestable_back Requestable.Yes = refl
+requestable_back Requestable.Forced = refl
 
 consumable_back : (r : Consumable) → consumable_of (consumable_text r) ≡ Some r
-consumable_back consumable.No = refl
-consumable_back consumable.Yes = refl
+consumable_back Consumable.No = refl
+consumable_back Consumable.Yes = refl
+consumable_back Consumable.Job = refl
 
 kind_printing : (k : Kind) → is_printing (kind_text k) ≡ true
-kind_printing kind.Int = refl
-kind_printing kind.Time = refl
-kind_printing kind.Memory = refl
-kind_printing kind.Double = refl
-kind_printing kind.Bool = refl
-kind_printing kind.Str = refl
-kind_printing kind.CStr = refl
-kind_printing kind.ReStr = refl
-kind_printing kind.Host = refl
+kind_printing Kind.Int = refl
+kind_printing Kind.Time = refl
+kind_printing Kind.Memory = refl
+kind_printing Kind.Double = refl
+kind_printing Kind.Bool = refl
+kind_printing Kind.Str = refl
+kind_printing Kind.CStr = refl
+kind_printing Kind.ReStr = refl
+kind_printing Kind.Host = refl
 
 relop_printing : (r : Relop) → is_printing (relop_text r) ≡ true
-relop_printing relop.Eq = refl
-relop_printing relop.Ne = refl
-relop_printing relop.Lt = refl
-relop_printing relop.Le = refl
-relop_printing relop.Gt = refl
-relop_printing relop.Ge = refl
+relop_printing Relop.Eq = refl
+relop_printing Relop.Ne = refl
+relop_printing Relop.Lt = refl
+relop_printing Relop.Le = refl
+relop_printing Relop.Gt = refl
+relop_printing Relop.Ge = refl
 
 requestable_printing : (r : Requestable) → is_printing (requestable_text r) ≡ true
-requestable_printing requestable.No = refl
-requestable_printing requestable.Yes = refl
-requestable_printing requestable.Forced = refl
+requestable_printing Requestable.No = refl
+requestable_printing Requestable.Yes = refl
+requestable_printing Requestable.Forced = refl
 
 consumable_printing : (r : Consumable) → is_printing (consumable_text r) ≡ true
-consumable_printing consumable.No = refl
-consumable_printing consumable.Yes = refl
+consumable_printing Consumable.No = refl
+consumable_printing Consumable.Yes = refl
+consumable_printing Consumable.Job = refl
 
 -- ---- rows
 
@@ -130,7 +123,7 @@ pub record IsComplex (name : List ℕ) (d : ComplexDef) : Type 0 where
   pub short : is_name d.shortcut ≡ true
   pub fallback : FitsKind d.kind d.fallback
   pub urgency : is_up_to infinity d.urgency ≡ true
-  pub compared : fits_relop d.kind d.relop d.consumable ≡ true
+  pub compared : fits_use name d.kind d.relop d.consumable ≡ true
 
 -- the words of a row
 abbrev pub words_of : List ℕ × ComplexDef → ComplexLine
@@ -187,7 +180,7 @@ words_print row is = (
           requestable_printing row.1.requestable,
           (
             consumable_printing row.1.consumable,
-            (piece_prints _ (value_piece row.1.kind row.1.fallback is.fallback) (value_some row.1.kind row.1.fallback), (shown_printing (fixed_text row.1.urgency) (number_shown kind.Double row.1.urgency), tt)),
+            (piece_prints _ (value_piece row.1.kind row.1.fallback is.fallback) (value_some row.1.kind row.1.fallback), (shown_printing (fixed_text row.1.urgency) (number_shown Kind.Double row.1.urgency), tt)),
           ),
         ),
       ),
@@ -210,7 +203,7 @@ pub row_back : (c : Cluster) (row : List ℕ × ComplexDef) → IsComplex row.0 
 unfolding row_with
 row_back c row is =
     λ i. row_with c (words_of row) (unwrap_or (kind_back row.1.kind i) old.kind) (unwrap_or (relop_back row.1.relop i) old.relop) (unwrap_or (requestable_back row.1.requestable i) old.requestable)
-    (unwrap_or (consumable_back row.1.consumable i) consumable.Yes) (fallback i) (urgency i)
+    (unwrap_or (consumable_back row.1.consumable i) Consumable.Yes) (fallback i) (urgency i)
   where
     old : ComplexDef
     old = older_complex c (words_of row)
@@ -219,7 +212,7 @@ row_back c row is =
     fallback = ap (λ k. unwrap_or (value_of (unwrap_or k old.kind) (value_text row.1.kind row.1.fallback)) old.fallback) (kind_back row.1.kind) ∙ ap (λ v. unwrap_or v old.fallback) (value_back row.1.kind row.1.fallback is.fallback)
 
     urgency : (urgency_read (words_of row)).0 ≡ row.1.urgency
-    urgency = ap (λ r. r.0) (amount_back kind.Double infinity row.1.urgency (up_to_small infinity row.1.urgency (omega arith) is.urgency) is.urgency)
+    urgency = ap (λ r. r.0) (amount_back Kind.Double infinity row.1.urgency (up_to_small infinity row.1.urgency (omega arith) is.urgency) is.urgency)
 
 -- without a refusal
 pub row_accepted : (c : Cluster) (row : List ℕ × ComplexDef) → IsComplex row.0 row.1 → row_faults c (words_of row) ≡ []
@@ -237,9 +230,9 @@ row_accepted c row is =
     value : value_of (kind_in c (words_of row)) (value_text row.1.kind row.1.fallback) ≡ Some row.1.fallback
     value = ap (λ k. value_of (unwrap_or k old.kind) (value_text row.1.kind row.1.fallback)) (kind_back row.1.kind) ∙ value_back row.1.kind row.1.fallback is.fallback
 
-    compared : fits_relop (kind_in c (words_of row)) (relop_in c (words_of row)) (consumable_in (words_of row)) ≡ true
+    compared : fits_use row.0 (kind_in c (words_of row)) (relop_in c (words_of row)) (consumable_in (words_of row)) ≡ true
     compared =
-        (λ i. fits_relop (unwrap_or (kind_back row.1.kind i) old.kind) (unwrap_or (relop_back row.1.relop i) old.relop) (unwrap_or (consumable_back row.1.consumable i) consumable.Yes)) ∙ is.compared
+        (λ i. fits_use row.0 (unwrap_or (kind_back row.1.kind i) old.kind) (unwrap_or (relop_back row.1.relop i) old.relop) (unwrap_or (consumable_back row.1.consumable i) Consumable.Yes)) ∙ is.compared
 
     urgency : urgency_read (words_of row) ≡ (row.1.urgency, [])
-    urgency = amount_back kind.Double infinity row.1.urgency (up_to_small infinity row.1.urgency (omega arith) is.urgency) is.urgency
+    urgency = amount_back Kind.Double infinity row.1.urgency (up_to_small infinity row.1.urgency (omega arith) is.urgency) is.urgency

@@ -4,21 +4,14 @@ use Rattle.std.specs.Int.{is_in_range}
 use Rattle.std.specs.List.{list_all}
 use Rattle.ge_base.specs.declared.refusal.Refusal.TheVariants.{BadValue}
 use Rattle.ge_collections.specs.Keyed.{put_text}
-use Rattle.ge_rows.specs.Opening.{infinity}
-use Rattle.ge_rows.specs.declared.cluster.Cluster.{Cluster}
-use Rattle.ge_rows.specs.declared.entries.Item.{Item}
-use Rattle.ge_rows.specs.declared.entries.Item.TheVariants as item
-use Rattle.ge_rows.specs.declared.entries.ObjectKind.TheVariants as object
-use Rattle.ge_rows.specs.declared.settings.Sched.{Sched}
-use Rattle.ge_rows.specs.declared.settings.SortMethod.{SortMethod}
-use Rattle.ge_rows.specs.declared.settings.SortMethod.TheVariants as method
-use Rattle.ge_rows.specs.declared.values.Kind.{Kind}
-use Rattle.ge_rows.specs.declared.values.Kind.TheVariants as kind
-use Rattle.ge_rows.specs.declared.values.Value.TheVariants.{Amount}
+use Rattle.ge_model_rows.specs.ClusterRows.{Cluster}
+use Rattle.ge_model_rows.specs.EntryRows.{Item, ObjectKind}
+use Rattle.ge_model_rows.specs.SettingRows.{Sched, SortMethod}
+use Rattle.ge_model_rows.specs.ValueRows.{Amount, Kind, infinity}
 use Rattle.ge_model_value.specs.Pieces.{list_text}
 use Rattle.ge_model_value.specs.Values.{fixed_text}
 use Rattle.ge_model_value.specs.Complexes.{complex_at}
-use Rattle.ge_model_grammar.specs.Bodies.{Attributes}
+use Rattle.ge_model_grammar.specs.declared.Body.TheVariants.{Attributes}
 use Rattle.ge_model_config.specs.Cited.{Read, amount_within, number_read}
 use Rattle.ge_model_config.specs.Printing.{number_text, sort_text, usage_text, printed}
 use Rattle.ge_model_config.specs.Reading.{item_of}
@@ -71,12 +64,12 @@ pub up_to_small : (high n : ℕ) → high < 2 ^ 48 → is_up_to high n ≡ true 
 up_to_small high n small within = let low : n ≤ high = grind arith in omega arith
 
 sort_back : (sort : SortMethod) → sort_read (sort_text sort) ≡ (sort, [])
-sort_back method.Load = refl
-sort_back method.Seqno = refl
+sort_back SortMethod.Load = refl
+sort_back SortMethod.Seqno = refl
 
 sort_shown : (sort : SortMethod) → is_shown (sort_text sort) ≡ true
-sort_shown method.Load = refl
-sort_shown method.Seqno = refl
+sort_shown SortMethod.Load = refl
+sort_shown SortMethod.Seqno = refl
 
 -- the three weights of usage
 weight_items : Sched → List (List ℕ)
@@ -115,13 +108,13 @@ usage_back c s is =
     ∙ ap (λ items. fold with_weight ([], []) items) (list_back (weight_items s) (record { pass = weights_pass s; others = refl }))
     ∙ (λ i. weights_with (weight s.u_cpu is.u_cpu i) (weight s.u_mem is.u_mem i) (weight s.u_io is.u_io i))
   where
-    weight : (n : ℕ) → is_up_to infinity n ≡ true → number_read kind.Double 0 infinity (fixed_text n) ≡ (n, [])
-    weight n within = amount_back kind.Double infinity n (up_to_small infinity n (omega arith) within) within
+    weight : (n : ℕ) → is_up_to infinity n ≡ true → number_read Kind.Double 0 infinity (fixed_text n) ≡ (n, [])
+    weight n within = amount_back Kind.Double infinity n (up_to_small infinity n (omega arith) within) within
 
 -- settings of what is read
 abbrev settings_with : Read ℕ → Read ℕ → Read SortMethod → Read (List ℕ) → Read ℕ → Read ℕ → Read ℕ → Read ℕ → Read ℕ → Read ℕ → Read ℕ → Read ℕ → Read ℕ → Read ℕ → Read ℕ → Read ℕ → Read ℕ → Read (List (List ℕ × ℕ)) → Read ℕ → Read Item
 settings_with interval maxujobs sort load_formula w_priority w_urgency w_ticket w_waiting w_deadline functional share w_user w_project w_job halftime max_reservation default_duration usage max_pending = (
-  item.Sched (record {
+  Item.Sched (record {
     interval = interval.0;
     maxujobs = maxujobs.0;
     sort = sort.0;
@@ -148,57 +141,57 @@ settings_with interval maxujobs sort load_formula w_priority w_urgency w_ticket 
 )
 
 -- settings are printed as they are read
-pub settings_back : (c : Cluster) (s : Sched) → AreSettings c s → (ended : Bool) → ReadsBack c object.Sched (item.Sched s) ended
+pub settings_back : (c : Cluster) (s : Sched) → AreSettings c s → (ended : Bool) → ReadsBack c ObjectKind.Sched (Item.Sched s) ended
 unfolding printed item_of sched_item
 settings_back c s is ended = record {
   body = Attributes (first ∷ values);
-  parsed = body_back object.Sched first values ended (λ lines. refl) refl refl shown;
+  parsed = body_back ObjectKind.Sched first values ended (λ lines. refl) refl refl shown;
   again = λ adding. λ i. settings_with
-      (amount_back kind.Time infinity s.interval (up_to_small infinity s.interval (omega arith) is.interval) is.interval i)
-      (amount_back kind.Int infinity s.maxujobs (up_to_small infinity s.maxujobs (omega arith) is.maxujobs) is.maxujobs i)
+      (amount_back Kind.Time infinity s.interval (up_to_small infinity s.interval (omega arith) is.interval) is.interval i)
+      (amount_back Kind.Int infinity s.maxujobs (up_to_small infinity s.maxujobs (omega arith) is.maxujobs) is.maxujobs i)
       (sort_back s.sort i)
       ((s.load_formula, is.formula i))
-      (amount_back kind.Double infinity s.w_priority (up_to_small infinity s.w_priority (omega arith) is.w_priority) is.w_priority i)
-      (amount_back kind.Double infinity s.w_urgency (up_to_small infinity s.w_urgency (omega arith) is.w_urgency) is.w_urgency i)
-      (amount_back kind.Double infinity s.w_ticket (up_to_small infinity s.w_ticket (omega arith) is.w_ticket) is.w_ticket i)
-      (amount_back kind.Double infinity s.w_waiting (up_to_small infinity s.w_waiting (omega arith) is.w_waiting) is.w_waiting i)
-      (amount_back kind.Double infinity s.w_deadline (up_to_small infinity s.w_deadline (omega arith) is.w_deadline) is.w_deadline i)
-      (amount_back kind.Int 1000000000 s.functional (up_to_small 1000000000 s.functional (omega arith) is.functional) is.functional i)
-      (amount_back kind.Int 1000000000 s.share (up_to_small 1000000000 s.share (omega arith) is.share) is.share i)
-      (amount_back kind.Double infinity s.w_user (up_to_small infinity s.w_user (omega arith) is.w_user) is.w_user i)
-      (amount_back kind.Double infinity s.w_project (up_to_small infinity s.w_project (omega arith) is.w_project) is.w_project i)
-      (amount_back kind.Double infinity s.w_job (up_to_small infinity s.w_job (omega arith) is.w_job) is.w_job i)
-      (amount_back kind.Int 1048575 s.halftime (up_to_small 1048575 s.halftime (omega arith) is.halftime) is.halftime i)
-      (amount_back kind.Int infinity s.max_reservation (up_to_small infinity s.max_reservation (omega arith) is.max_reservation) is.max_reservation i)
-      (amount_back kind.Time infinity s.default_duration (up_to_small infinity s.default_duration (omega arith) is.default_duration) is.default_duration i)
+      (amount_back Kind.Double infinity s.w_priority (up_to_small infinity s.w_priority (omega arith) is.w_priority) is.w_priority i)
+      (amount_back Kind.Double infinity s.w_urgency (up_to_small infinity s.w_urgency (omega arith) is.w_urgency) is.w_urgency i)
+      (amount_back Kind.Double infinity s.w_ticket (up_to_small infinity s.w_ticket (omega arith) is.w_ticket) is.w_ticket i)
+      (amount_back Kind.Double infinity s.w_waiting (up_to_small infinity s.w_waiting (omega arith) is.w_waiting) is.w_waiting i)
+      (amount_back Kind.Double infinity s.w_deadline (up_to_small infinity s.w_deadline (omega arith) is.w_deadline) is.w_deadline i)
+      (amount_back Kind.Int 1000000000 s.functional (up_to_small 1000000000 s.functional (omega arith) is.functional) is.functional i)
+      (amount_back Kind.Int 1000000000 s.share (up_to_small 1000000000 s.share (omega arith) is.share) is.share i)
+      (amount_back Kind.Double infinity s.w_user (up_to_small infinity s.w_user (omega arith) is.w_user) is.w_user i)
+      (amount_back Kind.Double infinity s.w_project (up_to_small infinity s.w_project (omega arith) is.w_project) is.w_project i)
+      (amount_back Kind.Double infinity s.w_job (up_to_small infinity s.w_job (omega arith) is.w_job) is.w_job i)
+      (amount_back Kind.Int 1048575 s.halftime (up_to_small 1048575 s.halftime (omega arith) is.halftime) is.halftime i)
+      (amount_back Kind.Int infinity s.max_reservation (up_to_small infinity s.max_reservation (omega arith) is.max_reservation) is.max_reservation i)
+      (amount_back Kind.Time infinity s.default_duration (up_to_small infinity s.default_duration (omega arith) is.default_duration) is.default_duration i)
       (usage_back c s is i)
-      (amount_back kind.Int infinity s.max_pending (up_to_small infinity s.max_pending (omega arith) is.max_pending) is.max_pending i);
+      (amount_back Kind.Int infinity s.max_pending (up_to_small infinity s.max_pending (omega arith) is.max_pending) is.max_pending i);
 }
   where
     first : List ℕ × List ℕ
-    first = (codes "schedule_interval", number_text kind.Time s.interval)
+    first = (codes "schedule_interval", number_text Kind.Time s.interval)
 
     values : List (List ℕ × List ℕ)
     values =
-        (codes "maxujobs", number_text kind.Int s.maxujobs)
+        (codes "maxujobs", number_text Kind.Int s.maxujobs)
         ∷ (codes "queue_sort_method", sort_text s.sort)
         ∷ (codes "load_formula", s.load_formula)
-        ∷ (codes "weight_priority", number_text kind.Double s.w_priority)
-        ∷ (codes "weight_urgency", number_text kind.Double s.w_urgency)
-        ∷ (codes "weight_ticket", number_text kind.Double s.w_ticket)
-        ∷ (codes "weight_waiting_time", number_text kind.Double s.w_waiting)
-        ∷ (codes "weight_deadline", number_text kind.Double s.w_deadline)
-        ∷ (codes "weight_tickets_functional", number_text kind.Int s.functional)
-        ∷ (codes "weight_tickets_share", number_text kind.Int s.share)
-        ∷ (codes "weight_user", number_text kind.Double s.w_user)
-        ∷ (codes "weight_project", number_text kind.Double s.w_project)
-        ∷ (codes "weight_job", number_text kind.Double s.w_job)
-        ∷ (codes "halftime", number_text kind.Int s.halftime)
-        ∷ (codes "max_reservation", number_text kind.Int s.max_reservation)
-        ∷ (codes "default_duration", number_text kind.Time s.default_duration)
+        ∷ (codes "weight_priority", number_text Kind.Double s.w_priority)
+        ∷ (codes "weight_urgency", number_text Kind.Double s.w_urgency)
+        ∷ (codes "weight_ticket", number_text Kind.Double s.w_ticket)
+        ∷ (codes "weight_waiting_time", number_text Kind.Double s.w_waiting)
+        ∷ (codes "weight_deadline", number_text Kind.Double s.w_deadline)
+        ∷ (codes "weight_tickets_functional", number_text Kind.Int s.functional)
+        ∷ (codes "weight_tickets_share", number_text Kind.Int s.share)
+        ∷ (codes "weight_user", number_text Kind.Double s.w_user)
+        ∷ (codes "weight_project", number_text Kind.Double s.w_project)
+        ∷ (codes "weight_job", number_text Kind.Double s.w_job)
+        ∷ (codes "halftime", number_text Kind.Int s.halftime)
+        ∷ (codes "max_reservation", number_text Kind.Int s.max_reservation)
+        ∷ (codes "default_duration", number_text Kind.Time s.default_duration)
         ∷ (codes "usage_weight_list", usage_text s)
-        ∷ (codes "max_pending_tasks_per_job", number_text kind.Int s.max_pending)
+        ∷ (codes "max_pending_tasks_per_job", number_text Kind.Int s.max_pending)
         ∷ []
 
     shown : AreShown (first ∷ values)
-    shown = (number_shown kind.Time s.interval, (number_shown kind.Int s.maxujobs, (sort_shown s.sort, (is.formula_shown, (number_shown kind.Double s.w_priority, (number_shown kind.Double s.w_urgency, (number_shown kind.Double s.w_ticket, (number_shown kind.Double s.w_waiting, (number_shown kind.Double s.w_deadline, (number_shown kind.Int s.functional, (number_shown kind.Int s.share, (number_shown kind.Double s.w_user, (number_shown kind.Double s.w_project, (number_shown kind.Double s.w_job, (number_shown kind.Int s.halftime, (number_shown kind.Int s.max_reservation, (number_shown kind.Time s.default_duration, (usage_shown s, (number_shown kind.Int s.max_pending, tt)))))))))))))))))))
+    shown = (number_shown Kind.Time s.interval, (number_shown Kind.Int s.maxujobs, (sort_shown s.sort, (is.formula_shown, (number_shown Kind.Double s.w_priority, (number_shown Kind.Double s.w_urgency, (number_shown Kind.Double s.w_ticket, (number_shown Kind.Double s.w_waiting, (number_shown Kind.Double s.w_deadline, (number_shown Kind.Int s.functional, (number_shown Kind.Int s.share, (number_shown Kind.Double s.w_user, (number_shown Kind.Double s.w_project, (number_shown Kind.Double s.w_job, (number_shown Kind.Int s.halftime, (number_shown Kind.Int s.max_reservation, (number_shown Kind.Time s.default_duration, (usage_shown s, (number_shown Kind.Int s.max_pending, tt)))))))))))))))))))

@@ -8,21 +8,17 @@ use Rattle.std.specs.Ordering.{match_ordering}
 use Rattle.ge_base.specs.declared.refusal.Refusal.{Refusal}
 use Rattle.ge_base.specs.declared.refusal.Refusal.TheVariants.{BadValue, NoSuchObject}
 use Rattle.ge_collections.specs.Keyed.{at_text, put_text, text_cmp}
-use Rattle.ge_rows.specs.Opening.{infinity, default_sched}
-use Rattle.ge_rows.specs.declared.cluster.Cluster.{Cluster}
-use Rattle.ge_rows.specs.declared.entries.Item.{Item}
-use Rattle.ge_rows.specs.declared.entries.Item.TheVariants as item
-use Rattle.ge_rows.specs.declared.entries.ObjectKind.TheVariants as object
-use Rattle.ge_rows.specs.declared.values.Kind.{Kind}
-use Rattle.ge_rows.specs.declared.values.Kind.TheVariants as kind
-use Rattle.ge_rows.specs.declared.settings.Sched.{Sched}
-use Rattle.ge_rows.specs.declared.values.ComplexDef.{ComplexDef}
-use Rattle.ge_rows.specs.declared.values.Value.{Value}
+use Rattle.ge_model_rows.specs.ClusterRows.{Cluster, default_sched}
+use Rattle.ge_model_rows.specs.EntryRows.{Item, ObjectKind}
+use Rattle.ge_model_rows.specs.SettingRows.{Sched}
+use Rattle.ge_model_rows.specs.ValueRows.{Value, Kind, ComplexDef, infinity}
 use Rattle.ge_model_script.specs.Names.{is_name}
 use Rattle.ge_model_value.specs.Pieces.{list_items, before_byte, behind_byte}
 use Rattle.ge_model_value.specs.Values.{value_of, amount_in}
 use Rattle.ge_model_value.specs.Complexes.{complex_at}
-use Rattle.ge_model_grammar.specs.Bodies.{Body, Attributes, attribute_in, body_of}
+use Rattle.ge_model_grammar.specs.declared.Body.{Body}
+use Rattle.ge_model_grammar.specs.declared.Body.TheVariants.{Attributes}
+use Rattle.ge_model_grammar.specs.Bodies.{attribute_in, body_of}
 use Rattle.ge_model_config.specs.Cited.{Read, amount_within, number_read}
 use Rattle.ge_model_config.specs.Reading.{item_of}
 use Rattle.ge_model_config.specs.Settings.{setting, sort_read, formula_faults, formula_read, with_weight, weights_read, weight_at, default_weights, sched_item, weight_read}
@@ -50,7 +46,7 @@ abbrev AreWeights : Read (List (List ℕ × ℕ)) → Type 0
 AreWeights weights = AreSmall weights.0
 
 abbrev pub IsSettings : Cluster → Item → Type 0
-IsSettings c (item.Sched s) = AreSettings c s
+IsSettings c (Item.Sched s) = AreSettings c s
 IsSettings c _ = ⊥
 
 abbrev SettingsFrom : Cluster → Item × List Refusal → Type 0
@@ -111,7 +107,7 @@ weight_small (row ∷ rows) name (first, small) = by (is_at (text_cmp name) row.
 weights_small : (weights : Read (List (List ℕ × ℕ))) (items : List (List ℕ)) → AreSmall weights.0 → AreSmall (fold with_weight weights items).0
 weights_small weights [] small = small
 weights_small weights (item ∷ items) small =
-    weights_small (with_weight weights item) items (put_small weights.0 (before_byte 61 item) (weight_read item).0 (weight_always (value_of kind.Double (behind_byte 61 item))) small)
+    weights_small (with_weight weights item) items (put_small weights.0 (before_byte 61 item) (weight_read item).0 (weight_always (value_of Kind.Double (behind_byte 61 item))) small)
 
 usage_small : (values : List (List ℕ × List ℕ)) → AreWeights (setting values (codes "usage_weight_list") default_weights weights_read)
 unfolding default_sched
@@ -123,33 +119,33 @@ usage_small values = by (attribute_in values (codes "usage_weight_list"))
 
 -- what is read without a refusal are settings, where complexes have names and the default load formula is one
 pub settings_read : (c : Cluster) (adding : Bool) (text : List ℕ) (body : Body) (thing : Item) → list_all is_name (keys_of c.complexes) ≡ true
-    → formula_faults (complex_at c default_sched.load_formula) ≡ [] → body_of object.Sched text ≡ Some body → item_of c object.Sched adding body ≡ (thing, []) → IsSettings c thing
+    → formula_faults (complex_at c default_sched.load_formula) ≡ [] → body_of ObjectKind.Sched text ≡ Some body → item_of c ObjectKind.Sched adding body ≡ (thing, []) → IsSettings c thing
 unfolding item_of sched_item default_sched
 settings_read c adding text body thing complexes known parsed is =
-    subst (SettingsFrom c) is (of_bodies c object.Sched adding text body (SettingsFrom c) (λ lines. refl) each parsed) refl
+    subst (SettingsFrom c) is (of_bodies c ObjectKind.Sched adding text body (SettingsFrom c) (λ lines. refl) each parsed) refl
   where
-    each : (values : List (List ℕ × List ℕ)) → SettingsFrom c (item_of c object.Sched adding (Attributes values))
+    each : (values : List (List ℕ × List ℕ)) → SettingsFrom c (item_of c ObjectKind.Sched adding (Attributes values))
     each values none =
         let d = default_sched in
-        let interval = setting values (codes "schedule_interval") d.interval (number_read kind.Time 0 infinity) in
-        let maxujobs = setting values (codes "maxujobs") d.maxujobs (number_read kind.Int 0 infinity) in
+        let interval = setting values (codes "schedule_interval") d.interval (number_read Kind.Time 0 infinity) in
+        let maxujobs = setting values (codes "maxujobs") d.maxujobs (number_read Kind.Int 0 infinity) in
         let sort = setting values (codes "queue_sort_method") d.sort sort_read in
         let load_formula = setting values (codes "load_formula") d.load_formula (formula_read c) in
-        let w_priority = setting values (codes "weight_priority") d.w_priority (number_read kind.Double 0 infinity) in
-        let w_urgency = setting values (codes "weight_urgency") d.w_urgency (number_read kind.Double 0 infinity) in
-        let w_ticket = setting values (codes "weight_ticket") d.w_ticket (number_read kind.Double 0 infinity) in
-        let w_waiting = setting values (codes "weight_waiting_time") d.w_waiting (number_read kind.Double 0 infinity) in
-        let w_deadline = setting values (codes "weight_deadline") d.w_deadline (number_read kind.Double 0 infinity) in
-        let functional = setting values (codes "weight_tickets_functional") d.functional (number_read kind.Int 0 1000000000) in
-        let share = setting values (codes "weight_tickets_share") d.share (number_read kind.Int 0 1000000000) in
-        let w_user = setting values (codes "weight_user") d.w_user (number_read kind.Double 0 infinity) in
-        let w_project = setting values (codes "weight_project") d.w_project (number_read kind.Double 0 infinity) in
-        let w_job = setting values (codes "weight_job") d.w_job (number_read kind.Double 0 infinity) in
-        let halftime = setting values (codes "halftime") d.halftime (number_read kind.Int 0 1048575) in
-        let max_reservation = setting values (codes "max_reservation") d.max_reservation (number_read kind.Int 0 infinity) in
-        let default_duration = setting values (codes "default_duration") d.default_duration (number_read kind.Time 0 infinity) in
+        let w_priority = setting values (codes "weight_priority") d.w_priority (number_read Kind.Double 0 infinity) in
+        let w_urgency = setting values (codes "weight_urgency") d.w_urgency (number_read Kind.Double 0 infinity) in
+        let w_ticket = setting values (codes "weight_ticket") d.w_ticket (number_read Kind.Double 0 infinity) in
+        let w_waiting = setting values (codes "weight_waiting_time") d.w_waiting (number_read Kind.Double 0 infinity) in
+        let w_deadline = setting values (codes "weight_deadline") d.w_deadline (number_read Kind.Double 0 infinity) in
+        let functional = setting values (codes "weight_tickets_functional") d.functional (number_read Kind.Int 0 1000000000) in
+        let share = setting values (codes "weight_tickets_share") d.share (number_read Kind.Int 0 1000000000) in
+        let w_user = setting values (codes "weight_user") d.w_user (number_read Kind.Double 0 infinity) in
+        let w_project = setting values (codes "weight_project") d.w_project (number_read Kind.Double 0 infinity) in
+        let w_job = setting values (codes "weight_job") d.w_job (number_read Kind.Double 0 infinity) in
+        let halftime = setting values (codes "halftime") d.halftime (number_read Kind.Int 0 1048575) in
+        let max_reservation = setting values (codes "max_reservation") d.max_reservation (number_read Kind.Int 0 infinity) in
+        let default_duration = setting values (codes "default_duration") d.default_duration (number_read Kind.Time 0 infinity) in
         let usage = setting values (codes "usage_weight_list") default_weights weights_read in
-        let max_pending = setting values (codes "max_pending_tasks_per_job") d.max_pending (number_read kind.Int 0 infinity) in
+        let max_pending = setting values (codes "max_pending_tasks_per_job") d.max_pending (number_read Kind.Int 0 infinity) in
         let faults1 = interval.1 ++ maxujobs.1 in
         let faults2 = faults1 ++ sort.1 in
         let faults3 = faults2 ++ load_formula.1 in
@@ -186,37 +182,37 @@ settings_read c adding text body thing complexes known parsed is =
         let parts2 = both_empty faults1 sort.1 parts3.0 in
         let parts1 = both_empty interval.1 maxujobs.1 parts2.0 in
         record {
-          interval = within kind.Time infinity values (codes "schedule_interval") d.interval refl parts1.0;
-          maxujobs = within kind.Int infinity values (codes "maxujobs") d.maxujobs refl parts1.1;
+          interval = within Kind.Time infinity values (codes "schedule_interval") d.interval refl parts1.0;
+          maxujobs = within Kind.Int infinity values (codes "maxujobs") d.maxujobs refl parts1.1;
           formula = (formula_is c values complexes known parts3.1).0;
           formula_shown = (formula_is c values complexes known parts3.1).1;
-          w_priority = within kind.Double infinity values (codes "weight_priority") d.w_priority refl parts4.1;
-          w_urgency = within kind.Double infinity values (codes "weight_urgency") d.w_urgency refl parts5.1;
-          w_ticket = within kind.Double infinity values (codes "weight_ticket") d.w_ticket refl parts6.1;
-          w_waiting = within kind.Double infinity values (codes "weight_waiting_time") d.w_waiting refl parts7.1;
-          w_deadline = within kind.Double infinity values (codes "weight_deadline") d.w_deadline refl parts8.1;
-          functional = within kind.Int 1000000000 values (codes "weight_tickets_functional") d.functional refl parts9.1;
-          share = within kind.Int 1000000000 values (codes "weight_tickets_share") d.share refl parts10.1;
-          w_user = within kind.Double infinity values (codes "weight_user") d.w_user refl parts11.1;
-          w_project = within kind.Double infinity values (codes "weight_project") d.w_project refl parts12.1;
-          w_job = within kind.Double infinity values (codes "weight_job") d.w_job refl parts13.1;
-          halftime = within kind.Int 1048575 values (codes "halftime") d.halftime refl parts14.1;
-          max_reservation = within kind.Int infinity values (codes "max_reservation") d.max_reservation refl parts15.1;
-          default_duration = within kind.Time infinity values (codes "default_duration") d.default_duration refl parts16.1;
+          w_priority = within Kind.Double infinity values (codes "weight_priority") d.w_priority refl parts4.1;
+          w_urgency = within Kind.Double infinity values (codes "weight_urgency") d.w_urgency refl parts5.1;
+          w_ticket = within Kind.Double infinity values (codes "weight_ticket") d.w_ticket refl parts6.1;
+          w_waiting = within Kind.Double infinity values (codes "weight_waiting_time") d.w_waiting refl parts7.1;
+          w_deadline = within Kind.Double infinity values (codes "weight_deadline") d.w_deadline refl parts8.1;
+          functional = within Kind.Int 1000000000 values (codes "weight_tickets_functional") d.functional refl parts9.1;
+          share = within Kind.Int 1000000000 values (codes "weight_tickets_share") d.share refl parts10.1;
+          w_user = within Kind.Double infinity values (codes "weight_user") d.w_user refl parts11.1;
+          w_project = within Kind.Double infinity values (codes "weight_project") d.w_project refl parts12.1;
+          w_job = within Kind.Double infinity values (codes "weight_job") d.w_job refl parts13.1;
+          halftime = within Kind.Int 1048575 values (codes "halftime") d.halftime refl parts14.1;
+          max_reservation = within Kind.Int infinity values (codes "max_reservation") d.max_reservation refl parts15.1;
+          default_duration = within Kind.Time infinity values (codes "default_duration") d.default_duration refl parts16.1;
           u_cpu = weight_small usage.0 (codes "cpu") (usage_small values);
           u_mem = weight_small usage.0 (codes "mem") (usage_small values);
           u_io = weight_small usage.0 (codes "io") (usage_small values);
-          max_pending = within kind.Int infinity values (codes "max_pending_tasks_per_job") d.max_pending refl parts18.1;
+          max_pending = within Kind.Int infinity values (codes "max_pending_tasks_per_job") d.max_pending refl parts18.1;
         }
 
 -- settings that were read without a refusal read back
 pub settings_read_back : (c : Cluster) (adding : Bool) (text : List ℕ) (body : Body) (thing : Item) → list_all is_name (keys_of c.complexes) ≡ true
-    → formula_faults (complex_at c default_sched.load_formula) ≡ [] → body_of object.Sched text ≡ Some body → item_of c object.Sched adding body ≡ (thing, []) → (ended : Bool)
-    → ReadsBack c object.Sched thing ended
+    → formula_faults (complex_at c default_sched.load_formula) ≡ [] → body_of ObjectKind.Sched text ≡ Some body → item_of c ObjectKind.Sched adding body ≡ (thing, []) → (ended : Bool)
+    → ReadsBack c ObjectKind.Sched thing ended
 settings_read_back c adding text body thing complexes known parsed is ended = by thing (settings_read c adding text body thing complexes known parsed is)
   where
-    by : (thing : Item) → IsSettings c thing → ReadsBack c object.Sched thing ended
-    by (item.Sched s) fits = settings_back c s fits ended
+    by : (thing : Item) → IsSettings c thing → ReadsBack c ObjectKind.Sched thing ended
+    by (Item.Sched s) fits = settings_back c s fits ended
     by _ fits = absurd fits
 
 -- settings are as they are in every cluster with the same complexes

@@ -6,12 +6,8 @@ use Rattle.std.proofs.lemmas.List.Folds.{list_all-append}
 use Rattle.std.proofs.lemmas.Slice.Eq.{bytes_eq-Decides}
 use Rattle.ge_base.specs.declared.refusal.Refusal.TheVariants.{BadValue}
 use Rattle.ge_collections.specs.Keyed.{text_eq}
-use Rattle.ge_rows.specs.declared.cluster.Cluster.{Cluster}
-use Rattle.ge_rows.specs.declared.values.ComplexDef.{ComplexDef}
-use Rattle.ge_rows.specs.declared.values.Kind.{Kind}
-use Rattle.ge_rows.specs.declared.values.Kind.TheVariants as kind
-use Rattle.ge_rows.specs.declared.values.Value.{Value}
-use Rattle.ge_rows.specs.declared.values.Value.TheVariants.{Amount, Flag, Word}
+use Rattle.ge_model_rows.specs.ClusterRows.{Cluster}
+use Rattle.ge_model_rows.specs.ValueRows.{Value, Amount, Flag, Word, Kind, ComplexDef}
 use Rattle.ge_model_script.specs.Names.{is_name_byte, is_name}
 use Rattle.ge_model_value.specs.Faults.{when}
 use Rattle.ge_model_value.specs.Pieces.{is_empty, has_byte, before_byte, behind_byte}
@@ -56,28 +52,28 @@ flag_piece true = refl
 flag_piece false = refl
 
 pub value_piece : (k : Kind) (value : Value) → FitsKind k value → list_all is_piece_byte (value_text k value) ≡ true
-value_piece kind.Str value fits = text_piece kind.Str value fits
-value_piece kind.CStr value fits = text_piece kind.CStr value fits
-value_piece kind.ReStr value fits = text_piece kind.ReStr value fits
-value_piece kind.Host value fits = text_piece kind.Host value fits
-value_piece kind.Int (Amount n) fits = amount_piece kind.Int n
-value_piece kind.Time (Amount n) fits = amount_piece kind.Time n
-value_piece kind.Memory (Amount n) fits = amount_piece kind.Memory n
-value_piece kind.Double (Amount n) fits = amount_piece kind.Double n
-value_piece kind.Bool (Flag flag) fits = flag_piece flag
+value_piece Kind.Str value fits = text_piece Kind.Str value fits
+value_piece Kind.CStr value fits = text_piece Kind.CStr value fits
+value_piece Kind.ReStr value fits = text_piece Kind.ReStr value fits
+value_piece Kind.Host value fits = text_piece Kind.Host value fits
+value_piece Kind.Int (Amount n) fits = amount_piece Kind.Int n
+value_piece Kind.Time (Amount n) fits = amount_piece Kind.Time n
+value_piece Kind.Memory (Amount n) fits = amount_piece Kind.Memory n
+value_piece Kind.Double (Amount n) fits = amount_piece Kind.Double n
+value_piece Kind.Bool (Flag flag) fits = flag_piece flag
 value_piece _ _ fits = absurd fits
 
 -- ---- a name and its value
 
 -- the kind of a complex that is there
 abbrev kind_in : Option ComplexDef → Kind
-kind_in None = kind.Int
+kind_in None = Kind.Int
 kind_in (Some complex) = complex.kind
 
 row_kind : (c : Cluster) (name : List ℕ) → kind_for c name ≡ kind_in (complex_at c name)
 row_kind c name = by (complex_at c name)
   where
-    by : (found : Option ComplexDef) → elim found as (λ x. Kind) [ None ↦ kind.Int | Some complex ↦ complex.kind ] ≡ kind_in found
+    by : (found : Option ComplexDef) → elim found as (λ x. Kind) [ None ↦ Kind.Int | Some complex ↦ complex.kind ] ≡ kind_in found
     by None = refl
     by (Some complex) = refl
 

@@ -2,11 +2,7 @@
 use Rattle.std.proofs.Common.{◌≡◌, ℕ, ◌+◌, ◌^◌, ◌<◌, ◌==◌, ◌||◌, Bool, true, false, if◌then◌else◌, nat_lt, List, [], ◌∷◌, Option, Some, None, IfSome, Result, Ok, Err, decimal, codes, refl, sym, ap, ◌∙◌, arith}
 use Rattle.std.proofs.lemmas.Bool.{eqb-true, ltb-true}
 use Rattle.ge_collections.specs.Keyed.{text_eq}
-use Rattle.ge_rows.specs.Opening.{infinity}
-use Rattle.ge_rows.specs.declared.values.Kind.{Kind}
-use Rattle.ge_rows.specs.declared.values.Kind.TheVariants as kind
-use Rattle.ge_rows.specs.declared.values.Value.{Value}
-use Rattle.ge_rows.specs.declared.values.Value.TheVariants.{Amount, Flag, Word}
+use Rattle.ge_model_rows.specs.ValueRows.{Value, Amount, Flag, Word, Kind, infinity}
 use Rattle.ge_model_text.specs.declared.Form.{Form}
 use Rattle.ge_model_text.specs.declared.Form.TheVariants as form
 use Rattle.ge_model_text.specs.declared.Progress.{Progress}
@@ -40,11 +36,11 @@ FitsText _ = ⊥
 
 -- a value of a kind
 abbrev pub FitsKind : Kind → Value → Type 0
-FitsKind kind.Int value = FitsAmount value
-FitsKind kind.Time value = FitsAmount value
-FitsKind kind.Memory value = FitsAmount value
-FitsKind kind.Double value = FitsAmount value
-FitsKind kind.Bool value = FitsFlag value
+FitsKind Kind.Int value = FitsAmount value
+FitsKind Kind.Time value = FitsAmount value
+FitsKind Kind.Memory value = FitsAmount value
+FitsKind Kind.Double value = FitsAmount value
+FitsKind Kind.Bool value = FitsFlag value
 FitsKind _ value = FitsText value
 
 IsSmall : Result ℕ ValueFault → Type 0
@@ -106,15 +102,15 @@ word_fits text = by (text_eq text (codes "NONE")) (is_word text) refl refl
 
 -- what is read is a value of its kind
 pub value_fits : (k : Kind) (text : List ℕ) → IfSome (value_of k text) (FitsKind k)
-value_fits kind.Int text = amount_small form.Int text
-value_fits kind.Time text = amount_small form.Time text
-value_fits kind.Memory text = amount_small form.Memory text
-value_fits kind.Double text = amount_small form.Fixed text
-value_fits kind.Bool text = flag_fits text
-value_fits kind.Str text = word_fits text
-value_fits kind.CStr text = word_fits text
-value_fits kind.ReStr text = word_fits text
-value_fits kind.Host text = word_fits text
+value_fits Kind.Int text = amount_small form.Int text
+value_fits Kind.Time text = amount_small form.Time text
+value_fits Kind.Memory text = amount_small form.Memory text
+value_fits Kind.Double text = amount_small form.Fixed text
+value_fits Kind.Bool text = flag_fits text
+value_fits Kind.Str text = word_fits text
+value_fits Kind.CStr text = word_fits text
+value_fits Kind.ReStr text = word_fits text
+value_fits Kind.Host text = word_fits text
 
 -- ---- what is printed is read
 
@@ -147,22 +143,22 @@ text_back (Word word) k fits = word_back word fits
 
 -- a value is printed as it is read
 pub value_back : (k : Kind) (value : Value) → FitsKind k value → value_of k (value_text k value) ≡ Some value
-value_back kind.Int (Amount n) fits = ap read_amount (int_back n fits)
-value_back kind.Time (Amount n) fits = ap read_amount (endless_back form.Time clock_text n refl (clock_back n fits))
-value_back kind.Memory (Amount n) fits = ap read_amount (endless_back form.Memory decimal n refl (bytes_back n fits))
-value_back kind.Double (Amount n) fits = ap read_amount (fixed_back n fits)
-value_back kind.Bool (Flag flag) fits = flag_back flag
-value_back kind.Int (Flag flag) fits = absurd fits
-value_back kind.Int (Word word) fits = absurd fits
-value_back kind.Time (Flag flag) fits = absurd fits
-value_back kind.Time (Word word) fits = absurd fits
-value_back kind.Memory (Flag flag) fits = absurd fits
-value_back kind.Memory (Word word) fits = absurd fits
-value_back kind.Double (Flag flag) fits = absurd fits
-value_back kind.Double (Word word) fits = absurd fits
-value_back kind.Bool (Amount n) fits = absurd fits
-value_back kind.Bool (Word word) fits = absurd fits
-value_back kind.Str value fits = text_back value kind.Str fits
-value_back kind.CStr value fits = text_back value kind.CStr fits
-value_back kind.ReStr value fits = text_back value kind.ReStr fits
-value_back kind.Host value fits = text_back value kind.Host fits
+value_back Kind.Int (Amount n) fits = ap read_amount (int_back n fits)
+value_back Kind.Time (Amount n) fits = ap read_amount (endless_back form.Time clock_text n refl (clock_back n fits))
+value_back Kind.Memory (Amount n) fits = ap read_amount (endless_back form.Memory decimal n refl (bytes_back n fits))
+value_back Kind.Double (Amount n) fits = ap read_amount (fixed_back n fits)
+value_back Kind.Bool (Flag flag) fits = flag_back flag
+value_back Kind.Int (Flag flag) fits = absurd fits
+value_back Kind.Int (Word word) fits = absurd fits
+value_back Kind.Time (Flag flag) fits = absurd fits
+value_back Kind.Time (Word word) fits = absurd fits
+value_back Kind.Memory (Flag flag) fits = absurd fits
+value_back Kind.Memory (Word word) fits = absurd fits
+value_back Kind.Double (Flag flag) fits = absurd fits
+value_back Kind.Double (Word word) fits = absurd fits
+value_back Kind.Bool (Amount n) fits = absurd fits
+value_back Kind.Bool (Word word) fits = absurd fits
+value_back Kind.Str value fits = text_back value Kind.Str fits
+value_back Kind.CStr value fits = text_back value Kind.CStr fits
+value_back Kind.ReStr value fits = text_back value Kind.ReStr fits
+value_back Kind.Host value fits = text_back value Kind.Host fits

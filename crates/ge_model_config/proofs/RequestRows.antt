@@ -1,14 +1,14 @@
 -- What -l, -q and -pe ask for.
-use Rattle.std.specs.Prelude.{◌≡◌, ℕ, true, List, [], ◌∷◌, ◌++◌, Option, Some, None, map, flat_map, decimal, codes, refl}
+use Rattle.std.specs.Prelude.{◌≡◌, ℕ, true, List, [], ◌∷◌, ◌++◌, Option, Some, None, Ok, Err, map, flat_map, decimal, codes, refl}
 use Rattle.std.specs.Fmt.{digits}
 use Rattle.std.specs.List.{range_with_len}
 use Rattle.ge_base.specs.declared.refusal.Refusal.{Refusal}
 use Rattle.ge_base.specs.declared.refusal.Refusal.TheVariants.{NoSuchObject, BadValue, NotRequestable, Limit}
-use Rattle.ge_rows.specs.declared.entries.ObjectKind.TheVariants as object
-use Rattle.ge_rows.specs.declared.jobs.Request.{Request}
-use Rattle.ge_rows.specs.declared.values.Value.TheVariants.{Amount, Flag, Word}
+use Rattle.ge_model_rows.specs.EntryRows.{ObjectKind}
+use Rattle.ge_model_rows.specs.JobRows.{Request}
+use Rattle.ge_model_rows.specs.ValueRows.{Amount, Flag, Word}
 use Rattle.ge_model_value.specs.Faults.{first_fault}
-use Rattle.ge_model_config.specs.Requests.{request_of}
+use Rattle.ge_model_config.specs.Requests.{request_of, request_read, request_changed}
 use Rattle.ge_model_config.proofs.Site.{site, with_body}
 
 -- a job that asks for nothing, and one that asks for some of each
@@ -86,6 +86,19 @@ unfolding digits
 many_asked n = map (λ i. codes "r" ++ decimal i ++ codes "=1") (range_with_len 10 n)
 
 -- 64 different ones may be asked for, one of them twice
-as_many_as_may_be : map (λ n. first_fault (request_of (with_body site (object.Complexes, many_rows 65)) ((codes "-l", codes "r10=2" ∷ many_asked n) ∷ []) nothing).1) (64 ∷ 65 ∷ []) ≡ None ∷ Some Limit ∷ []
+as_many_as_may_be : map (λ n. first_fault (request_of (with_body site (ObjectKind.Complexes, many_rows 65)) ((codes "-l", codes "r10=2" ∷ many_asked n) ∷ []) nothing).1) (64 ∷ 65 ∷ []) ≡ None ∷ Some Limit ∷ []
 unfolding request_of site with_body many_rows many_asked
 as_many_as_may_be = refl
+
+-- the answers to a new request and to a changed one
+new_request : request_read site ((codes "-l", codes "mem=1" ∷ []) ∷ []) ≡ Ok (record nothing { asked = (codes "mem", Amount 1) ∷ [] })
+unfolding request_read request_of site
+new_request = refl
+
+refused_request : request_read site ((codes "-pe", codes "mpi" ∷ codes "0" ∷ []) ∷ []) ≡ Err NoSuchObject
+unfolding request_read request_of site
+refused_request = refl
+
+changed_request : request_changed site ((codes "-q", codes "a.q" ∷ []) ∷ []) some ≡ Ok (record some { queues = codes "a.q" ∷ [] })
+unfolding request_changed request_of site
+changed_request = refl

@@ -4,16 +4,13 @@ use Rattle.std.specs.Fmt.{digits}
 use Rattle.ge_collections.specs.Keyed.{put_text}
 use Rattle.ge_base.specs.declared.refusal.Refusal.{Refusal}
 use Rattle.ge_base.specs.declared.refusal.Refusal.TheVariants.{Syntax}
-use Rattle.ge_rows.specs.Opening.{opening_cluster, default_queue, default_sched}
-use Rattle.ge_rows.specs.declared.cluster.Cluster.{Cluster}
-use Rattle.ge_rows.specs.declared.entries.Item.{Item}
-use Rattle.ge_rows.specs.declared.entries.Item.TheVariants as item
-use Rattle.ge_rows.specs.declared.entries.ObjectKind.{ObjectKind}
-use Rattle.ge_rows.specs.declared.entries.ObjectKind.TheVariants as object
+use Rattle.ge_model_rows.specs.ClusterRows.{Cluster, opening_cluster, default_queue, default_sched}
+use Rattle.ge_model_rows.specs.EntryRows.{Item, ObjectKind}
 use Rattle.ge_model_value.specs.Faults.{first_fault}
 use Rattle.ge_model_value.specs.Pieces.{joined_by}
 use Rattle.ge_model_value.specs.Complexes.{opening, opening_complexes}
-use Rattle.ge_model_grammar.specs.Bodies.{Body, body_of, grammar_of_bodies}
+use Rattle.ge_model_grammar.specs.declared.Body.{Body}
+use Rattle.ge_model_grammar.specs.Bodies.{body_of, grammar_of_bodies}
 use Rattle.ge_model_config.specs.Reading.{item_of, items_of_bodies}
 use Rattle.ge_model_config.specs.Printing.{printed, item_at}
 
@@ -24,19 +21,19 @@ read_over c kind adding body = item_of c kind adding body
 
 -- a table of a cluster with what an item puts there
 abbrev pub with_item : Cluster → Item → Cluster
-with_item c (item.Complexes table) = record c { complexes = table }
-with_item c (item.Host name values) = record c { hosts = put_text c.hosts name (record { values = values; load = [] }) }
-with_item c (item.Group name hosts) = record c { groups = put_text c.groups name hosts }
-with_item c (item.Queue name queue) = record c { queues = put_text c.queues name queue }
-with_item c (item.Pe name pe) = record c { pes = put_text c.pes name pe }
-with_item c (item.Quota name set) = record c { quotas = put_text c.quotas name set }
-with_item c (item.Set name entries) = record c { sets = put_text c.sets name entries }
-with_item c (item.User name user) = record c { users = put_text c.users name user }
-with_item c (item.Project name project) = record c { projects = put_text c.projects name project }
-with_item c (item.Shares nodes) = record c { shares = nodes }
-with_item c (item.Sched settings) = record c { sched = settings }
-with_item c (item.Managers names) = record c { managers = names }
-with_item c (item.Operators names) = record c { operators = names }
+with_item c (Item.Complexes table) = record c { complexes = table }
+with_item c (Item.Host name values) = record c { hosts = put_text c.hosts name (record { values = values; load = [] }) }
+with_item c (Item.Group name hosts) = record c { groups = put_text c.groups name hosts }
+with_item c (Item.Queue name queue) = record c { queues = put_text c.queues name queue }
+with_item c (Item.Pe name pe) = record c { pes = put_text c.pes name pe }
+with_item c (Item.Quota name set) = record c { quotas = put_text c.quotas name set }
+with_item c (Item.Set name entries) = record c { sets = put_text c.sets name entries }
+with_item c (Item.User name user) = record c { users = put_text c.users name user }
+with_item c (Item.Project name project) = record c { projects = put_text c.projects name project }
+with_item c (Item.Shares nodes) = record c { shares = nodes }
+with_item c (Item.Sched settings) = record c { sched = settings }
+with_item c (Item.Managers names) = record c { managers = names }
+with_item c (Item.Operators names) = record c { operators = names }
 
 -- a cluster with a body added
 unfoldable pub with_body : Cluster → ObjectKind × List ℕ → Cluster
@@ -60,7 +57,7 @@ reprinted c kind adding text = elim (body_of kind text) [ None ↦ [] | Some bod
 -- the item that a text makes, with its refusals
 unfoldable pub item_from : Cluster → ObjectKind → List ℕ → Item × List Refusal
 unfolding grammar_of_bodies read_over
-item_from c kind text = elim (body_of kind text) [ None ↦ (item.Managers [], Syntax ∷ []) | Some body ↦ read_over c kind true body ]
+item_from c kind text = elim (body_of kind text) [ None ↦ (Item.Managers [], Syntax ∷ []) | Some body ↦ read_over c kind true body ]
 
 -- that the printed lines of texts make the items that the texts make
 abbrev pub ReadBack : Cluster → ObjectKind → List (List ℕ) → Type 0
@@ -80,15 +77,15 @@ first = opening
 unfoldable pub site : Cluster
 unfolding first with_body
 site = fold with_body first (
-    (object.Complexes, codes "mem mem MEMORY <= YES YES 1G 0\ngpu gpu BOOL == FORCED NO 0 0")
-    ∷ (object.Host, codes "hostname n1\ncomplex_values mem=8G")
-    ∷ (object.Host, codes "hostname n2\ncomplex_values mem=8G")
-    ∷ (object.Host, codes "hostname n3\ncomplex_values mem=4G")
-    ∷ (object.Group, codes "group_name @big\nhostlist n1 n2")
-    ∷ (object.Group, codes "group_name @all\nhostlist @big n3")
-    ∷ (object.Set, codes "name dev\nentries ann @staff")
-    ∷ (object.Project, codes "name web\nacl dev")
-    ∷ (object.Pe, codes "pe_name smp\nslots 100\nallocation_rule $pe_slots")
-    ∷ (object.Queue, codes "qname long.q\nhostlist @big n3\nslots 2,[@big=4]\npe_list smp\nuser_lists dev\nprojects NONE,[n1=web]")
-    ∷ (object.Quota, codes "{\nname per_user\nenabled TRUE\nlimit users {*} to slots=6,mem=2G\nlimit users @dev hosts @all to slots=4\n}")
+    (ObjectKind.Complexes, codes "mem mem MEMORY <= YES YES 1G 0\ngpu gpu BOOL == FORCED NO 0 0")
+    ∷ (ObjectKind.Host, codes "hostname n1\ncomplex_values mem=8G")
+    ∷ (ObjectKind.Host, codes "hostname n2\ncomplex_values mem=8G")
+    ∷ (ObjectKind.Host, codes "hostname n3\ncomplex_values mem=4G")
+    ∷ (ObjectKind.Group, codes "group_name @big\nhostlist n1 n2")
+    ∷ (ObjectKind.Group, codes "group_name @all\nhostlist @big n3")
+    ∷ (ObjectKind.Set, codes "name dev\nentries ann @staff")
+    ∷ (ObjectKind.Project, codes "name web\nacl dev")
+    ∷ (ObjectKind.Pe, codes "pe_name smp\nslots 100\nallocation_rule $pe_slots")
+    ∷ (ObjectKind.Queue, codes "qname long.q\nhostlist @big n3\nslots 2,[@big=4]\npe_list smp\nuser_lists dev\nprojects NONE,[n1=web]")
+    ∷ (ObjectKind.Quota, codes "{\nname per_user\nenabled TRUE\nlimit users {*} to slots=6,mem=2G\nlimit users @dev hosts @all to slots=4\n}")
     ∷ [])

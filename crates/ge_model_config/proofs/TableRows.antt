@@ -1,10 +1,10 @@
 -- Rule sets, complexes and share trees, and what answers them.
 use Rattle.std.specs.Prelude.{true, false, [], ◌∷◌, Some, None, codes, refl}
 use Rattle.ge_base.specs.declared.refusal.Refusal.TheVariants.{Syntax, NoSuchObject, Exists, InUse, BadValue, Cycle}
-use Rattle.ge_rows.specs.declared.entries.ObjectKind.TheVariants as object
+use Rattle.ge_model_rows.specs.EntryRows.{ObjectKind}
 use Rattle.ge_model_config.proofs.Site.{site, answer, Answers}
 
-rule_sets_added : Answers site object.Quota true (
+rule_sets_added : Answers site ObjectKind.Quota true (
     (codes "{\nname x\nlimit to slots=1\n}", None)
     ∷ (codes "{\nname per_user\nlimit to slots=1\n}", Some Exists)
     ∷ (codes "{\nname x\nlimit users @nosuch to slots=1\n}", Some NoSuchObject)
@@ -22,18 +22,28 @@ rule_sets_added : Answers site object.Quota true (
 unfolding answer site
 rule_sets_added = refl
 
-rule_sets_changed : Answers site object.Quota false (
+rule_sets_changed : Answers site ObjectKind.Quota false (
     (codes "{\nname x\nlimit to slots=1\n}", Some NoSuchObject)
     ∷ [])
 unfolding answer site
 rule_sets_changed = refl
 
-complexes_added : Answers site object.Complexes true (
+complexes_added : Answers site ObjectKind.Complexes true (
     (codes "ver v INT >= YES NO 0 0", None)
     ∷ (codes "ver v FLOAT >= YES NO 0 0", Some BadValue)
     ∷ (codes "ver v INT => YES NO 0 0", Some BadValue)
     ∷ (codes "ver v INT >= maybe NO 0 0", Some BadValue)
     ∷ (codes "ver v INT >= y JOB 0 0", Some BadValue)
+    ∷ (codes "ver v INT <= y JOB 0 0", None)
+    ∷ (codes "ver v MEMORY <= y Job 0 0", None)
+    ∷ (codes "ver v INT <= y j 0 0\nwer w INT <= y J 0 0", None)
+    ∷ (codes "ver v INT <= y JO 0 0", Some BadValue)
+    ∷ (codes "ver v BOOL == y JOB 0 0", Some BadValue)
+    ∷ (codes "ver v STRING == YES JOB NONE 0", Some BadValue)
+    ∷ (codes "slots s INT <= YES JOB 1 1000", Some BadValue)
+    ∷ (codes "slots s INT <= YES YES 1 1000", None)
+    ∷ (codes "slot s2 INT <= YES JOB 1 1000", None)
+    ∷ (codes "mem mem MEMORY <= YES JOB 1G 0", None)
     ∷ (codes "ver v INT >= f n 0 0.5", None)
     ∷ (codes "ver v INT >= YES NO x 0", Some BadValue)
     ∷ (codes "ver v INT >= YES NO 0 x", Some BadValue)
@@ -57,14 +67,14 @@ complexes_added : Answers site object.Complexes true (
 unfolding answer site
 complexes_added = refl
 
-complexes_anew : Answers site object.Complexes false (
+complexes_anew : Answers site ObjectKind.Complexes false (
     (codes "x x INT <= YES NO 0 0", Some InUse)
     ∷ (codes "x x FLOAT <= YES NO 0 0", Some InUse)
     ∷ [])
 unfolding answer site
 complexes_anew = refl
 
-share_trees_added : Answers site object.Shares true (
+share_trees_added : Answers site ObjectKind.Shares true (
     (codes "", None)
     ∷ (codes "id=0\nname=Root\ntype=0\nshares=1\nchildnodes=NONE", None)
     ∷ (codes "id=0\nname=Root\ntype=0\nshares=1\nchildnodes=1,2\nid=1\nname=web\ntype=1\nshares=10\nchildnodes=3\nid=2\nname=default\ntype=0\nshares=5\nchildnodes=NONE\nid=3\nname=default\ntype=0\nshares=5\nchildnodes=NONE", None)

@@ -1,14 +1,13 @@
 -- Values of a body as they are read: each beside the refusals whose conditions hold. Every part is read, also where another one is refused.
-use Rattle.std.specs.Prelude.{ℕ, Bool, not, ◌||◌, List, [], ◌∷◌, Option, Some, None, is_some, unwrap_or, if◌then◌else◌, codes}
+use Rattle.std.specs.Prelude.{ℕ, Bool, not, ◌||◌, List, [], ◌∷◌, Option, Some, None, Result, Ok, Err, is_some, unwrap_or, if◌then◌else◌, codes}
 use Rattle.std.specs.List.{list_all}
 use Rattle.std.specs.Int.{is_in_range}
 use Rattle.ge_collections.specs.Keyed.{at_text}
 use Rattle.ge_base.specs.declared.refusal.Refusal.{Refusal}
 use Rattle.ge_base.specs.declared.refusal.Refusal.TheVariants.{NoSuchObject, BadValue}
-use Rattle.ge_rows.specs.declared.cluster.Cluster.{Cluster}
-use Rattle.ge_rows.specs.declared.values.Kind.{Kind}
-use Rattle.ge_rows.specs.declared.values.Value.{Value}
-use Rattle.ge_model_value.specs.Faults.{when}
+use Rattle.ge_model_rows.specs.ClusterRows.{Cluster}
+use Rattle.ge_model_rows.specs.ValueRows.{Value, Kind}
+use Rattle.ge_model_value.specs.Faults.{when, first_fault}
 use Rattle.ge_model_value.specs.Pieces.{list_items}
 use Rattle.ge_model_value.specs.Values.{value_of, amount_in}
 use Rattle.ge_model_grammar.specs.Bodies.{attribute_in}
@@ -16,6 +15,10 @@ use Rattle.ge_model_grammar.specs.Bodies.{attribute_in}
 -- a value, and the refusals whose conditions hold: where there is one, nothing comes of the value
 abbrev pub Read : Type 0 → Type 0
 Read T = T × List Refusal
+
+-- what is answered with a value that was read: the value, or the first of the refusals
+abbrev pub answered : {T : Type 0} → Read T → Result T Refusal
+answered read = elim (first_fault read.1) [ None ↦ Ok read.0 | Some refusal ↦ Err refusal ]
 
 -- what a body gives an attribute, or its default
 abbrev pub given : List (List ℕ × List ℕ) → List ℕ → List ℕ → List ℕ

@@ -1,31 +1,24 @@
 -- The words in the columns of the table of complexes (complex).
 use Rattle.std.specs.Prelude.{ℕ, Bool, ◌||◌, List, [], ◌∷◌, take, Option, find, codes}
 use Rattle.ge_collections.specs.Keyed.{text_eq}
-use Rattle.ge_rows.specs.declared.values.Kind.{Kind}
-use Rattle.ge_rows.specs.declared.values.Kind.TheVariants as kind
-use Rattle.ge_rows.specs.declared.values.Relop.{Relop}
-use Rattle.ge_rows.specs.declared.values.Relop.TheVariants as relop
-use Rattle.ge_rows.specs.declared.values.Requestable.{Requestable}
-use Rattle.ge_rows.specs.declared.values.Requestable.TheVariants as requestable
-use Rattle.ge_rows.specs.declared.values.Consumable.{Consumable}
-use Rattle.ge_rows.specs.declared.values.Consumable.TheVariants as consumable
+use Rattle.ge_model_rows.specs.ValueRows.{Kind, Relop, Requestable, Consumable}
 use Rattle.ge_model_value.specs.Pieces.{lower_case}
 
 -- the column type
 abbrev pub kind_text : Kind → List ℕ
-kind_text kind.Int = codes "INT"
-kind_text kind.Time = codes "TIME"
-kind_text kind.Memory = codes "MEMORY"
-kind_text kind.Double = codes "DOUBLE"
-kind_text kind.Bool = codes "BOOL"
-kind_text kind.Str = codes "STRING"
-kind_text kind.CStr = codes "CSTRING"
-kind_text kind.ReStr = codes "RESTRING"
-kind_text kind.Host = codes "HOST"
+kind_text Kind.Int = codes "INT"
+kind_text Kind.Time = codes "TIME"
+kind_text Kind.Memory = codes "MEMORY"
+kind_text Kind.Double = codes "DOUBLE"
+kind_text Kind.Bool = codes "BOOL"
+kind_text Kind.Str = codes "STRING"
+kind_text Kind.CStr = codes "CSTRING"
+kind_text Kind.ReStr = codes "RESTRING"
+kind_text Kind.Host = codes "HOST"
 
 -- all types
 abbrev pub kinds : List Kind
-kinds = kind.Int ∷ kind.Time ∷ kind.Memory ∷ kind.Double ∷ kind.Bool ∷ kind.Str ∷ kind.CStr ∷ kind.ReStr ∷ kind.Host ∷ []
+kinds = Kind.Int ∷ Kind.Time ∷ Kind.Memory ∷ Kind.Double ∷ Kind.Bool ∷ Kind.Str ∷ Kind.CStr ∷ Kind.ReStr ∷ Kind.Host ∷ []
 
 -- the type that a word names
 abbrev pub kind_of : List ℕ → Option Kind
@@ -37,16 +30,16 @@ is_same_kind k other = text_eq (kind_text k) (kind_text other)
 
 -- the column relop
 abbrev pub relop_text : Relop → List ℕ
-relop_text relop.Eq = codes "=="
-relop_text relop.Ne = codes "!="
-relop_text relop.Lt = codes "<"
-relop_text relop.Le = codes "<="
-relop_text relop.Gt = codes ">"
-relop_text relop.Ge = codes ">="
+relop_text Relop.Eq = codes "=="
+relop_text Relop.Ne = codes "!="
+relop_text Relop.Lt = codes "<"
+relop_text Relop.Le = codes "<="
+relop_text Relop.Gt = codes ">"
+relop_text Relop.Ge = codes ">="
 
 -- all operators
 abbrev pub relops : List Relop
-relops = relop.Eq ∷ relop.Ne ∷ relop.Lt ∷ relop.Le ∷ relop.Gt ∷ relop.Ge ∷ []
+relops = Relop.Eq ∷ Relop.Ne ∷ Relop.Lt ∷ Relop.Le ∷ Relop.Gt ∷ Relop.Ge ∷ []
 
 -- the operator that a word names
 abbrev pub relop_of : List ℕ → Option Relop
@@ -62,19 +55,20 @@ is_word word text = text_eq (lower_case word) (lower_case text) || text_eq (lowe
 
 -- the column requestable
 abbrev pub requestable_text : Requestable → List ℕ
-requestable_text requestable.No = codes "NO"
-requestable_text requestable.Yes = codes "YES"
-requestable_text requestable.Forced = codes "FORCED"
+requestable_text Requestable.No = codes "NO"
+requestable_text Requestable.Yes = codes "YES"
+requestable_text Requestable.Forced = codes "FORCED"
 
 -- what a word says of asking
 abbrev pub requestable_of : List ℕ → Option Requestable
-requestable_of word = find (λ r. is_word word (requestable_text r)) (requestable.No ∷ requestable.Yes ∷ requestable.Forced ∷ [])
+requestable_of word = find (λ r. is_word word (requestable_text r)) (Requestable.No ∷ Requestable.Yes ∷ Requestable.Forced ∷ [])
 
 -- the column consumable
 abbrev pub consumable_text : Consumable → List ℕ
-consumable_text consumable.No = codes "NO"
-consumable_text consumable.Yes = codes "YES"
+consumable_text Consumable.No = codes "NO"
+consumable_text Consumable.Yes = codes "YES"
+consumable_text Consumable.Job = codes "JOB"
 
 -- what a word says of consuming
 abbrev pub consumable_of : List ℕ → Option Consumable
-consumable_of word = find (λ r. is_word word (consumable_text r)) (consumable.No ∷ consumable.Yes ∷ [])
+consumable_of word = find (λ r. is_word word (consumable_text r)) (Consumable.No ∷ Consumable.Yes ∷ Consumable.Job ∷ [])

@@ -1,27 +1,19 @@
 -- The table of complexes read from a body (complex).
-use Rattle.std.specs.Prelude.{ℕ, Bool, true, not, ◌&&◌, ◌||◌, nat_lt, if◌then◌else◌, List, [], ◌∷◌, ◌++◌, length, fold, map, flat_map, Option, Some, None, is_none, unwrap_or}
+use Rattle.std.specs.Prelude.{ℕ, Bool, true, false, not, ◌&&◌, ◌||◌, nat_lt, if◌then◌else◌, List, [], ◌∷◌, ◌++◌, length, fold, map, flat_map, Option, Some, None, is_none, unwrap_or, codes}
 use Rattle.ge_collections.specs.Keyed.{text_eq, at_text, put_text}
 use Rattle.ge_base.specs.declared.refusal.Refusal.{Refusal}
 use Rattle.ge_base.specs.declared.refusal.Refusal.TheVariants.{InUse, BadValue, Limit}
-use Rattle.ge_rows.specs.Opening.{infinity}
-use Rattle.ge_rows.specs.declared.cluster.Cluster.{Cluster}
-use Rattle.ge_rows.specs.declared.values.ComplexDef.{ComplexDef}
-use Rattle.ge_rows.specs.declared.values.Kind.{Kind}
-use Rattle.ge_rows.specs.declared.values.Kind.TheVariants as kind
-use Rattle.ge_rows.specs.declared.values.Relop.{Relop}
-use Rattle.ge_rows.specs.declared.values.Relop.TheVariants as relop
-use Rattle.ge_rows.specs.declared.values.Requestable.TheVariants as requestable
-use Rattle.ge_rows.specs.declared.values.Consumable.{Consumable}
-use Rattle.ge_rows.specs.declared.values.Consumable.TheVariants as consumable
-use Rattle.ge_rows.specs.declared.values.Value.TheVariants.{Amount}
-use Rattle.ge_rows.specs.declared.entries.Item.{Item}
-use Rattle.ge_rows.specs.declared.entries.Item.TheVariants as item
+use Rattle.ge_limits.specs.Limits as limit
+use Rattle.ge_model_rows.specs.ClusterRows.{Cluster}
+use Rattle.ge_model_rows.specs.EntryRows.{Item}
+use Rattle.ge_model_rows.specs.ValueRows.{Amount, Kind, Relop, Requestable, Consumable, ComplexDef}
+use Rattle.ge_model_rows.specs.ValueRows.{infinity}
 use Rattle.ge_model_script.specs.Names.{is_name}
 use Rattle.ge_model_value.specs.Faults.{when}
 use Rattle.ge_model_value.specs.Pieces.{is_one_of}
 use Rattle.ge_model_value.specs.Values.{value_of, is_number_kind}
 use Rattle.ge_model_value.specs.Complexes.{complex_at, is_consumed}
-use Rattle.ge_model_grammar.specs.Bodies.{ComplexLine}
+use Rattle.ge_model_grammar.specs.declared.ComplexLine.{ComplexLine}
 use Rattle.ge_model_config.specs.Cited.{Read, number_read, is_named}
 use Rattle.ge_model_config.specs.Columns.{kind_of, is_same_kind, relop_of, is_relop, requestable_of, consumable_of}
 use Rattle.ge_model_config.specs.Used.{is_complex_used, rule_where}
@@ -30,18 +22,29 @@ use Rattle.ge_model_config.specs.Used.{is_complex_used, rule_where}
 abbrev pub unknown_complex : ComplexDef
 unknown_complex = record {
   shortcut = [];
-  kind = kind.Int;
-  relop = relop.Eq;
-  requestable = requestable.No;
-  consumable = consumable.Yes;
+  kind = Kind.Int;
+  relop = Relop.Eq;
+  requestable = Requestable.No;
+  consumable = Consumable.Yes;
   fallback = Amount 0;
   urgency = 0;
 }
 
 -- flags and words are compared by == and != alone, and a consumable is an amount that is compared by <=
 abbrev pub fits_relop : Kind → Relop → Consumable → Bool
-fits_relop k r consumable.No = is_number_kind k || is_relop r relop.Eq || is_relop r relop.Ne
-fits_relop k r consumable.Yes = is_number_kind k && is_relop r relop.Le
+fits_relop k r Consumable.No = is_number_kind k || is_relop r Relop.Eq || is_relop r Relop.Ne
+fits_relop k r Consumable.Yes = is_number_kind k && is_relop r Relop.Le
+fits_relop k r Consumable.Job = is_number_kind k && is_relop r Relop.Le
+
+-- whether a complex is consumed once for each job
+abbrev pub is_for_jobs : Consumable → Bool
+is_for_jobs Consumable.No = false
+is_for_jobs Consumable.Yes = false
+is_for_jobs Consumable.Job = true
+
+-- a row's use fits its kind, operator and name: slots are counted by themselves, never once for each job
+abbrev pub fits_use : List ℕ → Kind → Relop → Consumable → Bool
+fits_use name k r consumed = fits_relop k r consumed && not (text_eq name (codes "slots") && is_for_jobs consumed)
 
 -- what is known of a complex before its row is read
 abbrev pub older_complex : Cluster → ComplexLine → ComplexDef
@@ -57,11 +60,11 @@ relop_in c line = unwrap_or (relop_of line.relop) (older_complex c line).relop
 
 -- whether a row is consumed: a word that can't be read ends no use
 abbrev pub consumable_in : ComplexLine → Consumable
-consumable_in line = unwrap_or (consumable_of line.consumable) consumable.Yes
+consumable_in line = unwrap_or (consumable_of line.consumable) Consumable.Yes
 
 -- the urgency of a row, a DOUBLE
 abbrev pub urgency_read : ComplexLine → Read ℕ
-urgency_read line = number_read kind.Double 0 infinity line.urgency
+urgency_read line = number_read Kind.Double 0 infinity line.urgency
 
 -- the complex of a row
 abbrev pub complex_row : Cluster → ComplexLine → ComplexDef
@@ -75,14 +78,14 @@ complex_row c line = record {
   urgency = (urgency_read line).0;
 }
 
--- what refuses a row: its names, a word of its columns, its values, or an operator that its kind or its use doesn't have
+-- what refuses a row: its names, a word of its columns, its values, or a use that its kind, operator or name doesn't have
 abbrev pub row_faults : Cluster → ComplexLine → List Refusal
 row_faults c line =
     when (not (is_name line.name && is_name line.shortcut)) BadValue
     ++ when (is_none (kind_of line.kind) || is_none (relop_of line.relop)) BadValue
     ++ when (is_none (requestable_of line.requestable) || is_none (consumable_of line.consumable)) BadValue
     ++ when (is_none (value_of (kind_in c line) line.fallback)) BadValue
-    ++ when (not (fits_relop (kind_in c line) (relop_in c line) (consumable_in line))) BadValue
+    ++ when (not (fits_use line.name (kind_in c line) (relop_in c line) (consumable_in line))) BadValue
     ++ (urgency_read line).1
 
 -- a table with the complex of a row
@@ -113,10 +116,10 @@ use_faults c table old = when (breaks_use c old.0 old.1 (at_text table old.0) &&
 unfoldable pub complexes_item : Cluster → Bool → List ComplexLine → Read Item
 complexes_item c adding lines =
     let table = fold (put_complex c) (if adding then c.complexes else []) lines in (
-      item.Complexes table,
+      Item.Complexes table,
       flat_map (row_faults c) lines
           ++ when (not (are_distinct (map (λ line. line.name) lines))) BadValue
           ++ when (not (are_distinct (flat_map words_for table))) BadValue
           ++ flat_map (use_faults c table) c.complexes
-          ++ when (nat_lt 1024 (length table)) Limit,
+          ++ when (nat_lt limit.complexes (length table)) Limit,
     )

@@ -4,7 +4,7 @@ use Rattle.std.specs.List.{list_all}
 use Rattle.ge_collections.specs.Keyed.{text_eq}
 use Rattle.ge_base.specs.declared.refusal.Refusal.{Refusal}
 use Rattle.ge_base.specs.declared.refusal.Refusal.TheVariants.{NoSuchObject, Exists, BadValue, Limit}
-use Rattle.ge_rows.specs.declared.entries.ObjectKind.{ObjectKind}
+use Rattle.ge_model_rows.specs.EntryRows.{ObjectKind}
 use Rattle.ge_model_grammar.specs.Attributes.{none_attributes}
 use Rattle.ge_model_grammar.specs.Configuring.{is_name_of}
 use Rattle.ge_model_value.specs.Faults.{when}

@@ -3,9 +3,8 @@ use Rattle.std.specs.Prelude.{ℕ, Bool, true, false, ◌&&◌, ◌==◌, if◌t
 use Rattle.std.specs.List.{list_all}
 use Rattle.std.specs.Option.{option_and_then}
 use Rattle.ge_base.specs.declared.refusal.Refusal.TheVariants.{BadValue}
-use Rattle.ge_rows.specs.Opening.{plain_attr}
-use Rattle.ge_rows.specs.declared.cluster.Cluster.{Cluster}
-use Rattle.ge_rows.specs.declared.queues.Attr.{Attr}
+use Rattle.ge_model_rows.specs.ClusterRows.{Cluster, plain_attr}
+use Rattle.ge_model_rows.specs.QueueRows.{Attr}
 use Rattle.ge_model_text.specs.Words.{is_blank}
 use Rattle.ge_model_value.specs.Pieces.{pieces_at, trimmed, has_byte, before_byte, behind_byte}
 use Rattle.ge_model_grammar.specs.Bodies.{attribute_in}

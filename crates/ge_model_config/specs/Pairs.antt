@@ -2,9 +2,8 @@
 use Rattle.std.specs.Prelude.{ℕ, Bool, true, not, if◌then◌else◌, List, [], ◌∷◌, ◌++◌, fold, Option, Some, None, is_none}
 use Rattle.ge_collections.specs.Keyed.{put_text}
 use Rattle.ge_base.specs.declared.refusal.Refusal.TheVariants.{NoSuchObject, BadValue}
-use Rattle.ge_rows.specs.declared.cluster.Cluster.{Cluster}
-use Rattle.ge_rows.specs.declared.values.ComplexDef.{ComplexDef}
-use Rattle.ge_rows.specs.declared.values.Value.{Value}
+use Rattle.ge_model_rows.specs.ClusterRows.{Cluster}
+use Rattle.ge_model_rows.specs.ValueRows.{Value, ComplexDef}
 use Rattle.ge_model_value.specs.Faults.{when}
 use Rattle.ge_model_value.specs.Pieces.{list_items, has_byte, before_byte, behind_byte}
 use Rattle.ge_model_value.specs.Values.{value_of, is_number_kind}

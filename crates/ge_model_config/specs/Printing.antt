@@ -2,33 +2,14 @@
 use Rattle.std.specs.Prelude.{ℕ, if◌then◌else◌, List, [], ◌∷◌, ◌++◌, map, flat_map, Option, Some, None, unwrap_or, codes, decimal}
 use Rattle.std.specs.Option.{option_map}
 use Rattle.ge_collections.specs.Keyed.{at_text}
-use Rattle.ge_rows.specs.Opening.{infinity, plain_attr, limit_names}
-use Rattle.ge_rows.specs.declared.cluster.Cluster.{Cluster}
-use Rattle.ge_rows.specs.declared.entries.Item.{Item}
-use Rattle.ge_rows.specs.declared.entries.Item.TheVariants as item
-use Rattle.ge_rows.specs.declared.entries.ObjectKind.{ObjectKind}
-use Rattle.ge_rows.specs.declared.entries.ObjectKind.TheVariants as object
-use Rattle.ge_rows.specs.declared.people.ProjectRow.{ProjectRow}
-use Rattle.ge_rows.specs.declared.people.ShareNode.{ShareNode}
-use Rattle.ge_rows.specs.declared.people.UserRow.{UserRow}
-use Rattle.ge_rows.specs.declared.queues.Allocation.{Allocation}
-use Rattle.ge_rows.specs.declared.queues.Allocation.TheVariants as allocation
-use Rattle.ge_rows.specs.declared.queues.Attr.{Attr}
-use Rattle.ge_rows.specs.declared.queues.PeRow.{PeRow}
-use Rattle.ge_rows.specs.declared.queues.QueueRow.{QueueRow}
-use Rattle.ge_rows.specs.declared.queues.UrgencySlots.{UrgencySlots}
-use Rattle.ge_rows.specs.declared.queues.UrgencySlots.TheVariants as assumed
-use Rattle.ge_rows.specs.declared.quotas.Filter.{Filter}
-use Rattle.ge_rows.specs.declared.quotas.QuotaRow.{QuotaRow}
-use Rattle.ge_rows.specs.declared.quotas.Rule.{Rule}
-use Rattle.ge_rows.specs.declared.settings.Sched.{Sched}
-use Rattle.ge_rows.specs.declared.settings.SortMethod.{SortMethod}
-use Rattle.ge_rows.specs.declared.settings.SortMethod.TheVariants as sort
-use Rattle.ge_rows.specs.declared.values.ComplexDef.{ComplexDef}
-use Rattle.ge_rows.specs.declared.values.Kind.{Kind}
-use Rattle.ge_rows.specs.declared.values.Kind.TheVariants as kind
-use Rattle.ge_rows.specs.declared.values.Value.{Value}
-use Rattle.ge_rows.specs.declared.values.Value.TheVariants.{Amount}
+use Rattle.ge_model_rows.specs.ClusterRows.{Cluster, plain_attr, limit_names}
+use Rattle.ge_model_rows.specs.EntryRows.{Item, ObjectKind}
+use Rattle.ge_model_rows.specs.PeRows.{PeRow, Allocation, UrgencySlots}
+use Rattle.ge_model_rows.specs.PeopleRows.{UserRow, ProjectRow, ShareNode}
+use Rattle.ge_model_rows.specs.QueueRows.{QueueRow, Attr}
+use Rattle.ge_model_rows.specs.QuotaRows.{QuotaRow, Rule, Filter}
+use Rattle.ge_model_rows.specs.SettingRows.{Sched, SortMethod}
+use Rattle.ge_model_rows.specs.ValueRows.{Value, Amount, Kind, ComplexDef, infinity}
 use Rattle.ge_model_value.specs.Pieces.{joined_by, list_text}
 use Rattle.ge_model_value.specs.Values.{value_text, fixed_text, flag_text}
 use Rattle.ge_model_value.specs.Complexes.{pair_text}
@@ -83,17 +64,17 @@ queue_lines c name q =
 
 -- sge_pe, allocation_rule
 abbrev pub allocation_text : Allocation → List ℕ
-allocation_text (allocation.Fixed n) = decimal n
-allocation_text allocation.PeSlots = codes "$pe_slots"
-allocation_text allocation.FillUp = codes "$fill_up"
-allocation_text allocation.RoundRobin = codes "$round_robin"
+allocation_text (Allocation.Fixed n) = decimal n
+allocation_text Allocation.PeSlots = codes "$pe_slots"
+allocation_text Allocation.FillUp = codes "$fill_up"
+allocation_text Allocation.RoundRobin = codes "$round_robin"
 
 -- sge_pe, urgency_slots
 abbrev pub assumed_text : UrgencySlots → List ℕ
-assumed_text (assumed.Fixed n) = decimal n
-assumed_text assumed.Min = codes "min"
-assumed_text assumed.Max = codes "max"
-assumed_text assumed.Avg = codes "avg"
+assumed_text (UrgencySlots.Fixed n) = decimal n
+assumed_text UrgencySlots.Min = codes "min"
+assumed_text UrgencySlots.Max = codes "max"
+assumed_text UrgencySlots.Avg = codes "avg"
 
 -- sge_pe
 abbrev pub pe_lines : List ℕ → PeRow → List (List ℕ)
@@ -123,8 +104,8 @@ user_lines name user =
 
 -- sched_conf, queue_sort_method
 abbrev pub sort_text : SortMethod → List ℕ
-sort_text sort.Load = codes "load"
-sort_text sort.Seqno = codes "seqno"
+sort_text SortMethod.Load = codes "load"
+sort_text SortMethod.Seqno = codes "seqno"
 
 -- the weights of usage
 abbrev pub usage_text : Sched → List ℕ
@@ -133,7 +114,7 @@ usage_text s = codes "cpu=" ++ fixed_text s.u_cpu ++ codes ",mem=" ++ fixed_text
 -- sched_conf
 abbrev pub sched_lines : Sched → List (List ℕ)
 sched_lines s =
-    attribute_line (codes "schedule_interval") (number_text kind.Time s.interval)
+    attribute_line (codes "schedule_interval") (number_text Kind.Time s.interval)
     ∷ attribute_line (codes "maxujobs") (decimal s.maxujobs)
     ∷ attribute_line (codes "queue_sort_method") (sort_text s.sort)
     ∷ attribute_line (codes "load_formula") s.load_formula
@@ -149,7 +130,7 @@ sched_lines s =
     ∷ attribute_line (codes "weight_job") (fixed_text s.w_job)
     ∷ attribute_line (codes "halftime") (decimal s.halftime)
     ∷ attribute_line (codes "max_reservation") (decimal s.max_reservation)
-    ∷ attribute_line (codes "default_duration") (number_text kind.Time s.default_duration)
+    ∷ attribute_line (codes "default_duration") (number_text Kind.Time s.default_duration)
     ∷ attribute_line (codes "usage_weight_list") (usage_text s)
     ∷ attribute_line (codes "max_pending_tasks_per_job") (decimal s.max_pending)
     ∷ []
@@ -220,32 +201,32 @@ node_lines node =
 
 -- the printed lines of an item: each attribute in the order of its manual page, a blank and its value
 unfoldable pub printed : Cluster → Item → List (List ℕ)
-printed c (item.Complexes table) = map complex_line table
-printed c (item.Host name values) = attribute_line (codes "hostname") name ∷ attribute_line (codes "complex_values") (values_text c values) ∷ []
-printed c (item.Group name hosts) = attribute_line (codes "group_name") name ∷ attribute_line (codes "hostlist") (list_text hosts) ∷ []
-printed c (item.Queue name queue) = queue_lines c name queue
-printed c (item.Pe name pe) = pe_lines name pe
-printed c (item.Quota name set) = quota_lines c name set
-printed c (item.Set name entries) = attribute_line (codes "name") name ∷ attribute_line (codes "entries") (list_text entries) ∷ []
-printed c (item.User name user) = user_lines name user
-printed c (item.Project name project) = project_lines name project
-printed c (item.Shares nodes) = flat_map node_lines nodes
-printed c (item.Sched settings) = sched_lines settings
-printed c (item.Managers names) = names
-printed c (item.Operators names) = names
+printed c (Item.Complexes table) = map complex_line table
+printed c (Item.Host name values) = attribute_line (codes "hostname") name ∷ attribute_line (codes "complex_values") (values_text c values) ∷ []
+printed c (Item.Group name hosts) = attribute_line (codes "group_name") name ∷ attribute_line (codes "hostlist") (list_text hosts) ∷ []
+printed c (Item.Queue name queue) = queue_lines c name queue
+printed c (Item.Pe name pe) = pe_lines name pe
+printed c (Item.Quota name set) = quota_lines c name set
+printed c (Item.Set name entries) = attribute_line (codes "name") name ∷ attribute_line (codes "entries") (list_text entries) ∷ []
+printed c (Item.User name user) = user_lines name user
+printed c (Item.Project name project) = project_lines name project
+printed c (Item.Shares nodes) = flat_map node_lines nodes
+printed c (Item.Sched settings) = sched_lines settings
+printed c (Item.Managers names) = names
+printed c (Item.Operators names) = names
 
 -- the item that is there under a name; the tables, the settings and the lists of managers and operators are there under any
 unfoldable pub item_at : Cluster → ObjectKind → List ℕ → Option Item
-item_at c object.Complexes name = Some (item.Complexes c.complexes)
-item_at c object.Host name = option_map (λ host. item.Host name host.values) (at_text c.hosts name)
-item_at c object.Group name = option_map (item.Group name) (at_text c.groups name)
-item_at c object.Queue name = option_map (item.Queue name) (at_text c.queues name)
-item_at c object.Pe name = option_map (item.Pe name) (at_text c.pes name)
-item_at c object.Quota name = option_map (item.Quota name) (at_text c.quotas name)
-item_at c object.Set name = option_map (item.Set name) (at_text c.sets name)
-item_at c object.User name = option_map (item.User name) (at_text c.users name)
-item_at c object.Project name = option_map (item.Project name) (at_text c.projects name)
-item_at c object.Shares name = Some (item.Shares c.shares)
-item_at c object.Sched name = Some (item.Sched c.sched)
-item_at c object.Managers name = Some (item.Managers c.managers)
-item_at c object.Operators name = Some (item.Operators c.operators)
+item_at c ObjectKind.Complexes name = Some (Item.Complexes c.complexes)
+item_at c ObjectKind.Host name = option_map (λ host. Item.Host name host.values) (at_text c.hosts name)
+item_at c ObjectKind.Group name = option_map (Item.Group name) (at_text c.groups name)
+item_at c ObjectKind.Queue name = option_map (Item.Queue name) (at_text c.queues name)
+item_at c ObjectKind.Pe name = option_map (Item.Pe name) (at_text c.pes name)
+item_at c ObjectKind.Quota name = option_map (Item.Quota name) (at_text c.quotas name)
+item_at c ObjectKind.Set name = option_map (Item.Set name) (at_text c.sets name)
+item_at c ObjectKind.User name = option_map (Item.User name) (at_text c.users name)
+item_at c ObjectKind.Project name = option_map (Item.Project name) (at_text c.projects name)
+item_at c ObjectKind.Shares name = Some (Item.Shares c.shares)
+item_at c ObjectKind.Sched name = Some (Item.Sched c.sched)
+item_at c ObjectKind.Managers name = Some (Item.Managers c.managers)
+item_at c ObjectKind.Operators name = Some (Item.Operators c.operators)

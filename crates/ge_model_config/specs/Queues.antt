@@ -1,15 +1,11 @@
 -- Queues read from a body (queue_conf).
 use Rattle.std.specs.Prelude.{ℕ, Bool, if◌then◌else◌, List, [], ◌++◌, fold, codes}
 use Rattle.ge_collections.specs.Keyed.{put_text}
-use Rattle.ge_rows.specs.Opening.{default_queue, infinity, plain_attr, limit_names}
-use Rattle.ge_rows.specs.declared.cluster.Cluster.{Cluster}
-use Rattle.ge_rows.specs.declared.queues.Attr.{Attr}
-use Rattle.ge_rows.specs.declared.queues.QueueRow.{QueueRow}
-use Rattle.ge_rows.specs.declared.values.Kind.{Kind}
-use Rattle.ge_rows.specs.declared.values.Kind.TheVariants as kind
-use Rattle.ge_rows.specs.declared.entries.Item.{Item}
-use Rattle.ge_rows.specs.declared.entries.ObjectKind.TheVariants as object
-use Rattle.ge_rows.specs.declared.entries.Item.TheVariants.{Queue}
+use Rattle.ge_limits.specs.Limits as limit
+use Rattle.ge_model_rows.specs.ClusterRows.{Cluster, default_queue, plain_attr, limit_names}
+use Rattle.ge_model_rows.specs.EntryRows.{Item, Queue, ObjectKind}
+use Rattle.ge_model_rows.specs.QueueRows.{QueueRow, Attr}
+use Rattle.ge_model_rows.specs.ValueRows.{Kind, infinity}
 use Rattle.ge_model_value.specs.Pieces.{is_one_of}
 use Rattle.ge_model_value.specs.Complexes.{time_limits}
 use Rattle.ge_model_config.specs.Cited.{Read, given, none_text, number_read, names_read, is_named, is_host_or_group}
@@ -19,7 +15,7 @@ use Rattle.ge_model_config.specs.Named.{name_faults, absent_faults}
 
 -- the limits of run time and processor time are times, the others sizes
 abbrev pub limit_kind : List ℕ → Kind
-limit_kind name = if is_one_of name time_limits then kind.Time else kind.Memory
+limit_kind name = if is_one_of name time_limits then Kind.Time else Kind.Memory
 
 -- one limit, INFINITY where the body leaves it out, put beside those that were read
 abbrev pub with_limit : Cluster → List (List ℕ × List ℕ) → Read (List (List ℕ × Attr ℕ)) → List ℕ → Read (List (List ℕ × Attr ℕ))
@@ -35,7 +31,7 @@ limits_read c values = fold (with_limit c values) ([], []) limit_names
 unfoldable pub queue_read : Cluster → List (List ℕ × List ℕ) → Read QueueRow
 queue_read c values =
     let hosts = names_read (is_host_or_group c) (given values (codes "hostlist") none_text) in
-    let seq_no = attr_read c values (codes "seq_no") default_queue.seq_no (number_read kind.Int 0 infinity) in
+    let seq_no = attr_read c values (codes "seq_no") default_queue.seq_no (number_read Kind.Int 0 infinity) in
     let thresholds = attr_read c values (codes "load_thresholds") default_queue.thresholds (values_read c number_fits) in
     let pes = attr_read c values (codes "pe_list") default_queue.pes (names_read (is_named c.pes)) in
     let users = attr_read c values (codes "user_lists") default_queue.users (names_read (is_named c.sets)) in
@@ -43,7 +39,7 @@ queue_read c values =
     let projects = attr_read c values (codes "projects") default_queue.projects (names_read (is_named c.projects)) in
     let xprojects = attr_read c values (codes "xprojects") default_queue.xprojects (names_read (is_named c.projects)) in
     let amounts = attr_read c values (codes "complex_values") default_queue.values (values_read c any_fits) in
-    let slots = attr_read c values (codes "slots") default_queue.slots (number_read kind.Int 0 infinity) in
+    let slots = attr_read c values (codes "slots") default_queue.slots (number_read Kind.Int 0 infinity) in
     let limits = limits_read c values in (
       record {
         hosts = hosts.0;
@@ -61,9 +57,8 @@ queue_read c values =
       hosts.1 ++ seq_no.1 ++ thresholds.1 ++ pes.1 ++ users.1 ++ xusers.1 ++ projects.1 ++ xprojects.1 ++ amounts.1 ++ slots.1 ++ limits.1,
     )
 
--- there are at most 256 queues
 unfoldable pub queue_item : Cluster → Bool → List (List ℕ × List ℕ) → Read Item
 queue_item c adding values =
     let name = given values (codes "qname") [] in
     let queue = queue_read c values in
-    (Queue name queue.0, name_faults object.Queue 256 c.queues adding name ++ absent_faults object.Queue values ++ queue.1)
+    (Queue name queue.0, name_faults ObjectKind.Queue limit.queues c.queues adding name ++ absent_faults ObjectKind.Queue values ++ queue.1)

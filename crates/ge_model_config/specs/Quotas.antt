@@ -2,21 +2,16 @@
 use Rattle.std.specs.Prelude.{ℕ, Bool, true, false, not, ◌||◌, ◌==◌, nat_lt, if◌then◌else◌, List, [], ◌∷◌, ◌++◌, length, map, flat_map, fold, Option, Some, None, codes}
 use Rattle.ge_collections.specs.Keyed.{text_eq, put_text}
 use Rattle.ge_base.specs.declared.refusal.Refusal.TheVariants.{BadValue, Limit}
-use Rattle.ge_rows.specs.declared.cluster.Cluster.{Cluster}
-use Rattle.ge_rows.specs.declared.quotas.Filter.{Filter}
-use Rattle.ge_rows.specs.declared.quotas.Rule.{Rule}
-use Rattle.ge_rows.specs.declared.values.ComplexDef.{ComplexDef}
-use Rattle.ge_rows.specs.declared.values.Kind.TheVariants as kind
-use Rattle.ge_rows.specs.declared.values.Value.{Value}
-use Rattle.ge_rows.specs.declared.values.Value.TheVariants as value
-use Rattle.ge_rows.specs.declared.entries.Item.{Item}
-use Rattle.ge_rows.specs.declared.entries.ObjectKind.TheVariants as object
-use Rattle.ge_rows.specs.declared.entries.Item.TheVariants as item
+use Rattle.ge_limits.specs.Limits as limit
+use Rattle.ge_model_rows.specs.ClusterRows.{Cluster}
+use Rattle.ge_model_rows.specs.EntryRows.{Item, ObjectKind}
+use Rattle.ge_model_rows.specs.QuotaRows.{Rule, Filter}
+use Rattle.ge_model_rows.specs.ValueRows.{Value, Kind, ComplexDef}
 use Rattle.ge_model_script.specs.Names.{is_name}
 use Rattle.ge_model_value.specs.Faults.{when}
 use Rattle.ge_model_value.specs.Values.{value_of, amount_in}
 use Rattle.ge_model_value.specs.Complexes.{is_consumable}
-use Rattle.ge_model_grammar.specs.Bodies.{RuleLine}
+use Rattle.ge_model_grammar.specs.declared.RuleLine.{RuleLine}
 use Rattle.ge_model_config.specs.Cited.{Read, given, none_text, cited, is_named}
 use Rattle.ge_model_config.specs.Pairs.{pair_read}
 use Rattle.ge_model_config.specs.Named.{name_faults}
@@ -74,23 +69,23 @@ rule_read c line =
 
 -- whether a rule set counts
 abbrev pub enabled_of : Option Value → Read Bool
-enabled_of (Some (value.Flag enabled)) = (enabled, [])
+enabled_of (Some (Value.Flag enabled)) = (enabled, [])
 enabled_of _ = (false, BadValue ∷ [])
 
 -- a description of NONE is none
 abbrev pub description_of : List ℕ → List ℕ
 description_of text = if text_eq text none_text then [] else text
 
--- a rule set; there are at most 128, with 64 rules each
+-- a rule set
 unfoldable pub quota_item : Cluster → Bool → List (List ℕ × List ℕ) → List RuleLine → Read Item
 quota_item c adding values lines =
     let name = given values (codes "name") [] in
-    let enabled = enabled_of (value_of kind.Bool (given values (codes "enabled") (codes "FALSE"))) in
+    let enabled = enabled_of (value_of Kind.Bool (given values (codes "enabled") (codes "FALSE"))) in
     let rules = map (rule_read c) lines in (
-      item.Quota name (record {
+      Item.Quota name (record {
         description = description_of (given values (codes "description") none_text);
         enabled = enabled.0;
         rules = map (λ rule. rule.0) rules;
       }),
-      name_faults object.Quota 128 c.quotas adding name ++ enabled.1 ++ flat_map (λ rule. rule.1) rules ++ when (nat_lt 64 (length lines)) Limit,
+      name_faults ObjectKind.Quota limit.rule_sets c.quotas adding name ++ enabled.1 ++ flat_map (λ rule. rule.1) rules ++ when (nat_lt limit.rules (length lines)) Limit,
     )

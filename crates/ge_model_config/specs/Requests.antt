@@ -1,21 +1,18 @@
 -- The request of a job: -l, -q and -pe (qsub).
-use Rattle.std.specs.Prelude.{ℕ, ◌-◌, ◌^◌, min, Bool, true, false, not, ◌||◌, ◌==◌, nat_lt, if◌then◌else◌, List, [], ◌∷◌, ◌++◌, length, flat_map, Option, Some, None, is_none, codes, fold}
+use Rattle.std.specs.Prelude.{ℕ, ◌-◌, ◌^◌, min, Bool, true, false, not, ◌||◌, ◌==◌, nat_lt, if◌then◌else◌, List, [], ◌∷◌, ◌++◌, length, flat_map, Option, Some, None, Result, is_none, codes, fold}
 use Rattle.ge_collections.specs.Keyed.{text_eq}
 use Rattle.ge_base.specs.declared.refusal.Refusal.{Refusal}
 use Rattle.ge_base.specs.declared.refusal.Refusal.TheVariants.{NoSuchObject, BadValue, NotRequestable, Limit}
-use Rattle.ge_rows.specs.declared.cluster.Cluster.{Cluster}
-use Rattle.ge_rows.specs.declared.jobs.PeRequest.{PeRequest}
-use Rattle.ge_rows.specs.declared.jobs.Request.{Request}
-use Rattle.ge_rows.specs.declared.values.ComplexDef.{ComplexDef}
-use Rattle.ge_rows.specs.declared.values.Requestable.{Requestable}
-use Rattle.ge_rows.specs.declared.values.Requestable.TheVariants as requestable
-use Rattle.ge_rows.specs.declared.values.Value.{Value}
+use Rattle.ge_limits.specs.Limits as limit
+use Rattle.ge_model_rows.specs.ClusterRows.{Cluster}
+use Rattle.ge_model_rows.specs.JobRows.{Request, PeRequest}
+use Rattle.ge_model_rows.specs.ValueRows.{Value, Requestable, ComplexDef}
 use Rattle.ge_model_value.specs.Faults.{when}
 use Rattle.ge_model_value.specs.Pieces.{pieces_at, has_byte, before_byte, behind_byte}
 use Rattle.ge_model_value.specs.Values.{value_of}
 use Rattle.ge_model_value.specs.Complexes.{complex_named}
 use Rattle.ge_model_grammar.specs.Options.{option_words, slot_range_of}
-use Rattle.ge_model_config.specs.Cited.{Read, is_named}
+use Rattle.ge_model_config.specs.Cited.{Read, answered, is_named}
 use Rattle.ge_model_config.specs.Pairs.{beside, with_value}
 
 -- what an item of -l asks: a name alone asks TRUE
@@ -24,9 +21,9 @@ asked_text text = if has_byte 61 text then behind_byte 61 text else codes "TRUE"
 
 -- whether jobs may not ask for a complex
 abbrev pub is_unrequestable : Requestable → Bool
-is_unrequestable requestable.No = true
-is_unrequestable requestable.Yes = false
-is_unrequestable requestable.Forced = false
+is_unrequestable Requestable.No = true
+is_unrequestable Requestable.Yes = false
+is_unrequestable Requestable.Forced = false
 
 -- an item of -l, whose complex was found: slots can't be asked this way
 abbrev pub asked_of : List ℕ → Option (List ℕ × ComplexDef) → Read (Option (List ℕ × Value))
@@ -43,11 +40,11 @@ asked_read c item = asked_of (asked_text item) (complex_named c (before_byte 61 
 abbrev pub with_asked : Cluster → Read (List (List ℕ × Value)) → List ℕ → Read (List (List ℕ × Value))
 with_asked c asked item = with_value asked (asked_read c item)
 
--- all words of -l; at most 64 different attributes may be asked
+-- all words of -l; so many different attributes may be asked
 abbrev pub all_asked : Cluster → List (List ℕ) → Read (List (List ℕ × Value))
 all_asked c words =
     let asked = fold (with_asked c) ([], []) (flat_map (pieces_at 44) words) in
-    (asked.0, asked.1 ++ when (nat_lt 64 (length asked.0)) Limit)
+    (asked.0, asked.1 ++ when (nat_lt limit.asked_attributes (length asked.0)) Limit)
 
 -- a number of slots, cut at the end of its type
 abbrev pub slots_cut : ℕ → ℕ
@@ -55,7 +52,7 @@ slots_cut n = min n (2 ^ 32 - 1)
 
 -- a range of slots that is empty, begins at 0 or passes 1,000,000
 abbrev pub is_bad_range : PeRequest → Bool
-is_bad_range pe = pe.low == 0 || nat_lt pe.high pe.low || nat_lt 1000000 pe.high
+is_bad_range pe = pe.low == 0 || nat_lt pe.high pe.low || nat_lt limit.slots pe.high
 
 -- the environment and the range of slots that a job asks for
 abbrev pub range_read : List ℕ → Option (ℕ × ℕ) → Read (Option PeRequest)
@@ -87,3 +84,15 @@ request_of c options older =
     let queues = in_place options (codes "-q") older.queues (λ words. (queues_of words, [])) in
     let pe = in_place options (codes "-pe") older.pe (pe_read c) in
     (record { asked = asked.0; queues = queues.0; pe = pe.0 }, asked.1 ++ queues.1 ++ pe.1)
+
+-- the request of a job or a reservation that asks for nothing
+abbrev pub no_request : Request
+no_request = record { asked = []; queues = []; pe = None }
+
+-- the request of a new job, or what refuses it (qsub)
+unfoldable pub request_read : Cluster → List (List ℕ × List (List ℕ)) → Result Request Refusal
+request_read c options = answered (request_of c options no_request)
+
+-- the request of a job that asked for another one before, or what refuses it (qalter)
+unfoldable pub request_changed : Cluster → List (List ℕ × List (List ℕ)) → Request → Result Request Refusal
+request_changed c options older = answered (request_of c options older)

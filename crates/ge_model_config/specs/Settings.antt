@@ -3,14 +3,10 @@ use Rattle.std.specs.Prelude.{ℕ, Bool, not, ◌&&◌, if◌then◌else◌, Lis
 use Rattle.ge_collections.specs.Keyed.{text_eq, at_text, put_text}
 use Rattle.ge_base.specs.declared.refusal.Refusal.{Refusal}
 use Rattle.ge_base.specs.declared.refusal.Refusal.TheVariants.{NoSuchObject, BadValue}
-use Rattle.ge_rows.specs.Opening.{default_sched, infinity}
-use Rattle.ge_rows.specs.declared.cluster.Cluster.{Cluster}
-use Rattle.ge_rows.specs.declared.settings.SortMethod.{SortMethod}
-use Rattle.ge_rows.specs.declared.settings.SortMethod.TheVariants.{Load, Seqno}
-use Rattle.ge_rows.specs.declared.values.ComplexDef.{ComplexDef}
-use Rattle.ge_rows.specs.declared.values.Kind.TheVariants as kind
-use Rattle.ge_rows.specs.declared.entries.Item.{Item}
-use Rattle.ge_rows.specs.declared.entries.Item.TheVariants as item
+use Rattle.ge_model_rows.specs.ClusterRows.{Cluster, default_sched}
+use Rattle.ge_model_rows.specs.EntryRows.{Item}
+use Rattle.ge_model_rows.specs.SettingRows.{SortMethod, Load, Seqno}
+use Rattle.ge_model_rows.specs.ValueRows.{Kind, ComplexDef, infinity}
 use Rattle.ge_model_value.specs.Faults.{when}
 use Rattle.ge_model_value.specs.Pieces.{list_items, has_byte, before_byte, behind_byte, is_one_of}
 use Rattle.ge_model_value.specs.Values.{is_number_kind}
@@ -42,7 +38,7 @@ usage_names = codes "cpu" ∷ codes "mem" ∷ codes "io" ∷ []
 
 -- the weight behind the = of an item
 abbrev pub weight_read : List ℕ → Read ℕ
-weight_read item = number_read kind.Double 0 infinity (behind_byte 61 item)
+weight_read item = number_read Kind.Double 0 infinity (behind_byte 61 item)
 
 -- an item of the list of weights names one of these, with its =
 abbrev pub is_weight : List ℕ → Bool
@@ -70,26 +66,26 @@ default_weights = (codes "cpu", default_sched.u_cpu) ∷ (codes "io", default_sc
 unfoldable pub sched_item : Cluster → List (List ℕ × List ℕ) → Read Item
 sched_item c values =
     let d = default_sched in
-    let interval = setting values (codes "schedule_interval") d.interval (number_read kind.Time 0 infinity) in
-    let maxujobs = setting values (codes "maxujobs") d.maxujobs (number_read kind.Int 0 infinity) in
+    let interval = setting values (codes "schedule_interval") d.interval (number_read Kind.Time 0 infinity) in
+    let maxujobs = setting values (codes "maxujobs") d.maxujobs (number_read Kind.Int 0 infinity) in
     let sort = setting values (codes "queue_sort_method") d.sort sort_read in
     let load_formula = setting values (codes "load_formula") d.load_formula (formula_read c) in
-    let w_priority = setting values (codes "weight_priority") d.w_priority (number_read kind.Double 0 infinity) in
-    let w_urgency = setting values (codes "weight_urgency") d.w_urgency (number_read kind.Double 0 infinity) in
-    let w_ticket = setting values (codes "weight_ticket") d.w_ticket (number_read kind.Double 0 infinity) in
-    let w_waiting = setting values (codes "weight_waiting_time") d.w_waiting (number_read kind.Double 0 infinity) in
-    let w_deadline = setting values (codes "weight_deadline") d.w_deadline (number_read kind.Double 0 infinity) in
-    let functional = setting values (codes "weight_tickets_functional") d.functional (number_read kind.Int 0 1000000000) in
-    let share = setting values (codes "weight_tickets_share") d.share (number_read kind.Int 0 1000000000) in
-    let w_user = setting values (codes "weight_user") d.w_user (number_read kind.Double 0 infinity) in
-    let w_project = setting values (codes "weight_project") d.w_project (number_read kind.Double 0 infinity) in
-    let w_job = setting values (codes "weight_job") d.w_job (number_read kind.Double 0 infinity) in
-    let halftime = setting values (codes "halftime") d.halftime (number_read kind.Int 0 1048575) in
-    let max_reservation = setting values (codes "max_reservation") d.max_reservation (number_read kind.Int 0 infinity) in
-    let default_duration = setting values (codes "default_duration") d.default_duration (number_read kind.Time 0 infinity) in
+    let w_priority = setting values (codes "weight_priority") d.w_priority (number_read Kind.Double 0 infinity) in
+    let w_urgency = setting values (codes "weight_urgency") d.w_urgency (number_read Kind.Double 0 infinity) in
+    let w_ticket = setting values (codes "weight_ticket") d.w_ticket (number_read Kind.Double 0 infinity) in
+    let w_waiting = setting values (codes "weight_waiting_time") d.w_waiting (number_read Kind.Double 0 infinity) in
+    let w_deadline = setting values (codes "weight_deadline") d.w_deadline (number_read Kind.Double 0 infinity) in
+    let functional = setting values (codes "weight_tickets_functional") d.functional (number_read Kind.Int 0 1000000000) in
+    let share = setting values (codes "weight_tickets_share") d.share (number_read Kind.Int 0 1000000000) in
+    let w_user = setting values (codes "weight_user") d.w_user (number_read Kind.Double 0 infinity) in
+    let w_project = setting values (codes "weight_project") d.w_project (number_read Kind.Double 0 infinity) in
+    let w_job = setting values (codes "weight_job") d.w_job (number_read Kind.Double 0 infinity) in
+    let halftime = setting values (codes "halftime") d.halftime (number_read Kind.Int 0 1048575) in
+    let max_reservation = setting values (codes "max_reservation") d.max_reservation (number_read Kind.Int 0 infinity) in
+    let default_duration = setting values (codes "default_duration") d.default_duration (number_read Kind.Time 0 infinity) in
     let usage = setting values (codes "usage_weight_list") default_weights weights_read in
-    let max_pending = setting values (codes "max_pending_tasks_per_job") d.max_pending (number_read kind.Int 0 infinity) in (
-      item.Sched (record {
+    let max_pending = setting values (codes "max_pending_tasks_per_job") d.max_pending (number_read Kind.Int 0 infinity) in (
+      Item.Sched (record {
         interval = interval.0;
         maxujobs = maxujobs.0;
         sort = sort.0;

@@ -5,17 +5,16 @@ use Rattle.std.specs.Map.{keys_of}
 use Rattle.ge_collections.specs.Keyed.{text_eq, at_number, put_number}
 use Rattle.ge_base.specs.declared.refusal.Refusal.{Refusal}
 use Rattle.ge_base.specs.declared.refusal.Refusal.TheVariants.{NoSuchObject, Exists, BadValue, Cycle, Limit}
-use Rattle.ge_rows.specs.declared.cluster.Cluster.{Cluster}
-use Rattle.ge_rows.specs.declared.people.ShareNode.{ShareNode}
-use Rattle.ge_rows.specs.declared.values.Kind.TheVariants as kind
-use Rattle.ge_rows.specs.declared.values.Value.{Value}
-use Rattle.ge_rows.specs.declared.entries.Item.{Item}
-use Rattle.ge_rows.specs.declared.entries.Item.TheVariants as item
+use Rattle.ge_limits.specs.Limits as limit
+use Rattle.ge_model_rows.specs.ClusterRows.{Cluster}
+use Rattle.ge_model_rows.specs.EntryRows.{Item}
+use Rattle.ge_model_rows.specs.PeopleRows.{ShareNode}
+use Rattle.ge_model_rows.specs.ValueRows.{Value, Kind}
 use Rattle.ge_model_script.specs.Names.{is_name}
 use Rattle.ge_model_value.specs.Faults.{when}
 use Rattle.ge_model_value.specs.Pieces.{is_empty, each_number_once, with_number, list_items, is_digits, number_of}
 use Rattle.ge_model_value.specs.Values.{value_of, amount_in}
-use Rattle.ge_model_grammar.specs.Bodies.{NodeLines}
+use Rattle.ge_model_grammar.specs.declared.NodeLines.{NodeLines}
 use Rattle.ge_model_config.specs.Cited.{Read, number_read, cited, is_named}
 use Rattle.ge_model_config.specs.Complexes.{are_distinct}
 
@@ -28,7 +27,7 @@ id_within (Some value) = if nat_lt (amount_in value) (2 ^ 32) then Some (amount_
 
 -- the id of a node, where it has one
 abbrev pub id_of : NodeLines → Option ℕ
-id_of lines = id_within (value_of kind.Int lines.id)
+id_of lines = id_within (value_of Kind.Int lines.id)
 
 -- the children that are numbers, however wide
 abbrev pub children_of : NodeLines → List ℕ
@@ -40,11 +39,11 @@ id_cut n = min n (2 ^ 32 - 1)
 
 -- whether a node is that of a project
 abbrev pub is_project_line : NodeLines → Bool
-is_project_line lines = text_eq lines.type (codes "1")
+is_project_line lines = text_eq lines.sort (codes "1")
 
 -- the shares of a node, below 2^32
 abbrev pub shares_of : NodeLines → Read ℕ
-shares_of lines = number_read kind.Int 0 (2 ^ 32 - 1) lines.shares
+shares_of lines = number_read Kind.Int 0 (2 ^ 32 - 1) lines.shares
 
 -- the node, whatever its id
 abbrev pub node_of : NodeLines → ShareNode
@@ -61,7 +60,7 @@ nodes_of nodes = fold put_node [] nodes
 -- the values of one node: a project node names a project
 abbrev pub line_faults : Cluster → NodeLines → List Refusal
 line_faults c lines =
-    when (is_none (id_of lines) || not (is_project_line lines || text_eq lines.type (codes "0"))) BadValue
+    when (is_none (id_of lines) || not (is_project_line lines || text_eq lines.sort (codes "0"))) BadValue
     ++ when (not (is_name lines.name) || not (list_all is_digits (list_items lines.children))) BadValue
     ++ (shares_of lines).1
     ++ (if is_project_line lines then cited (is_named c.projects) (lines.name ∷ []) else [])
@@ -96,21 +95,29 @@ reached zero table met place = met
 reached (suc places) table met place =
     elim (slice_get met place) [ None ↦ met | Some id ↦ reached places table (fold with_number met (children_at table id)) (place + 1) ]
 
+-- the nodes below these, each once, by one walk down from all of them
+abbrev pub below_all : List (ℕ × ShareNode) → List ℕ → List ℕ
+below_all table ids = reached (length (all_children table)) table (each_number_once (flat_map (children_at table) ids)) 0
+
 -- the nodes below a node
 abbrev pub below : List (ℕ × ShareNode) → ℕ → List ℕ
-below table id = reached (length (all_children table)) table (each_number_once (children_at table id)) 0
+below table id = below_all table (id ∷ [])
 
 -- each node but the root, id 0, is the child of just one
 abbrev pub has_one_parent : List ℕ → ℕ → Bool
 has_one_parent children id = id == 0 || count_by (λ child. child == id) children == 1
 
--- the part of each project: what is below its node
-abbrev pub project_parts : List (ℕ × ShareNode) → List (List ℕ)
-project_parts table = map (below table) (filter (is_project_at table) (keys_of table))
+-- the nodes of projects
+abbrev pub projects_in : List (ℕ × ShareNode) → List ℕ
+projects_in table = filter (is_project_at table) (keys_of table)
 
--- no project node stands below one, itself included
+-- the nodes below those of projects
+abbrev pub below_projects : List (ℕ × ShareNode) → List ℕ
+below_projects table = below_all table (projects_in table)
+
+-- no project node is among these
 abbrev pub has_no_project : List (ℕ × ShareNode) → List ℕ → Bool
-has_no_project table part = not (list_any (is_project_at table) part)
+has_no_project table ids = not (list_any (is_project_at table) ids)
 
 -- the name of the node with an id, unless it is a project's
 abbrev pub user_name : List (ℕ × ShareNode) → ℕ → Option (List ℕ)
@@ -120,13 +127,13 @@ user_name table id = elim (at_number table id) [ None ↦ None | Some node ↦ i
 abbrev pub names_differ : List (ℕ × ShareNode) → List ℕ → Bool
 names_differ table ids = are_distinct (filter_map (user_name table) ids)
 
--- the ids that are in none of these parts
-abbrev pub outside : List (List ℕ) → List ℕ → List ℕ
-outside parts ids = filter (λ id. not (list_any (λ part. has_id part id) parts)) ids
+-- the ids of which none is one of these
+abbrev pub outside : List ℕ → List ℕ → List ℕ
+outside part ids = filter (λ id. not (has_id part id)) ids
 
--- a scope is the part of one project, or what is in none: in each the names differ
-abbrev pub scopes_differ : List (ℕ × ShareNode) → List (List ℕ) → Bool
-scopes_differ table parts = names_differ table (outside parts (keys_of table)) && list_all (names_differ table) parts
+-- a scope is what is below one project, or what is below none: in each the names differ
+abbrev pub scopes_differ : List (ℕ × ShareNode) → List ℕ → Bool
+scopes_differ table owned = names_differ table (outside owned (keys_of table)) && list_all (λ id. names_differ table (below table id)) (projects_in table)
 
 -- where each node has one parent, nodes go round where the root is a child or doesn't reach all others
 abbrev pub goes_round : List (ℕ × ShareNode) → List ℕ → Bool
@@ -145,26 +152,26 @@ is_deep table = not (is_empty (level_below 17 table (0 ∷ [])))
 abbrev pub depth_faults : List (ℕ × ShareNode) → List Refusal
 depth_faults table = elim (goes_round table (below table 0)) [ true ↦ Cycle ∷ [] | false ↦ when (is_deep table) Limit ]
 
--- what the ids, the children and the projects make wrong
-abbrev pub node_faults : List NodeLines → List (ℕ × ShareNode) → List (List ℕ) → List Refusal
-node_faults nodes table parts =
+-- what the ids, the children and the projects make wrong: no project is below one, itself included
+abbrev pub node_faults : List NodeLines → List (ℕ × ShareNode) → List ℕ → List Refusal
+node_faults nodes table owned =
     when (not (are_different (filter_map id_of nodes))) BadValue
     ++ when (list_any (λ child. is_none (at_number table child)) (flat_map children_of nodes)) NoSuchObject
     ++ when (not (list_all (has_one_parent (all_children table)) (keys_of table))) BadValue
-    ++ when (not (list_all (has_no_project table) parts)) BadValue
+    ++ when (not (has_no_project table owned)) BadValue
 
 -- names, and then cycles and levels, are asked of nodes that nothing else refuses
-abbrev pub tree_faults : List (ℕ × ShareNode) → List (List ℕ) → List Refusal → List Refusal
-tree_faults table parts [] = elim (scopes_differ table parts) [ true ↦ depth_faults table | false ↦ BadValue ∷ [] ]
-tree_faults table parts (fault ∷ faults) = fault ∷ faults
+abbrev pub tree_faults : List (ℕ × ShareNode) → List ℕ → List Refusal → List Refusal
+tree_faults table owned [] = elim (scopes_differ table owned) [ true ↦ depth_faults table | false ↦ BadValue ∷ [] ]
+tree_faults table owned (fault ∷ faults) = fault ∷ faults
 
 -- the share tree: added where there is none; there are at most 10,000 nodes
 unfoldable pub shares_item : Cluster → Bool → List NodeLines → Read Item
 shares_item c adding nodes =
     let table = nodes_of nodes in
-    let parts = project_parts table in (
-      item.Shares table,
+    let owned = below_projects table in (
+      Item.Shares table,
       when (adding && not (is_empty c.shares)) Exists
-          ++ tree_faults table parts (flat_map (line_faults c) nodes ++ node_faults nodes table parts)
-          ++ when (nat_lt 10000 (length nodes)) Limit,
+          ++ tree_faults table owned (flat_map (line_faults c) nodes ++ node_faults nodes table owned)
+          ++ when (nat_lt limit.share_nodes (length nodes)) Limit,
     )

@@ -2,15 +2,11 @@
 use Rattle.std.specs.Prelude.{ℕ, Bool, true, false, ◌||◌, ◌&&◌, List, ◌∷◌, Option, Some, None, codes}
 use Rattle.std.specs.List.{list_any}
 use Rattle.ge_collections.specs.Keyed.{text_eq}
-use Rattle.ge_rows.specs.declared.cluster.Cluster.{Cluster}
-use Rattle.ge_rows.specs.declared.entries.ObjectKind.{ObjectKind}
-use Rattle.ge_rows.specs.declared.entries.ObjectKind.TheVariants as object
-use Rattle.ge_rows.specs.declared.jobs.Grant.{Grant}
-use Rattle.ge_rows.specs.declared.jobs.Job.{Job}
-use Rattle.ge_rows.specs.declared.jobs.PeRequest.{PeRequest}
-use Rattle.ge_rows.specs.declared.queues.Attr.{Attr}
-use Rattle.ge_rows.specs.declared.queues.QueueRow.{QueueRow}
-use Rattle.ge_rows.specs.declared.quotas.Rule.{Rule}
+use Rattle.ge_model_rows.specs.ClusterRows.{Cluster}
+use Rattle.ge_model_rows.specs.EntryRows.{ObjectKind}
+use Rattle.ge_model_rows.specs.JobRows.{Job, PeRequest, Grant, Advance}
+use Rattle.ge_model_rows.specs.QueueRows.{QueueRow, Attr}
+use Rattle.ge_model_rows.specs.QuotaRows.{Rule}
 use Rattle.ge_model_value.specs.Pieces.{is_one_of}
 use Rattle.ge_model_value.specs.Complexes.{opening_complexes}
 use Rattle.ge_model_config.specs.Cited.{is_named}
@@ -20,9 +16,17 @@ use Rattle.ge_model_config.specs.Quotas.{elements_of}
 abbrev pub runs_where : Cluster → (Grant → Bool) → Bool
 runs_where c test = list_any (λ job. list_any (λ task. list_any test task.1.grants) job.1.running) c.jobs
 
+-- whether a grant of a running task or of an advance reservation passes a test
+abbrev pub granted_where : Cluster → (Grant → Bool) → Bool
+granted_where c test = runs_where c test || list_any (λ booked. list_any test booked.1.grants) c.advances
+
 -- whether a live job passes a test
 abbrev pub job_where : Cluster → (Job → Bool) → Bool
 job_where c test = list_any (λ job. test job.1) c.jobs
+
+-- whether an advance reservation does
+abbrev pub advance_where : Cluster → (Advance → Bool) → Bool
+advance_where c test = list_any (λ booked. test booked.1) c.advances
 
 -- whether a queue does
 abbrev pub queue_where : Cluster → (QueueRow → Bool) → Bool
@@ -57,13 +61,13 @@ abbrev pub is_cited_as_host : Cluster → List ℕ → Bool
 is_cited_as_host c name =
     list_any (λ group. is_one_of name group.1) c.groups || queue_where c (λ q. is_one_of name q.hosts || is_overridden name q)
 
--- a queue with a running task
+-- a queue with a running task, or with slots of an advance reservation
 abbrev pub is_queue_used : Cluster → List ℕ → Bool
-is_queue_used c name = runs_where c (λ grant. text_eq name grant.at.queue)
+is_queue_used c name = granted_where c (λ grant. text_eq name grant.at.queue)
 
--- a host that is cited or has a running task, and global
+-- a host that is cited, has a running task or has slots of an advance reservation, and global
 abbrev pub is_host_used : Cluster → List ℕ → Bool
-is_host_used c name = text_eq name (codes "global") || runs_where c (λ grant. text_eq name grant.at.host) || is_cited_as_host c name
+is_host_used c name = text_eq name (codes "global") || granted_where c (λ grant. text_eq name grant.at.host) || is_cited_as_host c name
 
 -- a group that is cited, in rules too
 abbrev pub is_group_used : Cluster → List ℕ → Bool
@@ -74,9 +78,12 @@ abbrev pub asks_pe : List ℕ → Option PeRequest → Bool
 asks_pe name None = false
 asks_pe name (Some pe) = text_eq name pe.name
 
--- a parallel environment in a pe_list or a live job
+-- a parallel environment in a pe_list, a live job or an advance reservation
 abbrev pub is_pe_used : Cluster → List ℕ → Bool
-is_pe_used c name = queue_where c (λ q. lists_name name q.pes) || job_where c (λ job. asks_pe name job.request.pe)
+is_pe_used c name =
+    queue_where c (λ q. lists_name name q.pes)
+    || job_where c (λ job. asks_pe name job.request.pe)
+    || advance_where c (λ booked. asks_pe name booked.request.pe)
 
 -- a user set in a list of a queue, a parallel environment or a project, or in a rule
 abbrev pub is_set_used : Cluster → List ℕ → Bool
@@ -93,7 +100,8 @@ is_project_used c name =
     || job_where c (λ job. text_eq name job.project)
     || list_any (λ node. node.1.project && text_eq name node.1.name) c.shares
 
--- a complex in values, thresholds, rules, load reports, live jobs or the load formula, and each of the opening table
+-- a complex in values, thresholds, rules, load reports, live jobs, advance reservations or the load formula, and each of
+-- the opening table
 abbrev pub is_complex_used : Cluster → List ℕ → Bool
 is_complex_used c name =
     is_named opening_complexes name || text_eq name c.sched.load_formula
@@ -101,30 +109,31 @@ is_complex_used c name =
     || queue_where c (λ q. attr_where (λ table. is_named table name) q.values || attr_where (λ table. is_named table name) q.thresholds)
     || rule_where c (λ rule. is_named rule.limits name)
     || job_where c (λ job. is_named job.request.asked name)
+    || advance_where c (λ booked. is_named booked.request.asked name)
 
 -- whether an object is used, so that it can't be deleted; users, rule sets and the share tree never are
 unfoldable pub is_used : Cluster → ObjectKind → List ℕ → Bool
-is_used c object.Queue name = is_queue_used c name
-is_used c object.Host name = is_host_used c name
-is_used c object.Group name = is_group_used c name
-is_used c object.Pe name = is_pe_used c name
-is_used c object.Set name = is_set_used c name
-is_used c object.Project name = is_project_used c name
-is_used c object.Complexes name = is_complex_used c name
+is_used c ObjectKind.Queue name = is_queue_used c name
+is_used c ObjectKind.Host name = is_host_used c name
+is_used c ObjectKind.Group name = is_group_used c name
+is_used c ObjectKind.Pe name = is_pe_used c name
+is_used c ObjectKind.Set name = is_set_used c name
+is_used c ObjectKind.Project name = is_project_used c name
+is_used c ObjectKind.Complexes name = is_complex_used c name
 is_used c _ name = false
 
 -- whether an object is there: a manager or operator by membership; the complexes, the share tree and the settings always are
 unfoldable pub is_there : Cluster → ObjectKind → List ℕ → Bool
-is_there c object.Host name = is_named c.hosts name
-is_there c object.Group name = is_named c.groups name
-is_there c object.Queue name = is_named c.queues name
-is_there c object.Pe name = is_named c.pes name
-is_there c object.Quota name = is_named c.quotas name
-is_there c object.Set name = is_named c.sets name
-is_there c object.User name = is_named c.users name
-is_there c object.Project name = is_named c.projects name
-is_there c object.Managers name = is_one_of name c.managers
-is_there c object.Operators name = is_one_of name c.operators
-is_there c object.Complexes name = true
-is_there c object.Shares name = true
-is_there c object.Sched name = true
+is_there c ObjectKind.Host name = is_named c.hosts name
+is_there c ObjectKind.Group name = is_named c.groups name
+is_there c ObjectKind.Queue name = is_named c.queues name
+is_there c ObjectKind.Pe name = is_named c.pes name
+is_there c ObjectKind.Quota name = is_named c.quotas name
+is_there c ObjectKind.Set name = is_named c.sets name
+is_there c ObjectKind.User name = is_named c.users name
+is_there c ObjectKind.Project name = is_named c.projects name
+is_there c ObjectKind.Managers name = is_one_of name c.managers
+is_there c ObjectKind.Operators name = is_one_of name c.operators
+is_there c ObjectKind.Complexes name = true
+is_there c ObjectKind.Shares name = true
+is_there c ObjectKind.Sched name = true

@@ -1,6 +1,9 @@
 mod OptionRows
+mod ParsingRows
+pub mod ParsingLaws
 mod SubmitRows
 mod CommandRows
 mod ConfigRows
 mod RuleRows
 mod BodyRows
+mod BookingRows

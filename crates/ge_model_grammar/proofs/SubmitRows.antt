@@ -1,19 +1,19 @@
 -- Worked rows of qsub, each by computation.
 use Rattle.std.specs.Prelude.{◌≡◌, refl, [], ◌∷◌, ◌++◌, Some, None, codes}
-use Rattle.ge_rows.specs.declared.commands.Command.TheVariants as command
+use Rattle.ge_model_rows.specs.CommandRows.{Command}
 use Rattle.ge_model_grammar.specs.Commands.{command_of, grammar_of_commands}
 
-no_command : command_of (codes "qsub") ≡ Some (command.Submit (record { items = [] }) [] [])
+no_command : command_of (codes "qsub") ≡ Some (Command.Submit (record { items = [] }) [] [])
 unfolding grammar_of_commands
 no_command = refl
 
 options_and_words : command_of (codes "qsub -N a -cwd x -y z")
-    ≡ Some (command.Submit (record { items = (codes "-N", codes "a" ∷ []) ∷ [] }) (codes "x" ∷ codes "-y" ∷ codes "z" ∷ []) [])
+    ≡ Some (Command.Submit (record { items = (codes "-N", codes "a" ∷ []) ∷ [] }) (codes "x" ∷ codes "-y" ∷ codes "z" ∷ []) [])
 unfolding grammar_of_commands
 options_and_words = refl
 
 all_options : command_of (codes "qsub -A 1x -R yes -P p -dl 20 -a 10 -js 4 -p -100 -h -hold_jid_ad 4 -hold_jid 3,1,a* -t 1-10:3 -pe smp 4-8 -q a.q,b@h,c@@g -l k=1,m -N n x")
-    ≡ Some (command.Submit (record {
+    ≡ Some (Command.Submit (record {
       items = (codes "-N", codes "n" ∷ []) ∷ (codes "-l", codes "k=1,m" ∷ []) ∷ (codes "-q", codes "a.q,b@h,c@@g" ∷ [])
           ∷ (codes "-pe", codes "smp" ∷ codes "4-8" ∷ []) ∷ (codes "-t", codes "1-10:3" ∷ []) ∷ (codes "-hold_jid", codes "3,1,a*" ∷ [])
           ∷ (codes "-hold_jid_ad", codes "4" ∷ []) ∷ (codes "-h", []) ∷ (codes "-p", codes "-100" ∷ []) ∷ (codes "-js", codes "4" ∷ [])
@@ -24,12 +24,12 @@ unfolding grammar_of_commands
 all_options = refl
 
 without_effect : command_of (codes "qsub -cwd -V -hard -o -N -e '' -j y -S /bin/sh -b y -r n -m n -M x@y -v A=b -wd /tmp x")
-    ≡ Some (command.Submit (record { items = [] }) (codes "x" ∷ []) [])
+    ≡ Some (Command.Submit (record { items = [] }) (codes "x" ∷ []) [])
 unfolding grammar_of_commands
 without_effect = refl
 
 last_of_equal_options : command_of (codes "qsub -N a -p 1 -N b -q a -q b x")
-    ≡ Some (command.Submit (record {
+    ≡ Some (Command.Submit (record {
       items = (codes "-N", codes "b" ∷ []) ∷ (codes "-q", codes "b" ∷ []) ∷ (codes "-p", codes "1" ∷ [])
           ∷ [];
     }) (codes "x" ∷ []) [])
@@ -37,7 +37,7 @@ unfolding grammar_of_commands
 last_of_equal_options = refl
 
 line_over_script : command_of (codes "qsub -N c -l k=2 -l m x\n#$ -N a -p 7\ndate\n#$-l h=1\n # $ -N /")
-    ≡ Some (command.Submit (record {
+    ≡ Some (Command.Submit (record {
       items = (codes "-N", codes "c" ∷ []) ∷ (codes "-l", codes "h=1" ∷ codes "k=2" ∷ codes "m" ∷ [])
           ∷ (codes "-p", codes "7" ∷ []) ∷ [];
     }) (codes "x" ∷ []) (codes "#$ -N a -p 7\ndate\n#$-l h=1\n # $ -N /"))
@@ -45,13 +45,13 @@ unfolding grammar_of_commands
 line_over_script = refl
 
 last_of_the_script : command_of (codes "qsub x\n#$ -N a\n#$ -V\n#$ -N b -R y -h")
-    ≡ Some (command.Submit (record { items = (codes "-N", codes "b" ∷ []) ∷ (codes "-h", []) ∷ (codes "-R", codes "y" ∷ []) ∷ [] }) (codes "x"
+    ≡ Some (Command.Submit (record { items = (codes "-N", codes "b" ∷ []) ∷ (codes "-h", []) ∷ (codes "-R", codes "y" ∷ []) ∷ [] }) (codes "x"
     ∷ []) (codes "#$ -N a\n#$ -V\n#$ -N b -R y -h"))
 unfolding grammar_of_commands
 last_of_the_script = refl
 
 script_with_any_bytes : command_of (codes "qsub x\nda" ++ (255 ∷ []) ++ codes "te\n\n#$")
-    ≡ Some (command.Submit (record { items = [] }) (codes "x" ∷ []) (codes "da" ++ (255 ∷ []) ++ codes "te\n\n#$"))
+    ≡ Some (Command.Submit (record { items = [] }) (codes "x" ∷ []) (codes "da" ++ (255 ∷ []) ++ codes "te\n\n#$"))
 unfolding grammar_of_commands
 script_with_any_bytes = refl
 
@@ -68,7 +68,7 @@ unfolding grammar_of_commands
 script_line_with_open_quote = refl
 
 quoted_option : command_of (codes "qsub '-N' \"a\" 'b c' it's ''")
-    ≡ Some (command.Submit (record { items = (codes "-N", codes "a" ∷ []) ∷ [] }) (codes "b c" ∷ codes "it's" ∷ [] ∷ []) [])
+    ≡ Some (Command.Submit (record { items = (codes "-N", codes "a" ∷ []) ∷ [] }) (codes "b c" ∷ codes "it's" ∷ [] ∷ []) [])
 unfolding grammar_of_commands
 quoted_option = refl
 
@@ -84,7 +84,7 @@ control_byte : command_of (codes "qsub a" ++ (127 ∷ [])) ≡ None
 unfolding grammar_of_commands
 control_byte = refl
 
-blanks_in_front : command_of (codes "  qsub" ++ (9 ∷ []) ++ codes "x ") ≡ Some (command.Submit (record { items = [] }) (codes "x" ∷ []) [])
+blanks_in_front : command_of (codes "  qsub" ++ (9 ∷ []) ++ codes "x ") ≡ Some (Command.Submit (record { items = [] }) (codes "x" ∷ []) [])
 unfolding grammar_of_commands
 blanks_in_front = refl
 
@@ -105,7 +105,7 @@ unfolding grammar_of_commands
 empty_attribute = refl
 
 value_with_equals : command_of (codes "qsub -l a=b=c,d= x")
-    ≡ Some (command.Submit (record { items = (codes "-l", codes "a=b=c,d=" ∷ []) ∷ [] }) (codes "x" ∷ []) [])
+    ≡ Some (Command.Submit (record { items = (codes "-l", codes "a=b=c,d=" ∷ []) ∷ [] }) (codes "x" ∷ []) [])
 unfolding grammar_of_commands
 value_with_equals = refl
 
@@ -126,7 +126,7 @@ unfolding grammar_of_commands
 empty_queue = refl
 
 second_at : command_of (codes "qsub -q a@b@c x")
-    ≡ Some (command.Submit (record { items = (codes "-q", codes "a@b@c" ∷ []) ∷ [] }) (codes "x" ∷ []) [])
+    ≡ Some (Command.Submit (record { items = (codes "-q", codes "a@b@c" ∷ []) ∷ [] }) (codes "x" ∷ []) [])
 unfolding grammar_of_commands
 second_at = refl
 
@@ -139,7 +139,7 @@ unfolding grammar_of_commands
 no_slots = refl
 
 slots_below : command_of (codes "qsub -pe smp 5-3 x")
-    ≡ Some (command.Submit (record { items = (codes "-pe", codes "smp" ∷ codes "5-3" ∷ []) ∷ [] }) (codes "x" ∷ []) [])
+    ≡ Some (Command.Submit (record { items = (codes "-pe", codes "smp" ∷ codes "5-3" ∷ []) ∷ [] }) (codes "x" ∷ []) [])
 unfolding grammar_of_commands
 slots_below = refl
 
@@ -160,7 +160,7 @@ unfolding grammar_of_commands
 empty_predecessor = refl
 
 hold_letters_on_qsub : command_of (codes "qsub -h u x")
-    ≡ Some (command.Submit (record { items = (codes "-h", []) ∷ [] }) (codes "u" ∷ codes "x" ∷ []) [])
+    ≡ Some (Command.Submit (record { items = (codes "-h", []) ∷ [] }) (codes "u" ∷ codes "x" ∷ []) [])
 unfolding grammar_of_commands
 hold_letters_on_qsub = refl
 

@@ -2,40 +2,17 @@
 use Rattle.std.specs.Prelude.{ℕ, ◌-◌, Bool, true, false, not, ◌&&◌, if◌then◌else◌, List, [], ◌∷◌, ◌++◌, length, take, drop, filter, is_some, zip, Option, Some, None, option_map, codes}
 use Rattle.std.specs.List.{list_all, before_first, after_first}
 use Rattle.ge_rows.specs.Keyed.{at_text, text_eq}
-use Rattle.ge_rows.specs.declared.entries.ObjectKind.{ObjectKind}
-use Rattle.ge_rows.specs.declared.entries.ObjectKind.TheVariants as kind
+use Rattle.ge_model_rows.specs.EntryRows.{ObjectKind}
 use Rattle.ge_model_text.specs.Words.{is_blank}
 use Rattle.ge_model_value.specs.Pieces.{is_empty, blank_pieces, trimmed, is_one_of}
 use Rattle.ge_model_grammar.specs.Lines.{is_plain_line, text_lines, begins_with, ends_in, read_each}
 use Rattle.ge_model_grammar.specs.Rules.{rule_of}
 use Rattle.ge_model_grammar.specs.Attributes.{known_attributes, naming_attributes}
-pub use Rattle.ge_model_grammar.specs.Rules.{RuleLine}
-
--- a node of the share tree, its five values as written
-pub record NodeLines : Type 0 where
-  pub id : List ℕ
-  pub name : List ℕ
-  pub type : List ℕ
-  pub shares : List ℕ
-  pub children : List ℕ
-
--- the eight words of a complex as written
-pub record ComplexLine : Type 0 where
-  pub name : List ℕ
-  pub shortcut : List ℕ
-  pub kind : List ℕ
-  pub relop : List ℕ
-  pub requestable : List ℕ
-  pub consumable : List ℕ
-  pub fallback : List ℕ
-  pub urgency : List ℕ
-
--- the body of a qconf command, cut into its lines and read without a look at the cluster
-pub data Body : Type 0 where
-  Attributes : (values : List (List ℕ × List ℕ)) → Body
-  RuleSet : (values : List (List ℕ × List ℕ)) → (rules : List RuleLine) → Body
-  Nodes : (nodes : List NodeLines) → Body
-  ComplexRows : (rows : List ComplexLine) → Body
+use Rattle.ge_model_grammar.specs.declared.RuleLine.{RuleLine}
+use Rattle.ge_model_grammar.specs.declared.Body.{Body}
+use Rattle.ge_model_grammar.specs.declared.Body.TheVariants.{Attributes, RuleSet, Nodes, ComplexRows}
+use Rattle.ge_model_grammar.specs.declared.NodeLines.{NodeLines}
+use Rattle.ge_model_grammar.specs.declared.ComplexLine.{ComplexLine}
 
 -- lines
 
@@ -126,8 +103,8 @@ value_behind key line = if begins_with key (trimmed line) then Some (drop (lengt
 
 -- the node of its five values
 abbrev pub node_with : List (List ℕ) → Option NodeLines
-node_with (id ∷ name ∷ type ∷ shares ∷ children ∷ []) =
-    Some (record { id = id; name = name; type = type; shares = shares; children = children })
+node_with (id ∷ name ∷ sort ∷ shares ∷ children ∷ []) =
+    Some (record { id = id; name = name; sort = sort; shares = shares; children = children })
 node_with _ = None
 
 -- the lines of a node, in their order
@@ -145,8 +122,8 @@ node_of lines = elim (read_each keyed_value (zip node_keys lines)) [ None ↦ No
 -- nodes and those of lines, five for each
 abbrev pub nodes_after : List NodeLines → List (List ℕ) → Option (List NodeLines)
 nodes_after nodes [] = Some nodes
-nodes_after nodes (id ∷ name ∷ type ∷ shares ∷ children ∷ lines) =
-    elim (node_of (id ∷ name ∷ type ∷ shares ∷ children ∷ [])) [ None ↦ None | Some node ↦ nodes_after (nodes ++ node ∷ []) lines ]
+nodes_after nodes (id ∷ name ∷ sort ∷ shares ∷ children ∷ lines) =
+    elim (node_of (id ∷ name ∷ sort ∷ shares ∷ children ∷ [])) [ None ↦ None | Some node ↦ nodes_after (nodes ++ node ∷ []) lines ]
 nodes_after nodes _ = None
 
 -- the body of a share tree
@@ -182,19 +159,19 @@ complex_body lines = option_map ComplexRows (read_each complex_line lines)
 
 -- the body that lines are; the lists of managers and operators have none
 abbrev pub body_in : ObjectKind → List (List ℕ) → Option Body
-body_in kind.Complexes lines = complex_body lines
-body_in kind.Shares lines = node_body lines
-body_in kind.Quota lines = rule_set_body lines
-body_in kind.Managers lines = None
-body_in kind.Operators lines = None
-body_in kind.Host lines = attribute_body kind.Host lines
-body_in kind.Group lines = attribute_body kind.Group lines
-body_in kind.Queue lines = attribute_body kind.Queue lines
-body_in kind.Pe lines = attribute_body kind.Pe lines
-body_in kind.Set lines = attribute_body kind.Set lines
-body_in kind.User lines = attribute_body kind.User lines
-body_in kind.Project lines = attribute_body kind.Project lines
-body_in kind.Sched lines = attribute_body kind.Sched lines
+body_in ObjectKind.Complexes lines = complex_body lines
+body_in ObjectKind.Shares lines = node_body lines
+body_in ObjectKind.Quota lines = rule_set_body lines
+body_in ObjectKind.Managers lines = None
+body_in ObjectKind.Operators lines = None
+body_in ObjectKind.Host lines = attribute_body ObjectKind.Host lines
+body_in ObjectKind.Group lines = attribute_body ObjectKind.Group lines
+body_in ObjectKind.Queue lines = attribute_body ObjectKind.Queue lines
+body_in ObjectKind.Pe lines = attribute_body ObjectKind.Pe lines
+body_in ObjectKind.Set lines = attribute_body ObjectKind.Set lines
+body_in ObjectKind.User lines = attribute_body ObjectKind.User lines
+body_in ObjectKind.Project lines = attribute_body ObjectKind.Project lines
+body_in ObjectKind.Sched lines = attribute_body ObjectKind.Sched lines
 
 -- a body of a kind of object, if it is in its grammar: no attribute twice, none unknown, none missing that names the object
 unfoldable pub body_of : ObjectKind → List ℕ → Option Body

@@ -1,17 +1,15 @@
 -- The grammar of commands.
-use Rattle.std.specs.Prelude.{ℕ, true, false, ◌&&◌, if◌then◌else◌, List, [], ◌∷◌, ◌++◌, drop, Option, Some, None, option_map, codes}
+use Rattle.std.specs.Prelude.{ℕ, Bool, true, false, not, ◌&&◌, if◌then◌else◌, List, [], ◌∷◌, ◌++◌, drop, Option, Some, None, option_map, codes}
+use Rattle.std.specs.Bool.{beq}
 use Rattle.ge_rows.specs.Keyed.{text_eq}
-use Rattle.ge_rows.specs.declared.commands.Command.{Command}
-use Rattle.ge_rows.specs.declared.commands.Command.TheVariants as command
-use Rattle.ge_rows.specs.declared.commands.Listing.TheVariants as listing
-use Rattle.ge_rows.specs.declared.commands.Query.TheVariants as query
+use Rattle.ge_model_rows.specs.CommandRows.{Command, Listing, Query}
 use Rattle.ge_model_script.specs.Names.{is_name}
 use Rattle.ge_model_text.specs.Words.{texts_of}
 use Rattle.ge_model_value.specs.Pieces.{is_empty, before_byte, behind_byte, has_byte}
 use Rattle.ge_model_grammar.specs.Lines.{is_plain_line, text_lines, begins_with, read_each}
 use Rattle.ge_model_grammar.specs.Bodies.{grammar_of_bodies}
-use Rattle.ge_model_grammar.specs.Options.{Given}
-use Rattle.ge_model_grammar.specs.Shapes.{qsub_shapes, qalter_shapes, read_options, merged}
+use Rattle.ge_model_grammar.specs.Options.{Given, has_option}
+use Rattle.ge_model_grammar.specs.Shapes.{qsub_shapes, qalter_shapes, qrsub_shapes, read_options, merged, merged_by}
 use Rattle.ge_model_grammar.specs.Targets.{job_of, wide_number, jobs_of, targets_of, holds_of}
 use Rattle.ge_model_grammar.specs.Configuring.{config_of}
 
@@ -48,7 +46,7 @@ script_options script = options_after [] (text_lines script)
 
 -- qsub with the options of its script and of its line
 abbrev pub submission : List ℕ → Given → Given × List (List ℕ) → Command
-submission script in_script read = command.Submit (record { items = merged (in_script ++ read.0) }) read.1 script
+submission script in_script read = Command.Submit (record { items = merged (in_script ++ read.0) }) read.1 script
 
 -- qsub: options, the command and its arguments; the lines behind are the script
 unfoldable pub submit_of : List (List ℕ) → List ℕ → Option Command
@@ -62,7 +60,7 @@ submit_of words script =
 
 -- qalter of these jobs with the options that count
 abbrev pub alteration : Given → List ℕ → Command
-alteration given jobs = command.Alter (record { items = merged given }) jobs
+alteration given jobs = Command.Alter (record { items = merged given }) jobs
 
 -- qalter: options, and jobs
 unfoldable pub alter_of : List (List ℕ) → Option Command
@@ -78,13 +76,13 @@ alter_of words =
 unfoldable pub delete_of : List (List ℕ) → Option Command
 delete_of [] = None
 delete_of (word ∷ words) =
-    if text_eq word (codes "-f") then option_map (command.Delete true) (targets_of words)
-    else option_map (command.Delete false) (targets_of (word ∷ words))
+    if text_eq word (codes "-f") then option_map (Command.Delete true) (targets_of words)
+    else option_map (Command.Delete false) (targets_of (word ∷ words))
 
 -- qmod, with -cj alone
 unfoldable pub clear_of : List (List ℕ) → Option Command
 clear_of [] = None
-clear_of (word ∷ words) = if text_eq word (codes "-cj") then option_map command.Clear (targets_of words) else None
+clear_of (word ∷ words) = if text_eq word (codes "-cj") then option_map Command.Clear (targets_of words) else None
 
 -- qhold, qrls
 
@@ -102,24 +100,24 @@ hold_of make (word ∷ words) = if text_eq word (codes "-h") then with_letters m
 
 -- qstat: jobs of all owners or of those that -u names, -j one job, -f instances, -pri priorities
 unfoldable pub show_of : List (List ℕ) → Option Command
-show_of [] = Some (command.Show (listing.All (codes "*")))
+show_of [] = Some (Command.Show (Listing.All (codes "*")))
 show_of (word ∷ []) =
-    if text_eq word (codes "-f") then Some (command.Show listing.Queues)
-    else (if text_eq word (codes "-pri") then Some (command.Show listing.Prios) else None)
+    if text_eq word (codes "-f") then Some (Command.Show Listing.Queues)
+    else (if text_eq word (codes "-pri") then Some (Command.Show Listing.Prios) else None)
 show_of (word ∷ of ∷ []) =
-    if text_eq word (codes "-u") then Some (command.Show (listing.All of))
-    else (if text_eq word (codes "-j") then option_map (λ job. command.Show (listing.One job)) (job_of of) else None)
+    if text_eq word (codes "-u") then Some (Command.Show (Listing.All of))
+    else (if text_eq word (codes "-j") then option_map (λ job. Command.Show (Listing.One job)) (job_of of) else None)
 show_of (word ∷ of ∷ other ∷ words) = None
 
 -- qacct
 
 -- qacct: sums, -o of an owner, -j the lines of a job
 unfoldable pub account_of : List (List ℕ) → Option Command
-account_of [] = Some (command.Account query.Total)
+account_of [] = Some (Command.Account Query.Total)
 account_of (word ∷ []) = None
 account_of (word ∷ of ∷ []) =
-    if text_eq word (codes "-o") then (if is_name of then Some (command.Account (query.Owner of)) else None)
-    else (if text_eq word (codes "-j") then option_map (λ job. command.Account (query.Job job)) (job_of of) else None)
+    if text_eq word (codes "-o") then (if is_name of then Some (Command.Account (Query.Owner of)) else None)
+    else (if text_eq word (codes "-j") then option_map (λ job. Command.Account (Query.Job job)) (job_of of) else None)
 account_of (word ∷ of ∷ other ∷ words) = None
 
 -- load, end, orders, job
@@ -132,11 +130,11 @@ reported word = if has_byte 61 word && is_name (before_byte 61 word) then Some (
 unfoldable pub load_of : List (List ℕ) → Option Command
 load_of [] = None
 load_of (host ∷ []) = None
-load_of (host ∷ word ∷ words) = if is_name host then option_map (command.Load host) (read_each reported (word ∷ words)) else None
+load_of (host ∷ word ∷ words) = if is_name host then option_map (Command.Load host) (read_each reported (word ∷ words)) else None
 
 -- the end of a dispatch, by its five numbers
 abbrev pub end_with : List ℕ → Option Command
-end_with (serial ∷ exit ∷ cpu ∷ mem ∷ io ∷ []) = Some (command.End serial exit cpu mem io)
+end_with (serial ∷ exit ∷ cpu ∷ mem ∷ io ∷ []) = Some (Command.End serial exit cpu mem io)
 end_with _ = None
 
 -- end: serial, exit status, cpu, mem and io
@@ -145,17 +143,49 @@ end_of words = elim (read_each wide_number words) [ None ↦ None | Some numbers
 
 -- orders: a host
 unfoldable pub orders_of : List (List ℕ) → Option Command
-orders_of (host ∷ []) = if is_name host then Some (command.Orders host) else None
+orders_of (host ∷ []) = if is_name host then Some (Command.Orders host) else None
 orders_of _ = None
 
 -- job: a serial
 unfoldable pub dispatch_of : List (List ℕ) → Option Command
-dispatch_of (serial ∷ []) = option_map command.JobOf (wide_number serial)
+dispatch_of (serial ∷ []) = option_map Command.JobOf (wide_number serial)
 dispatch_of _ = None
+
+-- qrsub, qrdel, qrstat
+
+-- whether just one of two options is given
+abbrev pub has_one_of : Given → List ℕ → List ℕ → Bool
+has_one_of given first second = not (beq (has_option given first) (has_option given second))
+
+-- an advance reservation ends at a moment (-e) or lasts so long (-d): just one of them is given
+abbrev pub booking_by : Given → Option Command
+booking_by given = if has_one_of given (codes "-e") (codes "-d") then Some (Command.Book (record { items = given })) else None
+
+abbrev pub booking : Given × List (List ℕ) → Option Command
+booking read = if is_empty read.1 then booking_by (merged_by qrsub_shapes read.0) else None
+
+-- qrsub: options alone
+unfoldable pub book_of : List (List ℕ) → Option Command
+book_of words = elim (read_options qrsub_shapes words) [ None ↦ None | Some read ↦ booking read ]
+
+-- qrdel: numbers of reservations, written as those of jobs
+unfoldable pub unbook_of : List (List ℕ) → Option Command
+unbook_of words = option_map Command.Unbook (jobs_of words)
+
+-- the reservation that a number names
+abbrev pub shown_booked : ℕ → Command
+shown_booked number = Command.ShowBooked (Some number)
+
+-- qrstat: all reservations, or the one that -ar names
+unfoldable pub booked_of : List (List ℕ) → Option Command
+booked_of [] = Some (Command.ShowBooked None)
+booked_of (word ∷ []) = None
+booked_of (word ∷ of ∷ []) = if text_eq word (codes "-ar") then option_map shown_booked (job_of of) else None
+booked_of (word ∷ of ∷ other ∷ words) = None
 
 -- sched
 abbrev pub run_of : List (List ℕ) → Option Command
-run_of words = if is_empty words then Some command.Sched else None
+run_of words = if is_empty words then Some Command.Sched else None
 
 -- all of them
 
@@ -164,8 +194,8 @@ abbrev pub line_command : List ℕ → List (List ℕ) → Option Command
 line_command verb words =
     if text_eq verb (codes "qalter") then alter_of words
     else (if text_eq verb (codes "qdel") then delete_of words
-    else (if text_eq verb (codes "qhold") then hold_of command.Hold words
-    else (if text_eq verb (codes "qrls") then hold_of command.Release words
+    else (if text_eq verb (codes "qhold") then hold_of Command.Hold words
+    else (if text_eq verb (codes "qrls") then hold_of Command.Release words
     else (if text_eq verb (codes "qmod") then clear_of words
     else (if text_eq verb (codes "qstat") then show_of words
     else (if text_eq verb (codes "qacct") then account_of words
@@ -173,7 +203,10 @@ line_command verb words =
     else (if text_eq verb (codes "end") then end_of words
     else (if text_eq verb (codes "orders") then orders_of words
     else (if text_eq verb (codes "job") then dispatch_of words
-    else (if text_eq verb (codes "sched") then run_of words else None)))))))))))
+    else (if text_eq verb (codes "qrsub") then book_of words
+    else (if text_eq verb (codes "qrdel") then unbook_of words
+    else (if text_eq verb (codes "qrstat") then booked_of words
+    else (if text_eq verb (codes "sched") then run_of words else None))))))))))))))
 
 -- the command of the words of a command line and of the text behind it
 abbrev pub command_in : List (List ℕ) → List ℕ → Option Command
@@ -189,5 +222,5 @@ command_of text = elim (line_words (before_byte 10 text)) [ None ↦ None | Some
 
 -- all that a row of commands computes through
 unfoldable pub grammar_of_commands : Unit {0}
-unfolding grammar_of_bodies read_options merged config_of script_options submit_of alter_of delete_of clear_of hold_of show_of account_of load_of end_of orders_of dispatch_of command_of
+unfolding grammar_of_bodies read_options merged config_of script_options submit_of alter_of delete_of clear_of hold_of show_of account_of load_of end_of orders_of dispatch_of book_of unbook_of booked_of command_of
 grammar_of_commands = tt

@@ -1,11 +1,8 @@
 -- The commands of qconf.
 use Rattle.std.specs.Prelude.{ℕ, Bool, ◌&&◌, if◌then◌else◌, List, [], ◌∷◌, ◌++◌, length, drop, nat_le, is_some, Option, Some, None, codes}
 use Rattle.ge_rows.specs.Keyed.{at_text, text_eq}
-use Rattle.ge_rows.specs.declared.commands.Command.{Command}
-use Rattle.ge_rows.specs.declared.commands.Command.TheVariants as command
-use Rattle.ge_rows.specs.declared.entries.Key.{Key}
-use Rattle.ge_rows.specs.declared.entries.ObjectKind.{ObjectKind}
-use Rattle.ge_rows.specs.declared.entries.ObjectKind.TheVariants as kind
+use Rattle.ge_model_rows.specs.CommandRows.{Command}
+use Rattle.ge_model_rows.specs.EntryRows.{ObjectKind, Key}
 use Rattle.ge_model_script.specs.Names.{is_name}
 use Rattle.ge_model_value.specs.Pieces.{is_empty}
 use Rattle.ge_model_grammar.specs.Lines.{begins_with}
@@ -14,32 +11,32 @@ use Rattle.ge_model_grammar.specs.Bodies.{body_of}
 -- the kinds of objects that have a name, by what stands behind -A, -M, -d and -s
 abbrev pub named_kinds : List (List ℕ × ObjectKind)
 named_kinds =
-    (codes "q", kind.Queue) ∷ (codes "hgrp", kind.Group) ∷ (codes "e", kind.Host) ∷ (codes "p", kind.Pe) ∷ (codes "rqs", kind.Quota)
-    ∷ (codes "prj", kind.Project) ∷ (codes "user", kind.User) ∷ []
+    (codes "q", ObjectKind.Queue) ∷ (codes "hgrp", ObjectKind.Group) ∷ (codes "e", ObjectKind.Host) ∷ (codes "p", ObjectKind.Pe) ∷ (codes "rqs", ObjectKind.Quota)
+    ∷ (codes "prj", ObjectKind.Project) ∷ (codes "user", ObjectKind.User) ∷ []
 
 -- the kinds that can be added by a body
 abbrev pub added_kinds : List (List ℕ × ObjectKind)
-added_kinds = (codes "u", kind.Set) ∷ (codes "stree", kind.Shares) ∷ (codes "c", kind.Complexes) ∷ named_kinds
+added_kinds = (codes "u", ObjectKind.Set) ∷ (codes "stree", ObjectKind.Shares) ∷ (codes "c", ObjectKind.Complexes) ∷ named_kinds
 
 -- those that can be replaced by a body
 abbrev pub modified_kinds : List (List ℕ × ObjectKind)
-modified_kinds = (codes "sconf", kind.Sched) ∷ added_kinds
+modified_kinds = (codes "sconf", ObjectKind.Sched) ∷ added_kinds
 
 -- the lists of names
 abbrev pub list_kinds : List (List ℕ × ObjectKind)
-list_kinds = (codes "m", kind.Managers) ∷ (codes "o", kind.Operators) ∷ []
+list_kinds = (codes "m", ObjectKind.Managers) ∷ (codes "o", ObjectKind.Operators) ∷ []
 
 -- the kinds that are removed by a name
 abbrev pub removed_kinds : List (List ℕ × ObjectKind)
-removed_kinds = (codes "ul", kind.Set) ∷ (list_kinds ++ named_kinds)
+removed_kinds = (codes "ul", ObjectKind.Set) ∷ (list_kinds ++ named_kinds)
 
 -- the kinds that are printed by a name
 abbrev pub printed_kinds : List (List ℕ × ObjectKind)
-printed_kinds = (codes "u", kind.Set) ∷ named_kinds
+printed_kinds = (codes "u", ObjectKind.Set) ∷ named_kinds
 
 -- the kinds of which there is one alone, which are printed without a name
 abbrev pub single_kinds : List (List ℕ × ObjectKind)
-single_kinds = (codes "stree", kind.Shares) ∷ (codes "c", kind.Complexes) ∷ (codes "sconf", kind.Sched) ∷ list_kinds
+single_kinds = (codes "stree", ObjectKind.Shares) ∷ (codes "c", ObjectKind.Complexes) ∷ (codes "sconf", ObjectKind.Sched) ∷ list_kinds
 
 -- the name of a group is @ and a name
 abbrev pub is_group_name : List ℕ → Bool
@@ -47,7 +44,7 @@ is_group_name word = begins_with (codes "@") word && is_name (drop 1 word)
 
 -- a name as an object of a kind has it
 abbrev pub is_name_of : ObjectKind → List ℕ → Bool
-is_name_of kind.Group word = is_group_name word
+is_name_of ObjectKind.Group word = is_group_name word
 is_name_of _ word = is_name word
 
 -- the command of a body that is in its grammar; one further word, the name of a file, is read without effect
@@ -70,21 +67,21 @@ without_name make (Some kind) = Some (make (record { kind = kind; name = [] }))
 
 -- a name is added to a list
 abbrev pub add_name : Key → Command
-add_name key = command.Add key.kind key.name
+add_name key = Command.Add key.kind key.name
 
 -- -d with a name, or -dstree
 abbrev pub removal : List ℕ → List (List ℕ) → Option Command
-removal word [] = if text_eq word (codes "stree") then without_name command.Remove (Some kind.Shares) else None
-removal word (name ∷ words) = with_name command.Remove (at_text removed_kinds word) (name ∷ words)
+removal word [] = if text_eq word (codes "stree") then without_name Command.Remove (Some ObjectKind.Shares) else None
+removal word (name ∷ words) = with_name Command.Remove (at_text removed_kinds word) (name ∷ words)
 
 -- -s with a name, or of what there is one alone
 abbrev pub printing : List ℕ → List (List ℕ) → Option Command
-printing word [] = without_name command.Print (at_text single_kinds word)
-printing word (name ∷ words) = with_name command.Print (at_text printed_kinds word) (name ∷ words)
+printing word [] = without_name Command.Print (at_text single_kinds word)
+printing word (name ∷ words) = with_name Command.Print (at_text printed_kinds word) (name ∷ words)
 
 -- -km
 abbrev pub stopping : List (List ℕ) → Option Command
-stopping words = if is_empty words then Some command.Stop else None
+stopping words = if is_empty words then Some Command.Stop else None
 
 -- the commands that have no body
 abbrev pub bare_form : List ℕ → List (List ℕ) → Option Command
@@ -98,6 +95,6 @@ bare_form option words =
 unfoldable pub config_of : List (List ℕ) → List ℕ → Option Command
 config_of [] body = None
 config_of (option ∷ words) body =
-    if begins_with (codes "-A") option then with_body command.Add (at_text added_kinds (drop 2 option)) words body
-    else (if begins_with (codes "-M") option then with_body command.Modify (at_text modified_kinds (drop 2 option)) words body
+    if begins_with (codes "-A") option then with_body Command.Add (at_text added_kinds (drop 2 option)) words body
+    else (if begins_with (codes "-M") option then with_body Command.Modify (at_text modified_kinds (drop 2 option)) words body
     else (if is_empty body then bare_form option words else None))

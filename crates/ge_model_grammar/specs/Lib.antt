@@ -9,3 +9,4 @@ pub mod Bodies
 pub mod Targets
 pub mod Configuring
 pub mod Commands
+pub mod Parsing

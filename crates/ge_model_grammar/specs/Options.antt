@@ -1,6 +1,7 @@
 -- Options and their words (qsub, qalter).
 use Rattle.std.specs.Prelude.{ℕ, Bool, ◌&&◌, if◌then◌else◌, List, [], ◌∷◌, map, take, fold, is_some, Option, Some, None, codes}
 use Rattle.std.specs.Option.{option_zip}
+use Rattle.ge_limits.specs.Limits as limit
 use Rattle.ge_rows.specs.Keyed.{at_text}
 use Rattle.ge_model_script.specs.Names.{is_job_name_byte, begins_with_digit}
 use Rattle.ge_model_value.specs.Pieces.{is_empty, pieces_at, before_byte, behind_byte, has_byte}
@@ -24,9 +25,9 @@ number_or other text = if is_empty text then Some other else digits_number text
 
 -- a range of which one end may be left out
 abbrev pub open_range : List ℕ → List ℕ → Option (ℕ × ℕ)
-open_range low high = if is_empty low && is_empty high then None else option_zip (number_or 1 low) (number_or 1000000 high)
+open_range low high = if is_empty low && is_empty high then None else option_zip (number_or 1 low) (number_or limit.slots high)
 
--- the range of slots of -pe: n, n-m, -m (from 1) or n- (to 1000000), uncut
+-- the range of slots of -pe: n, n-m, -m (from 1) or n- (to the greatest number of slots)
 abbrev pub slot_range_of : List ℕ → Option (ℕ × ℕ)
 slot_range_of text =
     if has_byte 45 text then open_range (before_byte 45 text) (behind_byte 45 text)

@@ -2,19 +2,10 @@
 use Rattle.std.specs.Prelude.{ℕ, ◌-◌, Bool, true, false, not, ◌&&◌, if◌then◌else◌, List, [], ◌∷◌, length, drop, slice_range, map, filter, is_none, Option, Some, None, codes}
 use Rattle.std.specs.List.{list_all}
 use Rattle.ge_rows.specs.Keyed.{text_eq}
-use Rattle.ge_rows.specs.declared.quotas.Filter.{Filter}
+use Rattle.ge_model_rows.specs.QuotaRows.{Filter}
+use Rattle.ge_model_grammar.specs.declared.RuleLine.{RuleLine}
 use Rattle.ge_model_value.specs.Pieces.{is_empty, blank_pieces, pieces_at, before_byte, behind_byte, has_byte, list_items, joined_by}
 use Rattle.ge_model_grammar.specs.Lines.{begins_with, ends_in}
-
--- a line of a rule set: the rule's name or nothing, its filters by users, projects, pes, queues and hosts, its resources as written
-pub record RuleLine : Type 0 where
-  pub name : List ℕ
-  pub users : Option Filter
-  pub projects : Option Filter
-  pub pes : Option Filter
-  pub queues : Option Filter
-  pub hosts : Option Filter
-  pub limits : List (List ℕ × List ℕ)
 
 -- a rule without filters and resources
 abbrev pub bare_rule : List ℕ → RuleLine

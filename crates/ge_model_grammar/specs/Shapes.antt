@@ -1,4 +1,4 @@
--- The options of qsub and qalter, and how they are read.
+-- The options of qsub, qalter and qrsub, and how they are read.
 use Rattle.std.specs.Prelude.{ℕ, zero, suc, Bool, true, false, not, if◌then◌else◌, List, [], ◌∷◌, ◌++◌, length, take, filter, filter_map, find, fold, Option, Some, None, option_map, unwrap_or, codes}
 use Rattle.ge_rows.specs.Keyed.{text_eq}
 use Rattle.ge_model_value.specs.Pieces.{is_one_of}
@@ -20,7 +20,7 @@ pub record Shape : Type 0 where
 abbrev pub shape : List ℕ → List WordForm → Effect → Shape
 shape name forms effect = record { name = name; forms = forms; effect = effect }
 
--- the options, in the order in which a command keeps them
+-- the options of jobs, in the order in which a command keeps them
 abbrev pub shapes : List Shape
 shapes =
     shape (codes "-N") (JobName ∷ []) Replaces
@@ -39,6 +39,7 @@ shapes =
     ∷ shape (codes "-P") (Name ∷ []) Replaces
     ∷ shape (codes "-R") (Answer ∷ []) Replaces
     ∷ shape (codes "-A") (Account ∷ []) Replaces
+    ∷ shape (codes "-ar") (Digits ∷ []) Replaces
     ∷ shape (codes "-cwd") [] Idle
     ∷ shape (codes "-V") [] Idle
     ∷ shape (codes "-hard") [] Idle
@@ -62,9 +63,21 @@ shapes_without names = filter (λ s. not (is_one_of s.name names)) shapes
 abbrev pub qsub_shapes : List Shape
 qsub_shapes = shapes_without (codes "-ot" ∷ [])
 
--- qalter takes all but -t and -h
+-- qalter takes all but -t, -h and -ar
 abbrev pub qalter_shapes : List Shape
-qalter_shapes = shapes_without (codes "-t" ∷ codes "-h" ∷ [])
+qalter_shapes = shapes_without (codes "-t" ∷ codes "-h" ∷ codes "-ar" ∷ [])
+
+-- qrsub has its own: -a and -e are moments, -d is how long it lasts
+abbrev pub qrsub_shapes : List Shape
+qrsub_shapes =
+    shape (codes "-N") (JobName ∷ []) Replaces
+    ∷ shape (codes "-l") (Asked ∷ []) Adds
+    ∷ shape (codes "-q") (Queues ∷ []) Replaces
+    ∷ shape (codes "-pe") (Name ∷ Slots ∷ []) Replaces
+    ∷ shape (codes "-a") (Digits ∷ []) Replaces
+    ∷ shape (codes "-e") (Digits ∷ []) Replaces
+    ∷ shape (codes "-d") (Any ∷ []) Replaces
+    ∷ []
 
 -- the option that a word names
 abbrev pub shape_named : List Shape → List ℕ → Option Shape
@@ -114,6 +127,10 @@ is_effective s = elim s.effect [ Replaces ↦ true | Adds ↦ true | Idle ↦ fa
 abbrev pub item_in : Given → Shape → Option (List ℕ × List (List ℕ))
 item_in given s = option_map (λ words. (s.name, words)) (words_in given s)
 
--- the options that count, each once: those of the command line, given behind the script's, replace them
+-- the options of these that count, each once
+abbrev pub merged_by : List Shape → Given → Given
+merged_by known given = filter_map (item_in given) (filter is_effective known)
+
+-- the options of a job that count, each once: those of the command line, given behind the script's, replace them
 unfoldable pub merged : Given → Given
-merged given = filter_map (item_in given) (filter is_effective shapes)
+merged given = merged_by shapes given

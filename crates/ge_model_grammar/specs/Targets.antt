@@ -1,8 +1,8 @@
 -- Jobs and tasks on the line of a command (qalter, qdel, qhold, qrls, qmod).
 use Rattle.std.specs.Prelude.{ℕ, ◌+◌, ◌-◌, ◌^◌, min, Bool, not, ◌&&◌, ◌||◌, ◌==◌, if◌then◌else◌, List, flat_map, Option, Some, None, option_map}
 use Rattle.std.specs.List.{list_all}
-use Rattle.ge_rows.specs.declared.entries.Pick.{Pick}
-use Rattle.ge_rows.specs.declared.tasks.TaskSpan.{TaskSpan}
+use Rattle.ge_model_rows.specs.EntryRows.{Pick}
+use Rattle.ge_model_rows.specs.TaskRows.{TaskSpan}
 use Rattle.ge_model_value.specs.Pieces.{is_empty, pieces_at, before_byte, behind_byte, has_byte}
 use Rattle.ge_model_tasks.specs.Ranges.{digits_number, range_of, range_set}
 use Rattle.ge_model_grammar.specs.Lines.{read_each}

@@ -1,10 +1,9 @@
 -- Accounting lines and their sums, by computation.
 use Rattle.std.specs.Prelude.{◌≡◌, ℕ, ◌-◌, ◌^◌, List, [], ◌∷◌, codes, pos, negsuc, refl}
 use Rattle.std.specs.Fmt.{digits}
-use Rattle.ge_rows.specs.Opening.{opening_cluster, default_queue, default_sched}
-use Rattle.ge_rows.specs.declared.accounts.Line.{Line}
-use Rattle.ge_rows.specs.declared.cluster.Cluster.{Cluster}
-use Rattle.ge_rows.specs.declared.commands.Query.TheVariants.{Total, Owner, Job}
+use Rattle.ge_model_rows.specs.AccountRows.{Line}
+use Rattle.ge_model_rows.specs.ClusterRows.{Cluster, opening_cluster, default_queue, default_sched}
+use Rattle.ge_model_rows.specs.CommandRows.{Total, Owner, Job}
 use Rattle.ge_model_report.specs.Accounting.{line_text, account_of}
 
 abbrev ended : ℕ → ℕ → ℕ → Line

@@ -3,3 +3,5 @@ mod ListingRows
 mod QueueRows
 mod AccountingRows
 mod OrderRows
+mod BookedRows
+pub mod OrderTexts

@@ -1,10 +1,10 @@
 -- The lines of qstat, qstat -j and qstat -pri, by computation.
 use Rattle.std.specs.Prelude.{◌≡◌, ℕ, true, List, [], ◌∷◌, Some, codes, negsuc, refl}
 use Rattle.std.specs.Fmt.{digits}
-use Rattle.ge_rows.specs.declared.commands.Listing.TheVariants.{All, One, Prios}
-use Rattle.ge_rows.specs.declared.jobs.Job.{Job}
-use Rattle.ge_rows.specs.declared.scheduling.Prio.{Prio}
-use Rattle.ge_rows.specs.declared.values.Value.TheVariants.{Amount, Flag, Word}
+use Rattle.ge_model_rows.specs.CommandRows.{All, One, Prios}
+use Rattle.ge_model_rows.specs.JobRows.{Job}
+use Rattle.ge_model_rows.specs.ScheduleRows.{Prio}
+use Rattle.ge_model_rows.specs.ValueRows.{Amount, Flag, Word}
 use Rattle.ge_model_value.specs.Complexes.{opening}
 use Rattle.ge_model_report.specs.Listing.{listing_of, listings_in_full, grants_text}
 use Rattle.ge_model_report.proofs.Samples.{some_span, one_task, some_job, some_slots, some_running, on_local, running_job, with_jobs}

@@ -1,8 +1,8 @@
 -- What a daemon asks for, by computation.
 use Rattle.std.specs.Prelude.{◌≡◌, ℕ, true, List, [], ◌∷◌, None, codes, refl}
 use Rattle.std.specs.Fmt.{digits}
-use Rattle.ge_rows.specs.declared.jobs.Job.{Job}
-use Rattle.ge_rows.specs.declared.values.Value.TheVariants.{Amount}
+use Rattle.ge_model_rows.specs.JobRows.{Job}
+use Rattle.ge_model_rows.specs.ValueRows.{Amount}
 use Rattle.ge_model_value.specs.Complexes.{opening}
 use Rattle.ge_model_report.specs.Orders.{orders_of, task_lines}
 use Rattle.ge_model_report.proofs.Samples.{some_job, some_slots, some_running, on_local, running_job, with_jobs}

@@ -1,13 +1,12 @@
 -- The lines of qstat -f, by computation.
 use Rattle.std.specs.Prelude.{◌≡◌, ℕ, List, [], ◌∷◌, codes, refl}
-use Rattle.ge_rows.specs.Opening.{default_queue, default_sched, plain_attr, bare_host}
-use Rattle.ge_rows.specs.declared.cluster.Cluster.{Cluster}
-use Rattle.ge_rows.specs.declared.commands.Listing.TheVariants.{Queues}
-use Rattle.ge_rows.specs.declared.hosts.HostRow.{HostRow}
-use Rattle.ge_rows.specs.declared.jobs.Job.{Job}
-use Rattle.ge_rows.specs.declared.queues.QueueRow.{QueueRow}
-use Rattle.ge_rows.specs.declared.values.Value.{Value}
-use Rattle.ge_rows.specs.declared.values.Value.TheVariants.{Amount, Word}
+use Rattle.ge_model_rows.specs.ClusterRows.{Cluster, default_queue, default_sched, bare_host}
+use Rattle.ge_model_rows.specs.ClusterRows.{plain_attr}
+use Rattle.ge_model_rows.specs.CommandRows.{Queues}
+use Rattle.ge_model_rows.specs.HostRows.{HostRow}
+use Rattle.ge_model_rows.specs.JobRows.{Job}
+use Rattle.ge_model_rows.specs.QueueRows.{QueueRow}
+use Rattle.ge_model_rows.specs.ValueRows.{Value, Amount, Word}
 use Rattle.ge_model_value.specs.Complexes.{opening}
 use Rattle.ge_model_report.specs.Listing.{listing_of, listings_in_full}
 use Rattle.ge_model_report.proofs.Samples.{some_slots, some_running, on_local, running_job, with_jobs}

@@ -1,10 +1,8 @@
 -- Small clusters for worked rows.
 use Rattle.std.specs.Prelude.{ℕ, false, List, [], ◌∷◌, None, codes, pos}
-use Rattle.ge_rows.specs.declared.cluster.Cluster.{Cluster}
-use Rattle.ge_rows.specs.declared.jobs.Grant.{Grant}
-use Rattle.ge_rows.specs.declared.jobs.Job.{Job}
-use Rattle.ge_rows.specs.declared.jobs.Running.{Running}
-use Rattle.ge_rows.specs.declared.tasks.TaskSpan.{TaskSpan}
+use Rattle.ge_model_rows.specs.ClusterRows.{Cluster}
+use Rattle.ge_model_rows.specs.JobRows.{Job, Running, Grant}
+use Rattle.ge_model_rows.specs.TaskRows.{TaskSpan}
 use Rattle.ge_model_value.specs.Complexes.{opening}
 
 abbrev pub some_span : ℕ → ℕ → ℕ → TaskSpan
@@ -40,6 +38,7 @@ some_job name = record {
   oticket = 0;
   words = codes "x" ∷ [];
   script = [];
+  advance = 0;
 }
 
 abbrev pub some_slots : List ℕ → List ℕ → ℕ → Grant

@@ -2,10 +2,9 @@
 use Rattle.std.specs.Prelude.{ℕ, ◌-◌, ◌==◌, List, [], ◌∷◌, map, filter, length, codes, decimal}
 use Rattle.std.specs.Fmt.{signed_decimal}
 use Rattle.ge_collections.specs.Keyed.{text_eq}
-use Rattle.ge_rows.specs.declared.accounts.Line.{Line}
-use Rattle.ge_rows.specs.declared.cluster.Cluster.{Cluster}
-use Rattle.ge_rows.specs.declared.commands.Query.{Query}
-use Rattle.ge_rows.specs.declared.commands.Query.TheVariants as query
+use Rattle.ge_model_rows.specs.AccountRows.{Line}
+use Rattle.ge_model_rows.specs.ClusterRows.{Cluster}
+use Rattle.ge_model_rows.specs.CommandRows.{Query}
 use Rattle.ge_model_value.specs.Pieces.{joined_by}
 use Rattle.ge_model_order.specs.Amounts.{cut_total}
 use Rattle.ge_model_report.specs.Grants.{worded}
@@ -31,6 +30,6 @@ sum_line name lines = worded (
 
 -- the lines of qacct in each of its forms: the sums of all, those of an owner, and each line of a job
 unfoldable pub account_of : Cluster → Query → List (List ℕ)
-account_of c query.Total = sum_line (codes "total") c.lines ∷ []
-account_of c (query.Owner name) = sum_line name (filter (λ line. text_eq line.owner name) c.lines) ∷ []
-account_of c (query.Job number) = map line_text (filter (λ line. line.job == number) c.lines)
+account_of c Query.Total = sum_line (codes "total") c.lines ∷ []
+account_of c (Query.Owner name) = sum_line name (filter (λ line. text_eq line.owner name) c.lines) ∷ []
+account_of c (Query.Job number) = map line_text (filter (λ line. line.job == number) c.lines)

@@ -1,7 +1,7 @@
 -- Grants as text: where a task runs, and with how many slots.
 use Rattle.std.specs.Prelude.{ℕ, List, ◌++◌, map, codes, decimal}
-use Rattle.ge_rows.specs.declared.hosts.InstanceId.{InstanceId}
-use Rattle.ge_rows.specs.declared.jobs.Grant.{Grant}
+use Rattle.ge_model_rows.specs.HostRows.{InstanceId}
+use Rattle.ge_model_rows.specs.JobRows.{Grant}
 use Rattle.ge_model_value.specs.Pieces.{joined_by}
 use Rattle.ge_model_order.specs.Amounts.{cut_total}
 

@@ -1,18 +1,13 @@
 -- The lines of qstat: running tasks, waiting ones and those in error, job by job.
-use Rattle.std.specs.Prelude.{ℕ, Bool, not, if◌then◌else◌, List, [], ◌∷◌, ◌++◌, map, flat_map, filter, Option, Some, None, codes, decimal}
-use Rattle.std.specs.List.{list_any}
-use Rattle.ge_rows.specs.declared.cluster.Cluster.{Cluster}
-use Rattle.ge_rows.specs.declared.jobs.Grant.{Grant}
-use Rattle.ge_rows.specs.declared.jobs.Job.{Job}
-use Rattle.ge_rows.specs.declared.jobs.PeRequest.{PeRequest}
-use Rattle.ge_rows.specs.declared.jobs.Running.{Running}
-use Rattle.ge_rows.specs.declared.tasks.TaskSpan.{TaskSpan}
+use Rattle.std.specs.Prelude.{ℕ, if◌then◌else◌, List, [], ◌∷◌, ◌++◌, map, flat_map, filter, Option, Some, None, codes, decimal}
+use Rattle.ge_model_rows.specs.ClusterRows.{Cluster}
+use Rattle.ge_model_rows.specs.JobRows.{Job, PeRequest, Running, Grant}
+use Rattle.ge_model_rows.specs.TaskRows.{TaskSpan}
 use Rattle.ge_model_text.specs.Pattern.{pattern_covers}
 use Rattle.ge_model_value.specs.Pieces.{is_empty}
-use Rattle.ge_model_tasks.specs.Sets.{filtered}
 use Rattle.ge_model_tasks.specs.Spans.{one}
 use Rattle.ge_model_tasks.specs.SetText.{set_text}
-use Rattle.ge_model_jobs.specs.Holds.{is_live_job, is_job_held, is_task_held}
+use Rattle.ge_model_jobs.specs.Holds.{is_job_held, held_tasks, free_tasks}
 use Rattle.ge_model_report.specs.Grants.{instance_text, granted_slots, worded}
 
 -- the tasks of an array; a job that is none doesn't tell its one task
@@ -48,27 +43,19 @@ abbrev pub pending_lines : ℕ → Job → List ℕ → List TaskSpan → List (
 pending_lines number job state tasks =
     if is_empty tasks then [] else job_line number job state job.submitted (codes "-") (least_slots job.request.pe) tasks ∷ []
 
--- whether an array predecessor of a job lives (qsub, -hold_jid_ad)
-abbrev pub waits_by_task : List (ℕ × Job) → Job → Bool
-waits_by_task jobs job = list_any (is_live_job jobs) job.after_each
-
 -- the waiting tasks that are held, and those that aren't: all of them where the job is held, else those that an array predecessor holds
-abbrev pub held_tasks : List (ℕ × Job) → Job → List TaskSpan
-held_tasks jobs job =
-    if is_job_held jobs job then job.queued
-    else (if waits_by_task jobs job then filtered (is_task_held jobs job) job.queued else [])
+abbrev pub held_waiting : List (ℕ × Job) → Job → List TaskSpan
+held_waiting jobs job = if is_job_held jobs job then job.queued else held_tasks jobs job
 
-abbrev pub free_tasks : List (ℕ × Job) → Job → List TaskSpan
-free_tasks jobs job =
-    if is_job_held jobs job then []
-    else (if waits_by_task jobs job then filtered (λ task. not (is_task_held jobs job task)) job.queued else job.queued)
+abbrev pub free_waiting : List (ℕ × Job) → Job → List TaskSpan
+free_waiting jobs job = if is_job_held jobs job then [] else free_tasks jobs job
 
 -- running tasks by number, then waiting ones, those that are held, and those in error
 abbrev pub job_lines : List (ℕ × Job) → ℕ × Job → List (List ℕ)
 job_lines jobs entry =
     map (running_line entry.0 entry.1) entry.1.running
-    ++ pending_lines entry.0 entry.1 (codes "qw") (free_tasks jobs entry.1)
-    ++ pending_lines entry.0 entry.1 (codes "hqw") (held_tasks jobs entry.1)
+    ++ pending_lines entry.0 entry.1 (codes "qw") (free_waiting jobs entry.1)
+    ++ pending_lines entry.0 entry.1 (codes "hqw") (held_waiting jobs entry.1)
     ++ pending_lines entry.0 entry.1 (codes "Eqw") entry.1.broken
 
 -- -u: the jobs of the owners that a pattern covers

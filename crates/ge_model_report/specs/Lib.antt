@@ -5,3 +5,4 @@ pub mod QueueLines
 pub mod Listing
 pub mod Accounting
 pub mod Orders
+pub mod Booked

@@ -1,11 +1,10 @@
 -- The lines of qstat in each of its forms.
 pub use Rattle.ge_model_report.specs.Grants.{instance_text, grants_text}
 use Rattle.std.specs.Prelude.{ℕ, ◌/◌, List, [], ◌∷◌, map, decimal}
-use Rattle.ge_rows.specs.Opening.{million}
-use Rattle.ge_rows.specs.declared.cluster.Cluster.{Cluster}
-use Rattle.ge_rows.specs.declared.commands.Listing.{Listing}
-use Rattle.ge_rows.specs.declared.commands.Listing.TheVariants as listing
-use Rattle.ge_rows.specs.declared.scheduling.Prio.{Prio}
+use Rattle.ge_model_rows.specs.ClusterRows.{Cluster}
+use Rattle.ge_model_rows.specs.CommandRows.{Listing}
+use Rattle.ge_model_rows.specs.ScheduleRows.{Prio}
+use Rattle.ge_model_rows.specs.ValueRows.{million}
 use Rattle.std.specs.Fmt.{digits}
 use Rattle.ge_model_value.specs.Values.{fixed_text}
 use Rattle.ge_model_site.specs.Groups.{members_of, expanded}
@@ -29,10 +28,10 @@ prios_listing prios = map prio_line (sorted_prios prios)
 
 -- the lines of qstat in each of its forms, at a moment and with these priorities
 unfoldable pub listing_of : Cluster → Listing → ℕ → List Prio → List (List ℕ)
-listing_of c (listing.All pattern) now prios = jobs_listing c pattern
-listing_of c (listing.One number) now prios = one_listing c number
-listing_of c listing.Queues now prios = queues_listing c now
-listing_of c listing.Prios now prios = prios_listing prios
+listing_of c (Listing.All pattern) now prios = jobs_listing c pattern
+listing_of c (Listing.One number) now prios = one_listing c number
+listing_of c Listing.Queues now prios = queues_listing c now
+listing_of c Listing.Prios now prios = prios_listing prios
 
 -- all that a row of listings computes through
 unfoldable pub listings_in_full : Unit {0}

@@ -1,23 +1,21 @@
 -- The lines of qstat -f: the queue instances.
 use Rattle.std.specs.Prelude.{ℕ, if◌then◌else◌, List, [], ◌∷◌, ◌++◌, map, Option, Some, None, codes, decimal}
 use Rattle.ge_collections.specs.Keyed.{at_text}
-use Rattle.ge_rows.specs.declared.cluster.Cluster.{Cluster}
-use Rattle.ge_rows.specs.declared.hosts.Groups.{Groups}
-use Rattle.ge_rows.specs.declared.hosts.InstanceId.{InstanceId}
-use Rattle.ge_rows.specs.declared.queues.QueueRow.{QueueRow}
-use Rattle.ge_rows.specs.declared.scheduling.Booking.{Booking}
-use Rattle.ge_rows.specs.declared.scheduling.LimitId.TheVariants.{Instance}
+use Rattle.ge_model_rows.specs.ClusterRows.{Cluster}
+use Rattle.ge_model_rows.specs.HostRows.{Groups, InstanceId}
+use Rattle.ge_model_rows.specs.QueueRows.{QueueRow}
+use Rattle.ge_model_rows.specs.ScheduleRows.{Instance, Booking}
 use Rattle.ge_model_value.specs.Complexes.{kind_for}
 use Rattle.ge_model_value.specs.Values.{amount_text}
 use Rattle.ge_model_site.specs.Groups.{expanded}
 use Rattle.ge_model_site.specs.Queues.{instances_of, slots_at}
-use Rattle.ge_model_run.specs.Bookings.{plain_sum}
+use Rattle.ge_model_bookings.specs.Bookings.{plain_sum}
 use Rattle.ge_model_place.specs.InstanceOrder.{load_at}
 use Rattle.ge_model_place.specs.Opening.{reaches_threshold}
 use Rattle.ge_model_place.specs.Windows.{base_bookings}
 use Rattle.ge_model_report.specs.Grants.{instance_text, worded}
 
--- the slots of an instance that running tasks take
+-- the slots of an instance that running tasks and advance reservations take now
 abbrev pub used_slots : List Booking → ℕ → InstanceId → ℕ
 used_slots bookings now at = plain_sum bookings (Instance at (codes "slots")) now
 
