@@ -1,6 +1,6 @@
 // Whether two limits are one.
 ghost use Rattle.std.specs.Prelude.{◌≡◌};
-ghost use Rattle.ge_model_run.specs.Bookings.{same_instance, same_filters, same_key, same_limit};
+ghost use Rattle.ge_model_bookings.specs.Bookings.{same_instance, same_filters, same_key, same_limit};
 
 use ge_rows::{InstanceId, LimitId, QuotaKey};
 
@@ -38,6 +38,7 @@ pub fn is_same_limit(a: &LimitId, b: &LimitId) -> bool
         (LimitId::Global(name), LimitId::Global(other)) => name == other,
         (LimitId::Pe(name), LimitId::Pe(other)) => name == other,
         (LimitId::Quota(a), LimitId::Quota(b)) => is_same_key(a, b),
+        (LimitId::Advance(n, a), LimitId::Advance(m, b)) => n == m && is_same_instance(a, b),
         _ => false,
     }
 }

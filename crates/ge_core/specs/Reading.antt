@@ -1,6 +1,6 @@
 -- What the private reader of commands gives.
 use Rattle.std.specs.Prelude.{◌≡◌, Option, Some, None, Result, Ok, Err}
-use Rattle.ge_rows.specs.declared.commands.Command.{Command}
+use Rattle.ge_model_rows.specs.CommandRows.{Command}
 use Rattle.ge_core.specs.declared.reading.ReadFault.{ReadFault}
 use Rattle.ge_core.specs.declared.reading.ReadFault.TheVariants.{Syntax, Memory}
 

@@ -1,8 +1,11 @@
 // Entries that are applied.
 ghost use Rattle.std.specs.Prelude.{◌≡◌, IfOk, OnOk, fold};
+ghost use Rattle.ge_core.specs.Starts.{lost_by_start, gained_by_start};
 ghost use Rattle.ge_model_cluster.specs.Applying.{with_job, is_alone, running_from, with_start, start_task, greater_serial, serial_past, with_run, changed_by, after_entry};
 
-use ge_rows::{Change, Cluster, Entry, Job, Running, Start, Table, TaskSet, TryEdit, Twin};
+use ge_rows::{
+    Change, Cluster, Entry, Job, JobMark, Running, Start, Table, TaskSet, TryEdit, Twin, task_marks,
+};
 use std::alloc::{AllocError, Global};
 
 #[tactic(auto, unfolding(ge_model_cluster::specs::Applying::with_job))]
@@ -45,9 +48,31 @@ fn new_running(alloc: Global, moment: u64, start: &Start) -> Result<Running, All
 impl TryEdit<Job> for TaskStart<'_> {
     ghost edited = { λ s job. with_start s.moment s.start.now job };
 
+    ghost lost = { λ s job. lost_by_start s.start.now job };
+
+    ghost gained = { λ s job. gained_by_start s.moment s.start.now job };
+
+    fn lost(&self, alloc: Global, job: &Job) -> Result<Vec<JobMark>, AllocError> {
+        if !is_the_only_one(self.start.task.task, &job.queued) {
+            return Ok(Vec::new(alloc));
+        }
+        match job.running.get(&self.start.task.task) {
+            Some(task) => task_marks(alloc, task),
+            None => Ok(Vec::new(alloc)),
+        }
+    }
+
+    fn gained(&self, alloc: Global, job: &Job) -> Result<Vec<JobMark>, AllocError> {
+        if !is_the_only_one(self.start.task.task, &job.queued) {
+            return Ok(Vec::new(alloc));
+        }
+        task_marks(alloc, &new_running(alloc, self.moment, self.start)?)
+    }
+
     fn try_edit(&self, alloc: Global, job: &mut Job) -> Result<(), AllocError> {
         if is_the_only_one(self.start.task.task, &job.queued) {
             let running = new_running(alloc, self.moment, self.start)?;
+            job.running.orderly();
             let _before = job.running.insert(self.start.task.task, running)?;
             job.queued = TaskSet::new(alloc);
         }

@@ -9,7 +9,6 @@
 
 mod access;
 mod applying;
-mod naming;
 mod planning;
 mod reading;
 mod refusing;

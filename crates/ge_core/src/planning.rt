@@ -9,8 +9,8 @@ use crate::refusing::refuse;
 use crate::starting::plan_run;
 use crate::submitting::plan_submission;
 use ge_base::Refusal;
-use ge_lines::is_too_long_text;
 use ge_listing::list;
+use ge_pieces::is_too_long_text;
 use ge_rows::{Cluster, Command, Event, Form, List, Listing, Planned, Reply};
 use std::alloc::{AllocError, Global};
 

@@ -5,8 +5,8 @@ ghost use Rattle.ge_model_command.specs.Words.{is_command_line, words_of, is_unq
 ghost use Rattle.ge_model_command.specs.Commands.{begins_with_dash, name_option, submission_of, alone, all_jobs, command_in, command_of};
 ghost use Rattle.ge_core.specs.Reading.{Gives};
 
-use crate::naming::is_a_job_name;
 use crate::wording::{has_no_quoted_word, is_a_command_line, words};
+use ge_pieces::is_a_job_name;
 use ge_rows::{Command, List, Listing, Options, Text, Twin};
 use std::alloc::{AllocError, Global};
 

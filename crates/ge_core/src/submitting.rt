@@ -4,20 +4,12 @@ ghost use Rattle.ge_model_plan.specs.Submit.{first_word, job_name, no_request, o
 
 use crate::refusing::{one_line, refuse};
 use ge_base::Refusal;
+use ge_limits::{COMMAND_WORDS, LAST_NUMBER, LIVE_JOBS};
 use ge_rows::{
     Change, Cluster, Entry, Event, Job, List, Options, Planned, Reply, Request, Table, TaskSet,
     TaskSpan, Text, Twin,
 };
 use std::alloc::{AllocError, Global};
-
-/// This many jobs may live.
-const JOB_LIMIT: usize = 100_000;
-
-/// The last number that a job gets.
-const LAST_JOB: u32 = 4_294_967_294;
-
-/// This many words may a command have, with its arguments.
-const WORD_LIMIT: usize = 1_024;
 
 fn name_in(items: &[(Text, List<Text>)]) -> &[u8]
     ensures { result.now ≡ job_name items.now }
@@ -34,7 +26,7 @@ fn name_in(items: &[(Text, List<Text>)]) -> &[u8]
 fn refusal_of(c: &Cluster, words: &List<Text>) -> Option<Refusal>
     ensures { result ≡ submit_refusal c.now words.now }
 {
-    if c.jobs.len() >= JOB_LIMIT || c.next_job > LAST_JOB || words.len() > WORD_LIMIT {
+    if c.jobs.len() >= LIVE_JOBS || c.next_job > LAST_NUMBER || words.len() > COMMAND_WORDS {
         Some(Refusal::Limit)
     } else {
         None
@@ -147,6 +139,7 @@ fn new_job(
         oticket: 0,
         words,
         script: Text::new(alloc),
+        advance: 0,
     })
 }
 

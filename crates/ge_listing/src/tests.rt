@@ -55,6 +55,7 @@ fn job_named(alloc: Global, name: &[u8], queued: TaskSet) -> Result<Job, AllocEr
         oticket: 0,
         words: List::new(alloc),
         script: Text::new(alloc),
+        advance: 0,
     })
 }
 

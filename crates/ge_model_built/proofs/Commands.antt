@@ -2,18 +2,16 @@
 use Rattle.std.proofs.Common.{ℕ, Bool, true, false, List, [], ◌∷◌, Option, codes}
 use Rattle.std.specs.Prelude.{IfSome, cond, ◌&&◌, not}
 use Rattle.std.specs.Str.{bytes_eq}
-use Rattle.ge_rows.specs.declared.commands.Command.{Command}
-use Rattle.ge_rows.specs.declared.commands.Command.TheVariants as command
-use Rattle.ge_rows.specs.declared.commands.Listing.TheVariants as listing
+use Rattle.ge_model_rows.specs.CommandRows.{Command, Listing}
 use Rattle.ge_model_script.specs.Names.{is_job_name}
 use Rattle.ge_model_command.specs.Words.{is_command_line, is_unquoted, words_of}
 use Rattle.ge_model_command.specs.Commands.{begins_with_dash, name_option, submission_of, alone, all_jobs, command_in, command_of}
 
 -- a submission with a name alone and no script, a run, and the list of all jobs
 pub data IsBuilt : Command → Type 0 where
-  Submission : (name : List ℕ) (words : List (List ℕ)) → IsBuilt (command.Submit (name_option name) words [])
-  ARun : IsBuilt command.Sched
-  AList : IsBuilt (command.Show (listing.All (codes "*")))
+  Submission : (name : List ℕ) (words : List (List ℕ)) → IsBuilt (Command.Submit (name_option name) words [])
+  ARun : IsBuilt Command.Sched
+  AList : IsBuilt (Command.Show (Listing.All (codes "*")))
 
 -- what a choice gives has a property, if both sides have
 chosen : (t : Bool) (x y : Option Command) → IfSome x IsBuilt → IfSome y IsBuilt → IfSome (cond t x y) IsBuilt
@@ -35,7 +33,7 @@ words_built : (words : List (List ℕ)) → IfSome (command_in words) IsBuilt
 words_built [] = tt
 words_built (verb ∷ words) =
     chosen (bytes_eq verb (codes "qsub")) _ _ (submissions_built words)
-    (chosen (bytes_eq verb (codes "sched")) _ _ (alone_built command.Sched ARun words)
+    (chosen (bytes_eq verb (codes "sched")) _ _ (alone_built Command.Sched ARun words)
     (chosen (bytes_eq verb (codes "qstat")) _ _ (alone_built all_jobs AList words) tt))
 
 -- every command of the first path's grammar

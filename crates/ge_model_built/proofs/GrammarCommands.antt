@@ -4,8 +4,7 @@ use Rattle.std.specs.Prelude.{nat_eq, not, ◌&&◌, codes}
 use Rattle.std.specs.Str.{bytes_eq}
 use Rattle.std.proofs.lemmas.Bool.{and_parts, and_from, and_left, cond-true, not-true, ne_eqb, eqb-false}
 use Rattle.std.proofs.lemmas.Slice.Eq.{bytes_eq-Decides}
-use Rattle.ge_rows.specs.declared.commands.Command.{Command}
-use Rattle.ge_rows.specs.declared.commands.Command.TheVariants.{Submit, Sched}
+use Rattle.ge_model_rows.specs.CommandRows.{Command, Submit, Sched}
 use Rattle.ge_model_script.specs.Names.{is_job_name}
 use Rattle.ge_model_command.specs.Commands.{begins_with_dash, name_option, submission_of, alone, all_jobs}
 use Rattle.ge_model_command.specs.Commands as built

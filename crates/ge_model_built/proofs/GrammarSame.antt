@@ -2,17 +2,16 @@
 use Rattle.std.proofs.Common.{◌≡◌, ℕ, Bool, true, false, List, Option, Some, None, is_some, refl, ap, ◌∙◌}
 use Rattle.std.specs.Prelude.{◌&&◌}
 use Rattle.std.proofs.lemmas.Bool.{and_parts, cond-true}
-use Rattle.ge_rows.specs.declared.commands.Command.{Command}
-use Rattle.ge_rows.specs.declared.events.Form.{Form}
-use Rattle.ge_rows.specs.declared.events.Form.TheVariants as form
+use Rattle.ge_model_rows.specs.CommandRows.{Command}
+use Rattle.ge_model_rows.specs.EventRows.{Form}
 use Rattle.ge_model_text.specs.Words.{texts_of}
 use Rattle.ge_model_value.specs.Pieces.{before_byte, behind_byte}
 use Rattle.ge_model_command.specs.Words.{words_of, is_command_line, is_unquoted}
 use Rattle.ge_model_command.specs.Commands as built
 use Rattle.ge_model_grammar.specs.Commands.{line_words, command_in, command_of}
 use Rattle.ge_model_plan.specs.Plan as first
-use Rattle.ge_model_master.specs.Built.{is_built, if_built}
-use Rattle.ge_model_master.specs.Plan.{event_command}
+use Rattle.ge_model_core.specs.Built.{is_built, if_built}
+use Rattle.ge_model_core.specs.Plan.{event_command}
 use Rattle.ge_model_built.proofs.GrammarLines.{first_line, nothing_behind}
 use Rattle.ge_model_built.proofs.GrammarWords.{texts_same}
 use Rattle.ge_model_built.proofs.GrammarCommands.{let_through, words_same}
@@ -38,7 +37,7 @@ if_built_by None whole same = refl
 if_built_by (Some command) whole same = same command refl
 
 -- a text whose command is built has the program's command
-pub built_same : (text : List ℕ) → if_built (is_built text) (event_command form.Good text) ≡ built.command_of text
+pub built_same : (text : List ℕ) → if_built (is_built text) (event_command Form.Good text) ≡ built.command_of text
 built_same text = if_built_by (built.command_of text) (command_of text) (command_same text)
 
 -- no command stays none
@@ -48,6 +47,6 @@ no_command false = refl
 
 -- the command of an event is the program's, whatever its form
 pub event_command_same : (which : Form) (text : List ℕ) → if_built (is_built text) (event_command which text) ≡ first.event_command which text
-event_command_same form.Good text = built_same text
-event_command_same form.BadHeader text = no_command (is_built text)
-event_command_same form.TooLong text = no_command (is_built text)
+event_command_same Form.Good text = built_same text
+event_command_same Form.BadHeader text = no_command (is_built text)
+event_command_same Form.TooLong text = no_command (is_built text)

@@ -1,11 +1,10 @@
 -- The listing of all jobs on a cluster that the built commands reach: the first path's lines are those of the whole model.
 use Rattle.std.proofs.Common.{◌≡◌, ℕ, true, cond, List, [], ◌∷◌, ◌++◌, Option, Some, None, refl, ap, sym, subst, ◌∙◌, append_assoc, append-nil}
 use Rattle.std.specs.Prelude.{flat_map, filter, codes, decimal}
-use Rattle.ge_rows.specs.Opening.{opening_cluster}
-use Rattle.ge_rows.specs.declared.cluster.Cluster.{Cluster}
-use Rattle.ge_rows.specs.declared.commands.Listing.TheVariants as listing
-use Rattle.ge_rows.specs.declared.jobs.Job.{Job}
-use Rattle.ge_rows.specs.declared.scheduling.Prio.{Prio}
+use Rattle.ge_model_rows.specs.ClusterRows.{Cluster, opening_cluster}
+use Rattle.ge_model_rows.specs.CommandRows.{Listing}
+use Rattle.ge_model_rows.specs.JobRows.{Job}
+use Rattle.ge_model_rows.specs.ScheduleRows.{Prio}
 use Rattle.ge_model_text.specs.Pattern.{covers, some_end, pattern_covers}
 use Rattle.ge_model_value.specs.Complexes.{opening}
 use Rattle.ge_model_report.specs.Grants.{worded}
@@ -48,13 +47,13 @@ all_lines_same jobs (b ∷ briefs) =
 
 -- the listing of all jobs
 pub listing_same : (n : Counts) (briefs : List Brief) (now : ℕ) (prios : List Prio)
-    → whole_listing.listing_of (early n briefs) (listing.All (codes "*")) now prios ≡ first.listing_of (early n briefs) (listing.All (codes "*")) now prios
+    → whole_listing.listing_of (early n briefs) (Listing.All (codes "*")) now prios ≡ first.listing_of (early n briefs) (Listing.All (codes "*")) now prios
 unfolding whole_listing.listing_of first.listing_of early opening opening_cluster
 listing_same n briefs now prios = all_lines_same (early_jobs briefs) briefs
 
 -- the listing of all jobs of a cluster that the built commands reach
 pub listing_of_early : (c : Cluster) (now : ℕ) (prios : List Prio) → IsEarly c
-    → whole_listing.listing_of c (listing.All (codes "*")) now prios ≡ first.listing_of c (listing.All (codes "*")) now prios
+    → whole_listing.listing_of c (Listing.All (codes "*")) now prios ≡ first.listing_of c (Listing.All (codes "*")) now prios
 listing_of_early c now prios is_early =
-    subst (λ (d : Cluster). whole_listing.listing_of d (listing.All (codes "*")) now prios ≡ first.listing_of d (listing.All (codes "*")) now prios) (sym is_early.same)
+    subst (λ (d : Cluster). whole_listing.listing_of d (Listing.All (codes "*")) now prios ≡ first.listing_of d (Listing.All (codes "*")) now prios) (sym is_early.same)
     (listing_same is_early.counts is_early.briefs now prios)

@@ -3,8 +3,7 @@ use Rattle.std.proofs.Common.{◌≡◌, ℕ, ◌<◌, ◌^◌, Bool, true, fals
 use Rattle.std.specs.Prelude.{IfSome, nat_lt}
 use Rattle.std.specs.List.{AllByRecursion}
 use Rattle.std.proofs.lemmas.Bool.{ltb-true}
-use Rattle.ge_rows.specs.declared.events.Event.{Event}
-use Rattle.ge_rows.specs.declared.events.Form.TheVariants.{TooLong}
+use Rattle.ge_model_rows.specs.EventRows.{Event, TooLong}
 use Rattle.ge_model_script.specs.Lines.{bare, is_too_long, lines_of, requests_of}
 use Rattle.ge_model_script.specs.Names.{is_name}
 use Rattle.ge_model_script.specs.Header.{is_decimal, decimal_value, moment_of, fields_of, field, after_field, header_of}

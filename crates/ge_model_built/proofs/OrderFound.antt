@@ -1,14 +1,12 @@
 -- The jobs of a table are found under their numbers.
-use Rattle.std.proofs.Common.{◌≡◌, Less, Equal, Greater, ℕ, zero, suc, ◌+◌, ◌<◌, ◌≤◌, Bool, true, cond, List, [], ◌∷◌, Option, Some, None, refl, ap, ◌∙◌, arith}
+use Rattle.std.proofs.Common.{◌≡◌, Less, Equal, Greater, ℕ, zero, suc, ◌+◌, ◌<◌, ◌≤◌, Bool, true, cond, List, [], ◌∷◌, Option, Some, None, take, refl, ap, ◌∙◌, arith}
 use Rattle.std.specs.Prelude.{◌==◌, if◌then◌else◌, not, is_some}
 use Rattle.std.specs.List.{AllByRecursion}
 use Rattle.std.specs.Ordering.{nat_cmp, is_eq}
 use Rattle.std.proofs.lemmas.Bool.{ne_eqb, eq-eqb, le-ltb}
 use Rattle.ge_collections.specs.Keyed.{at_number}
-use Rattle.ge_rows.specs.declared.jobs.Job.{Job}
-use Rattle.ge_model_jobs.specs.Holds.{eligible_tasks, eligible_of, free_tasks}
-use Rattle.ge_model_master.specs.Submitting.{one_task}
-use Rattle.ge_model_tasks.specs.Sets.{first_numbers}
+use Rattle.ge_model_rows.specs.JobRows.{Job}
+use Rattle.ge_model_jobs.specs.Holds.{eligible_tasks, eligible_of, free_tasks, first_tasks}
 use Rattle.ge_model_built.specs.Early.{Brief, Dispatch, early_job, early_row, early_jobs, AreRising}
 
 -- a table has the job of a brief under its number
@@ -54,17 +52,28 @@ abbrev pub waits : Brief → Bool
 waits b = not (is_some b.dispatch)
 
 -- the one task of a job that waits is free, whatever the bound
-free_task : (jobs : List (ℕ × Job)) (b : Brief) (bound : ℕ) → free_tasks jobs (early_job (record b { dispatch = None })) bound ≡ 1 ∷ []
+free_task : (jobs : List (ℕ × Job)) (b : Brief) (bound : ℕ) → first_tasks bound (free_tasks jobs (early_job (record b { dispatch = None }))) ≡ 1 ∷ []
 free_task jobs b zero = refl
-free_task jobs b (suc bound) = ap (λ none. first_numbers (λ task. true) (if none then 1 else suc bound) (one_task ∷ [])) (ne_eqb (suc bound) 0 (λ h. omega (arith, h)))
+free_task jobs b (suc bound) = ap (λ none. if none then 1 ∷ [] else 1 ∷ take bound []) (ne_eqb (suc bound) 0 (λ h. omega (arith, h))) ∙ ap (λ rest. 1 ∷ rest) (none_left bound)
+  where
+    none_left : (most : ℕ) → take {A = ℕ} most [] ≡ []
+    none_left zero = refl
+    none_left (suc most) = refl
+
+-- no task of a job that runs is free
+none_free : (jobs : List (ℕ × Job)) (b : Brief) (dispatch : Dispatch) (bound : ℕ) → first_tasks bound (free_tasks jobs (early_job (record b { dispatch = Some dispatch }))) ≡ []
+none_free jobs b dispatch zero = refl
+none_free jobs b dispatch (suc bound) = ap (λ none. if none then [] else []) (ne_eqb (suc bound) 0 (λ h. omega (arith, h)))
 
 -- a job that waits or runs has its task eligible where it waits
 eligible_by : (jobs : List (ℕ × Job)) (b : Brief) (d : Option Dispatch) (now bound : ℕ)
     → eligible_of jobs now bound (Some (early_job (record b { dispatch = d }))) ≡ (if not (is_some d) then 1 ∷ [] else [])
 eligible_by jobs b None now bound =
-    ap (λ early. if early then [] else free_tasks jobs (early_job (record b { dispatch = None })) bound) (le-ltb now 0 (omega arith))
+    ap (λ early. if early then [] else first_tasks bound (free_tasks jobs (early_job (record b { dispatch = None })))) (le-ltb now 0 (omega arith))
     ∙ free_task jobs b bound
-eligible_by jobs b (Some dispatch) now bound = ap (λ early. if early then [] else []) (le-ltb now 0 (omega arith))
+eligible_by jobs b (Some dispatch) now bound =
+    ap (λ early. if early then [] else first_tasks bound (free_tasks jobs (early_job (record b { dispatch = Some dispatch })))) (le-ltb now 0 (omega arith))
+    ∙ none_free jobs b dispatch bound
 
 -- a job that is found has its task eligible where it waits
 pub eligible_where_waiting : (jobs : List (ℕ × Job)) (b : Brief) (now bound : ℕ) → IsFound jobs b → eligible_tasks jobs b.number now bound ≡ (if waits b then 1 ∷ [] else [])

@@ -5,10 +5,10 @@ use Rattle.std.specs.List.{AllByRecursion, cons_option}
 use Rattle.std.specs.Map.{keys_of}
 use Rattle.std.proofs.lemmas.Bool.{eq-eqb}
 use native.Mathlib.Nat.{zero-div}
-use Rattle.ge_rows.specs.Opening.{opening_cluster, default_sched, million}
-use Rattle.ge_rows.specs.declared.cluster.Cluster.{Cluster}
-use Rattle.ge_rows.specs.declared.jobs.Job.{Job}
-use Rattle.ge_rows.specs.declared.scheduling.Prio.{Prio}
+use Rattle.ge_model_rows.specs.ClusterRows.{Cluster, opening_cluster, default_sched}
+use Rattle.ge_model_rows.specs.JobRows.{Job}
+use Rattle.ge_model_rows.specs.ScheduleRows.{Prio}
+use Rattle.ge_model_rows.specs.ValueRows.{million}
 use Rattle.ge_collections.specs.Keyed.{at_number}
 use Rattle.ge_model_value.specs.Complexes.{opening}
 use Rattle.ge_model_value.specs.Pieces.{is_empty}

@@ -2,9 +2,8 @@
 use Rattle.std.proofs.Common.{◌≡◌, ℕ, Bool, true, false, cond, List, [], ◌∷◌, ◌++◌, Option, Some, None, refl, ap, sym, subst, ◌∙◌, ◌+◌, arith}
 use Rattle.std.specs.Prelude.{if◌then◌else◌, not, is_some, map, flat_map}
 use Rattle.std.specs.List.{AllByRecursion}
-use Rattle.ge_rows.specs.Opening.{opening_cluster, default_sched}
-use Rattle.ge_rows.specs.declared.cluster.Cluster.{Cluster}
-use Rattle.ge_rows.specs.declared.tasks.TaskId.{TaskId}
+use Rattle.ge_model_rows.specs.ClusterRows.{Cluster, opening_cluster, default_sched}
+use Rattle.ge_model_rows.specs.TaskRows.{TaskId}
 use Rattle.ge_model_value.specs.Complexes.{opening}
 use Rattle.ge_model_order.specs.Priority.{tasks_of, order_of, prios_at, sorted_prios}
 use Rattle.ge_model_plan.specs.Sched.{dispatch_order, waiting_tasks}

@@ -5,7 +5,7 @@ use Rattle.std.specs.List.{AllByRecursion}
 use Rattle.std.specs.Ordering.{nat_cmp, match_ordering, ordering_then}
 use Rattle.std.specs.declared.cmp.Reverse.{Reverse}
 use Rattle.std.proofs.lemmas.List.{map-append}
-use Rattle.ge_rows.specs.declared.scheduling.Prio.{Prio}
+use Rattle.ge_model_rows.specs.ScheduleRows.{Prio}
 use Rattle.ge_model_order.specs.Priority.{rank_of, with_rank, sorted_prios}
 use Rattle.ge_model_built.specs.Early.{Brief, AreRising}
 use Rattle.ge_model_plan.proofs.SoundnessLists.{all_weaker, all_append}

@@ -3,16 +3,17 @@ use Rattle.std.proofs.Common.{◌≡◌, ℕ, ◌/◌, Bool, true, false, cond, 
 use Rattle.std.specs.Prelude.{◌==◌, map, max, count_by}
 use Rattle.std.specs.List.{AllByRecursion}
 use native.Mathlib.Nat.{zero-div}
-use Rattle.ge_rows.specs.Opening.{opening_cluster, default_sched}
-use Rattle.ge_rows.specs.declared.cluster.Cluster.{Cluster}
-use Rattle.ge_rows.specs.declared.jobs.Job.{Job}
+use Rattle.ge_model_rows.specs.ClusterRows.{Cluster, opening_cluster, default_sched}
+use Rattle.ge_model_rows.specs.JobRows.{Job}
 use Rattle.ge_base.specs.Fixed.{cut_sum, cut_product}
 use Rattle.ge_collections.specs.Keyed.{at_number}
 use Rattle.ge_model_value.specs.Complexes.{opening}
+use Rattle.ge_model_value.specs.Pieces.{is_empty}
 use Rattle.ge_model_order.specs.Amounts.{portion, equal_part, cut_at_64}
 use Rattle.ge_model_order.specs.Tickets.{tickets_of, tickets_at, job_tickets, all_shares, AllShares, jobs_of, is_owned_by}
-use Rattle.ge_model_order.specs.Share.{share_tickets_of, share_tickets_at, leaf_tickets}
-use Rattle.ge_model_order.specs.ShareTree.{tree_of, leaf_of}
+use Rattle.ge_model_order.specs.Share.{share_tickets_of, leaf_tickets, job_share_tickets, jobs_by_node, tickets_by_node}
+use Rattle.ge_model_order.specs.ShareTables.{places_of, leaf_below}
+use Rattle.ge_model_order.specs.ShareTree.{tree_of}
 use Rattle.ge_model_order.specs.Priority.{all_tickets_of, added_tickets}
 use Rattle.ge_model_built.specs.Early.{Brief, Counts, early, early_job, early_jobs}
 use Rattle.ge_model_built.proofs.OrderFound.{IsFound}
@@ -69,25 +70,29 @@ no_tickets_of n all briefs found = let jobs = jobs_of (early n all) (map number_
         ap (λ t. t ∷ map (tickets_at (early n all) shares jobs) (map number_of some)) (no_tickets_at n all shares jobs b here.0)
         ∙ ap (λ ts. 0 ∷ ts) (each shares jobs some here.1)
 
--- share tickets without a share tree, of a job that may not be there
-abbrev share_tickets_if : Option Job → ℕ
-share_tickets_if found = elim found [ None ↦ 0 | Some job ↦ leaf_tickets [] [] (leaf_of [] job.owner job.project) ]
-
 -- without a share tree no job has share tickets, be it there or not
-no_share_tickets : (found : Option Job) → share_tickets_if found ≡ 0
-no_share_tickets None = refl
-no_share_tickets (Some job) = refl
+no_share_tickets : (tickets jobs : List (ℕ × ℕ)) (found : Option Job) → job_share_tickets (places_of []) tickets jobs found ≡ 0
+no_share_tickets tickets jobs None = refl
+no_share_tickets tickets jobs (Some job) = by (is_empty job.project)
+  where
+    by : (none : Bool) → leaf_tickets tickets jobs (leaf_below (places_of []) (cond none None None) job.owner) ≡ 0
+    by true = refl
+    by false = refl
 
 -- share tickets of any jobs
 pub no_share_tickets_of : (n : Counts) (all briefs : List Brief) (now : ℕ) → share_tickets_of (early n all) (map number_of briefs) now ≡ map nothing_of briefs
 unfolding share_tickets_of tree_of early opening opening_cluster
-no_share_tickets_of n all briefs now = each briefs
+no_share_tickets_of n all briefs now =
+    let jobs = jobs_by_node (places_of []) (jobs_of (early n all) (map number_of briefs)) in
+    each (tickets_by_node (early n all) [] jobs []) jobs briefs
   where
-    each : (some : List Brief) → map (share_tickets_at (early n all) [] [] []) (map number_of some) ≡ map nothing_of some
-    each [] = refl
-    each (b ∷ some) =
-        ap (λ t. t ∷ map (share_tickets_at (early n all) [] [] []) (map number_of some)) (no_share_tickets (at_number (early_jobs all) b.number))
-        ∙ ap (λ ts. 0 ∷ ts) (each some)
+    each : (tickets jobs : List (ℕ × ℕ)) (some : List Brief)
+        → map (λ number. job_share_tickets (places_of []) tickets jobs (at_number (early_jobs all) number)) (map number_of some) ≡ map nothing_of some
+    each tickets jobs [] = refl
+    each tickets jobs (b ∷ some) =
+        ap (λ t. t ∷ map (λ number. job_share_tickets (places_of []) tickets jobs (at_number (early_jobs all) number)) (map number_of some))
+        (no_share_tickets tickets jobs (at_number (early_jobs all) b.number))
+        ∙ ap (λ ts. 0 ∷ ts) (each tickets jobs some)
 
 -- nothing and nothing is nothing
 none_added : (briefs : List Brief) → added_tickets (map nothing_of briefs) (map nothing_of briefs) ≡ map nothing_of briefs

@@ -2,7 +2,8 @@
 use Rattle.std.proofs.Common.{◌≡◌, ℕ, ◌*◌, List, [], ◌∷◌, refl, ap, sym, ◌∙◌, arith}
 use Rattle.std.specs.Prelude.{◌^◌, ◌-◌, map, min, max, fold}
 use native.Mathlib.Nat.{zero-mul}
-use Rattle.ge_rows.specs.Opening.{opening_cluster, default_sched, million}
+use Rattle.ge_model_rows.specs.ClusterRows.{opening_cluster, default_sched}
+use Rattle.ge_model_rows.specs.ValueRows.{million}
 use Rattle.ge_base.specs.Fixed.{cut_sum}
 use Rattle.ge_model_value.specs.Complexes.{opening, opening_complexes}
 use Rattle.ge_model_order.specs.Amounts.{greatest, least}

@@ -3,24 +3,20 @@
 use Rattle.std.proofs.Common.{◌≡◌, ◌<◌, Bool, true, false, [], Option, Some, None, refl, sym, ap, ◌∙◌, codes, cond, ◌||◌}
 use Rattle.std.specs.Prelude.{IfSome, nat_lt}
 use Rattle.ge_base.specs.declared.refusal.Refusal.TheVariants.{TooLong, TimeBack}
-use Rattle.ge_rows.specs.declared.cluster.Cluster.{Cluster}
-use Rattle.ge_rows.specs.declared.entries.Entry.{Entry}
-use Rattle.ge_rows.specs.declared.events.Event.{Event}
-use Rattle.ge_rows.specs.declared.events.Form.{Form}
-use Rattle.ge_rows.specs.declared.events.Form.TheVariants as form
-use Rattle.ge_rows.specs.declared.commands.Command.{Command}
-use Rattle.ge_rows.specs.declared.commands.Listing.TheVariants as listing
-use Rattle.ge_rows.specs.declared.planned.Planned.{Planned}
-use Rattle.ge_model_run.specs.Bookings.{forever}
+use Rattle.ge_model_rows.specs.ClusterRows.{Cluster}
+use Rattle.ge_model_rows.specs.CommandRows.{Command, Listing}
+use Rattle.ge_model_rows.specs.EntryRows.{Entry}
+use Rattle.ge_model_rows.specs.EventRows.{Event, Form, Planned}
+use Rattle.ge_model_bookings.specs.Bookings.{forever}
 use Rattle.ge_model_script.specs.Lines.{is_too_long}
 use Rattle.ge_model_plan.specs.Refusals.{refused}
 use Rattle.ge_model_listing.specs.Listing as first_listing
 use Rattle.ge_model_plan.specs.Plan as first
 use Rattle.ge_model_plan.specs.Trace as first_trace
-use Rattle.ge_model_master.specs.Plan as whole
-use Rattle.ge_model_master.specs.Showing.{show_plan}
-use Rattle.ge_model_master.specs.Built.{built_plan_of}
-use Rattle.ge_model_master.specs.Trace as whole_trace
+use Rattle.ge_model_core.specs.Plan as whole
+use Rattle.ge_model_core.specs.Showing.{show_plan}
+use Rattle.ge_model_core.specs.Built.{built_plan_of}
+use Rattle.ge_model_core.specs.Trace as whole_trace
 use Rattle.ge_model_built.specs.Early.{IsEarly}
 use Rattle.ge_model_built.proofs.Commands.{IsBuilt, Submission, ARun, AList, commands_built}
 use Rattle.ge_model_built.proofs.GrammarSame.{event_command_same}
@@ -41,7 +37,7 @@ from_kept c planned None is kept = record { same = refl; early = is }
 from_kept c planned (Some entry) is kept = record { same = sym kept.0; early = kept.1 }
 
 module _ (c : Cluster) (e : Event) (is : IsEarly c) where
-  list_same : first.shown (first_listing.listing_of c (listing.All (codes "*")) e.moment []) ≡ show_plan c e (listing.All (codes "*"))
+  list_same : first.shown (first_listing.listing_of c (Listing.All (codes "*")) e.moment []) ≡ show_plan c e (Listing.All (codes "*"))
   unfolding show_plan
   list_same = ap first.shown (sym (listing_of_early c e.moment [] is))
 
@@ -70,9 +66,9 @@ module _ (c : Cluster) (e : Event) (is : IsEarly c) where
 
   -- the command of an event is one that is built
   event_built : (which : Form) → IfSome (first.event_command which e.text) IsBuilt
-  event_built form.Good = commands_built e.text
-  event_built form.BadHeader = tt
-  event_built form.TooLong = tt
+  event_built Form.Good = commands_built e.text
+  event_built Form.BadHeader = tt
+  event_built Form.TooLong = tt
 
   -- in an early cluster the plan is the whole model's, by the commands that are built
   pub plan_same : e.moment < forever → first.plan_of c e ≡ built_plan_of c e

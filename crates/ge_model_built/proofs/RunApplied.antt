@@ -3,10 +3,11 @@ use Rattle.std.proofs.Common.{◌≡◌, ℕ, ◌+◌, ◌<◌, Bool, true, fals
 use Rattle.std.specs.List.{AllByRecursion}
 use Rattle.std.specs.BTreeMap.{is_at}
 use Rattle.ge_collections.specs.Changed.{change_value}
-use Rattle.ge_rows.specs.declared.cluster.Cluster.{Cluster}
-use Rattle.ge_rows.specs.declared.entries.Change.TheVariants.{Run}
-use Rattle.ge_rows.specs.declared.jobs.Job.{Job}
-use Rattle.ge_rows.specs.declared.scheduling.Start.{Start}
+use Rattle.ge_model_rows.specs.ClusterRows.{Cluster}
+use Rattle.ge_model_rows.specs.EntryRows.{Run}
+use Rattle.ge_model_rows.specs.JobRows.{Job}
+use Rattle.ge_model_rows.specs.ScheduleRows.{Start}
+use Rattle.ge_model_value.specs.Complexes.{opening}
 use Rattle.ge_model_cluster.specs.Applying as first
 use Rattle.ge_model_jobs.specs.Applying as whole
 use Rattle.ge_model_jobs.specs.Starting as starting
@@ -101,7 +102,7 @@ module _ (moment : ℕ) where
   -- so is the whole model's
   pub whole-after_run : (n : Counts) (briefs : List Brief) (starts : List Start) → AllByRecursion IsOne starts
       → whole.after_entry (early n briefs) (record { moment = moment; change = Run starts }) ≡ early (run_counts moment n starts) (run_briefs moment briefs starts)
-  unfolding whole.after_entry whole.after_change starting.with_run early
+  unfolding whole.after_entry whole.after_change starting.with_run early opening
   whole-after_run n briefs starts are =
       ap₂ (λ serial jobs. record (early (run_counts moment n starts) []) { next_serial = serial; jobs = jobs }) (same_serial_past n.next_serial starts) (whole-jobs starts are briefs)
 

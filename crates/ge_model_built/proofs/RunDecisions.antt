@@ -4,14 +4,11 @@ use mathlib.Core.Path.{fun_ext}
 use Rattle.std.specs.Prelude.{nat_lt}
 use Rattle.std.specs.List.{AllByRecursion}
 use Rattle.std.proofs.lemmas.Bool.{cond_both}
-use Rattle.ge_rows.specs.Parts.{start_of}
-use Rattle.ge_rows.specs.declared.jobs.Grant.{Grant}
-use Rattle.ge_rows.specs.declared.scheduling.Booking.{Booking}
-use Rattle.ge_rows.specs.declared.scheduling.Decision.{Decision}
-use Rattle.ge_rows.specs.declared.scheduling.Decision.TheVariants as decision
-use Rattle.ge_rows.specs.declared.scheduling.Start.{Start}
-use Rattle.ge_rows.specs.declared.tasks.TaskId.{TaskId}
-use Rattle.ge_model_run.specs.Bookings.{forever}
+use Rattle.ge_model_rows.specs.DecisionRows.{Decision, start_of}
+use Rattle.ge_model_rows.specs.JobRows.{Grant}
+use Rattle.ge_model_rows.specs.ScheduleRows.{Booking, Start}
+use Rattle.ge_model_rows.specs.TaskRows.{TaskId}
+use Rattle.ge_model_bookings.specs.Bookings.{forever}
 use Rattle.ge_model_run.specs.Placing as first
 use Rattle.ge_model_run.specs.Running as run
 use Rattle.ge_model_place.specs.Running as whole
@@ -23,9 +20,9 @@ use Rattle.ge_model_built.proofs.RunBookings.{IsPlain, same_base_bookings, same_
 
 -- a decision that starts a task
 same_start : (d : Decision) → whole.is_start d ≡ run.is_start d
-same_start (decision.Start start) = refl
-same_start (decision.Reserve kept) = refl
-same_start (decision.Skip task) = refl
+same_start (Decision.Start start) = refl
+same_start (Decision.Reserve kept) = refl
+same_start (Decision.Skip task) = refl
 
 module _ (n : Counts) (briefs : List Brief) where
   -- no task is held back by how many of its owner run
@@ -61,8 +58,8 @@ module _ (n : Counts) (briefs : List Brief) (now : ℕ) where
       by : (placed : Option (List Grant)) → ((grants : List Grant) → placed ≡ Some grants → (grants ≡ the_grants) × (is_some (brief_at briefs task.job) ≡ true))
           → IsPlain briefs (run.decision_with task (run.serial_after (early n briefs) decisions) placed)
       by None is = tt
-      by (Some grants) is = cond_both (nat_lt run.last_serial (run.serial_after (early n briefs) decisions)) (decision.Skip task)
-          (decision.Start (record { task = task; serial = run.serial_after (early n briefs) decisions; grants = grants })) (λ d. IsPlain briefs d) (λ e. tt) (λ e. is grants refl)
+      by (Some grants) is = cond_both (nat_lt run.last_serial (run.serial_after (early n briefs) decisions)) (Decision.Skip task)
+          (Decision.Start (record { task = task; serial = run.serial_after (early n briefs) decisions; grants = grants })) (λ d. IsPlain briefs d) (λ e. tt) (λ e. is grants refl)
 
   -- the decisions of these tasks have what each of them has
   decided_all : (P : TaskId → Type 0) (Q : Decision → Type 0) → ((bookings : List Booking) (decisions : List Decision) (task : TaskId) → P task → Q (run.decision_of (early n briefs) now bookings decisions task))
@@ -75,9 +72,9 @@ module _ (n : Counts) (briefs : List Brief) (now : ℕ) where
 
   -- a start of a task with the property
   abbrev IsStartOf : (TaskId → Type 0) → Decision → Type 0
-  IsStartOf P (decision.Start start) = P start.task
-  IsStartOf P (decision.Reserve kept) = Unit {0}
-  IsStartOf P (decision.Skip task) = Unit {0}
+  IsStartOf P (Decision.Start start) = P start.task
+  IsStartOf P (Decision.Reserve kept) = Unit {0}
+  IsStartOf P (Decision.Skip task) = Unit {0}
 
   -- a decision starts its task, if any
   starts_task : (P : TaskId → Type 0) (bookings : List Booking) (decisions : List Decision) (task : TaskId) → P task → IsStartOf P (run.decision_of (early n briefs) now bookings decisions task)
@@ -85,15 +82,15 @@ module _ (n : Counts) (briefs : List Brief) (now : ℕ) where
     where
       by : (placed : Option (List Grant)) → IsStartOf P (run.decision_with task (run.serial_after (early n briefs) decisions) placed)
       by None = tt
-      by (Some grants) = cond_both (nat_lt run.last_serial (run.serial_after (early n briefs) decisions)) (decision.Skip task)
-          (decision.Start (record { task = task; serial = run.serial_after (early n briefs) decisions; grants = grants })) (λ d. IsStartOf P d) (λ e. tt) (λ e. has)
+      by (Some grants) = cond_both (nat_lt run.last_serial (run.serial_after (early n briefs) decisions)) (Decision.Skip task)
+          (Decision.Start (record { task = task; serial = run.serial_after (early n briefs) decisions; grants = grants })) (λ d. IsStartOf P d) (λ e. tt) (λ e. has)
 
   -- the starts of decisions that are plain and start such tasks
   started_so : (P : TaskId → Type 0) (decisions : List Decision) → AllByRecursion (λ d. IsPlain briefs d × IsStartOf P d) decisions → AllByRecursion (IsStartIn briefs P) (filter_map start_of decisions)
   started_so P [] all = tt
-  started_so P (decision.Start start ∷ decisions) all = (record { granted = all.0.0.0; there = all.0.0.1; of_task = all.0.1 }, started_so P decisions all.1)
-  started_so P (decision.Reserve kept ∷ decisions) all = absurd all.0.0
-  started_so P (decision.Skip task ∷ decisions) all = started_so P decisions all.1
+  started_so P (Decision.Start start ∷ decisions) all = (record { granted = all.0.0.0; there = all.0.0.1; of_task = all.0.1 }, started_so P decisions all.1)
+  started_so P (Decision.Reserve kept ∷ decisions) all = absurd all.0.0
+  started_so P (Decision.Skip task ∷ decisions) all = started_so P decisions all.1
 
   -- nothing is asked of these tasks
   nothing_asked : (tasks : List TaskId) → AllByRecursion (λ task. Unit {0}) tasks

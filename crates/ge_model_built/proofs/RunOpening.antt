@@ -1,12 +1,12 @@
 -- What both ways to place a task find in the clusters that the built commands reach: one instance of two slots, open to each job.
-use Rattle.std.specs.Prelude.{◌≡◌, ℕ, true, List, [], ◌∷◌, refl}
-use Rattle.ge_rows.specs.Opening.{infinity}
-use Rattle.ge_rows.specs.declared.hosts.Groups.{Groups}
-use Rattle.ge_rows.specs.declared.scheduling.Demand.{Demand}
+use Rattle.std.specs.Prelude.{◌≡◌, ℕ, true, false, List, [], ◌∷◌, refl}
+use Rattle.ge_model_rows.specs.HostRows.{Groups}
+use Rattle.ge_model_rows.specs.ScheduleRows.{Demand}
+use Rattle.ge_model_rows.specs.ValueRows.{infinity}
 use Rattle.ge_model_value.specs.Complexes.{opening}
 use Rattle.ge_model_site.specs.Groups.{expanded}
 use Rattle.ge_model_site.specs.Queues.{instances_of, resolved}
-use Rattle.ge_model_run.specs.Bookings.{forever, window_end}
+use Rattle.ge_model_bookings.specs.Bookings.{forever, window_end}
 use Rattle.ge_model_run.specs.Placing as first
 use Rattle.ge_model_place.specs.InstanceOrder.{instance_order}
 use Rattle.ge_model_place.specs.Limits.{Counted, counted_at, demands_of}
@@ -20,7 +20,7 @@ no_groups = record { hosts = [] }
 
 -- the limit of the instance's slots, of which there are two, and each slot of a task counts one
 abbrev pub two_slots : Counted
-two_slots = record { limit = first.slots_limit the_instance; capacity = 2; amount = 1 }
+two_slots = record { limit = first.slots_limit the_instance; capacity = 2; amount = 1; once = false }
 
 -- what a task asks of it
 abbrev pub one_demand : List Demand
@@ -46,6 +46,11 @@ module _ (n : Counts) (briefs : List Brief) where
   pub early-maxujobs : (early n briefs).sched.maxujobs ≡ 0
   unfolding early opening
   early-maxujobs = refl
+
+  -- there are no advance reservations
+  pub early-advances : (early n briefs).advances ≡ []
+  unfolding early opening
+  early-advances = refl
 
   -- there are no groups
   pub early-expanded : expanded (early n briefs) ≡ no_groups

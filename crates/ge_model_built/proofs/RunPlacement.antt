@@ -4,17 +4,17 @@ use Rattle.std.specs.Prelude.{◌&&◌, nat_le}
 use Rattle.std.specs.BTreeMap.{is_at}
 use Rattle.std.specs.Ordering.{nat_cmp}
 use Rattle.ge_collections.specs.Keyed.{at_number}
-use Rattle.ge_rows.specs.declared.jobs.Grant.{Grant}
-use Rattle.ge_rows.specs.declared.queues.Allocation.TheVariants.{FillUp}
-use Rattle.ge_rows.specs.declared.scheduling.Booking.{Booking}
-use Rattle.ge_rows.specs.declared.tasks.TaskId.{TaskId}
-use Rattle.ge_model_run.specs.Bookings.{forever, peak}
+use Rattle.ge_model_rows.specs.JobRows.{Grant}
+use Rattle.ge_model_rows.specs.PeRows.{FillUp}
+use Rattle.ge_model_rows.specs.ScheduleRows.{Booking}
+use Rattle.ge_model_rows.specs.TaskRows.{TaskId}
+use Rattle.ge_model_bookings.specs.Bookings.{forever, peak}
 use Rattle.ge_model_run.specs.Placing as first
 use Rattle.ge_model_site.specs.Groups.{expanded}
 use Rattle.ge_model_place.specs.InstanceOrder.{instance_order}
-use Rattle.ge_model_place.specs.Placement.{Cell, cell_of, granted, everywhere, filled, spread, job_placement, placement}
+use Rattle.ge_model_place.specs.Placement.{Cell, cell_of, granted, everywhere, filled, spread, placement_of, job_placement, placement}
 use Rattle.ge_model_built.specs.Early.{Counts, Brief, the_instance, the_grants, early_job, early_jobs, early}
-use Rattle.ge_model_built.proofs.RunOpening.{no_groups, two_slots, early-expanded, early-instance_order, early-instances, early-slots_at, early-is_open, early-counted_at, early-duration_of, early-first_duration_of}
+use Rattle.ge_model_built.proofs.RunOpening.{no_groups, two_slots, early-expanded, early-instance_order, early-instances, early-slots_at, early-advances, early-is_open, early-counted_at, early-duration_of, early-first_duration_of}
 
 -- the grants where the instance takes a slot
 abbrev pub if_free : Bool → Option (List Grant)
@@ -54,10 +54,11 @@ booked bookings from = peak bookings (first.slots_limit the_instance) from forev
 module _ (n : Counts) (briefs : List Brief) (bookings : List Booking) (from : ℕ) where
   -- the instance before a slot is given
   early-cell_of : (b : Brief) → from < forever → cell_of (early n briefs) no_groups (early_job b) bookings from the_instance ≡ the_cell (booked bookings from)
-  early-cell_of b before = rw (early-is_open n briefs b, early-counted_at n briefs b, early-duration_of n briefs b, lt-ltb from forever before) refl
+  early-cell_of b before = rw (early-is_open n briefs b, early-counted_at n briefs b, early-duration_of n briefs b, early-advances n briefs, lt-ltb from forever before) refl
 
   -- where a job is placed
   whole_placed : (b : Brief) → from < forever → job_placement (early n briefs) no_groups (the_instance ∷ []) bookings from (Some (early_job b)) ≡ if_free (nat_le (booked bookings from + 1) 2)
+  unfolding placement_of
   whole_placed b before = ap (λ cell. granted 1 (spread FillUp 1 (cell ∷ []))) (early-cell_of b before) ∙ granted_one (booked bookings from)
 
   -- where the first path places it

@@ -3,14 +3,12 @@ use Rattle.std.proofs.Common.{◌≡◌, ℕ, ◌<◌, Bool, true, false, not, L
 use Rattle.std.specs.List.{AllByRecursion}
 use Rattle.ge_base.specs.declared.refusal.Refusal.{Refusal}
 use Rattle.ge_base.specs.declared.refusal.Refusal.TheVariants.{NotPermitted}
-use Rattle.ge_rows.specs.Parts.{start_of}
-use Rattle.ge_rows.specs.declared.cluster.Cluster.{Cluster}
-use Rattle.ge_rows.specs.declared.events.Event.{Event}
-use Rattle.ge_rows.specs.declared.scheduling.Decision.{Decision}
-use Rattle.ge_rows.specs.declared.scheduling.Decision.TheVariants as decision
-use Rattle.ge_rows.specs.declared.scheduling.Start.{Start}
-use Rattle.ge_rows.specs.declared.tasks.TaskId.{TaskId}
-use Rattle.ge_model_run.specs.Bookings.{forever}
+use Rattle.ge_model_rows.specs.ClusterRows.{Cluster}
+use Rattle.ge_model_rows.specs.DecisionRows.{Decision, start_of}
+use Rattle.ge_model_rows.specs.EventRows.{Event}
+use Rattle.ge_model_rows.specs.ScheduleRows.{Start}
+use Rattle.ge_model_rows.specs.TaskRows.{TaskId}
+use Rattle.ge_model_bookings.specs.Bookings.{forever}
 use Rattle.ge_model_run.specs.Running as run
 use Rattle.ge_model_place.specs.Running as placing
 use Rattle.ge_model_order.specs.Priority.{prios_at, order_of}
@@ -19,8 +17,8 @@ use Rattle.ge_model_plan.specs.Refusals.{first_refusal, unless_refused}
 use Rattle.ge_model_value.specs.Faults.{first_fault, when}
 use Rattle.ge_model_plan.specs.Sched as first
 use Rattle.ge_model_plan.specs.Trace as trace
-use Rattle.ge_model_master.specs.Scheduling as whole
-use Rattle.ge_model_master.specs.Trace as whole_trace
+use Rattle.ge_model_core.specs.Scheduling as whole
+use Rattle.ge_model_core.specs.Trace as whole_trace
 use Rattle.ge_model_built.specs.Early.{Counts, Brief, Dispatch, the_grants, early_row, early_jobs, early, waiting_of, IsEarly}
 use Rattle.ge_model_built.proofs.RunBookings.{IsPlain}
 use Rattle.ge_model_built.proofs.RunDecisions.{same_run_of, run_plain, run_starts}
@@ -37,9 +35,9 @@ same_line s is = rw is (line_joined (codes "start " ++ decimal s.serial) (decima
 -- the lines of decisions that are plain
 same_lines : (briefs : List Brief) (decisions : List Decision) → AllByRecursion (IsPlain briefs) decisions → flat_map whole.decision_lines decisions ≡ map first.start_line (filter_map start_of decisions)
 same_lines briefs [] all = refl
-same_lines briefs (decision.Start start ∷ decisions) all = ap₂ (λ line lines. line ∷ lines) (same_line start all.0.0) (same_lines briefs decisions all.1)
-same_lines briefs (decision.Reserve kept ∷ decisions) all = absurd all.0
-same_lines briefs (decision.Skip task ∷ decisions) all = same_lines briefs decisions all.1
+same_lines briefs (Decision.Start start ∷ decisions) all = ap₂ (λ line lines. line ∷ lines) (same_line start all.0.0) (same_lines briefs decisions all.1)
+same_lines briefs (Decision.Reserve kept ∷ decisions) all = absurd all.0
+same_lines briefs (Decision.Skip task ∷ decisions) all = same_lines briefs decisions all.1
 
 -- only a manager may make a run
 same_refusal : (allowed : Bool) → first_fault (when (not allowed) NotPermitted) ≡ first_refusal ((not allowed, NotPermitted) ∷ [])

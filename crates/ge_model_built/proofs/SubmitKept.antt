@@ -7,12 +7,10 @@ use Rattle.std.proofs.lemmas.List.{map-append}
 use Rattle.ge_base.specs.declared.refusal.Refusal.{Refusal}
 use Rattle.ge_base.specs.declared.refusal.Refusal.TheVariants.{Limit}
 use Rattle.ge_collections.specs.Keyed.{put_number}
-use Rattle.ge_rows.specs.declared.cluster.Cluster.{Cluster}
-use Rattle.ge_rows.specs.declared.entries.Change.TheVariants.{Submit}
-use Rattle.ge_rows.specs.declared.entries.Entry.{Entry}
-use Rattle.ge_rows.specs.declared.events.Event.{Event}
-use Rattle.ge_rows.specs.declared.jobs.Job.{Job}
-use Rattle.ge_rows.specs.declared.planned.Planned.{Planned}
+use Rattle.ge_model_rows.specs.ClusterRows.{Cluster}
+use Rattle.ge_model_rows.specs.EntryRows.{Entry, Submit}
+use Rattle.ge_model_rows.specs.EventRows.{Event, Planned}
+use Rattle.ge_model_rows.specs.JobRows.{Job}
 use Rattle.ge_model_cluster.specs.Applying as first_applying
 use Rattle.ge_model_jobs.specs.Altering as whole_altering
 use Rattle.ge_model_jobs.specs.Applying as whole_applying

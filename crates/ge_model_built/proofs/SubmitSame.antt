@@ -2,18 +2,18 @@
 use Rattle.std.proofs.Common.{◌≡◌, ℕ, Bool, true, false, List, [], ◌∷◌, ◌++◌, None, length, sum_by, refl, ap, sym, subst, ◌∙◌, append_assoc}
 use Rattle.std.specs.Prelude.{◌+◌, ◌||◌, nat_lt, nat_le, codes, decimal}
 use Rattle.ge_base.specs.declared.refusal.Refusal.TheVariants.{Limit}
-use Rattle.ge_rows.specs.Opening.{opening_cluster}
-use Rattle.ge_rows.specs.declared.cluster.Cluster.{Cluster}
-use Rattle.ge_rows.specs.declared.events.Event.{Event}
-use Rattle.ge_rows.specs.declared.entries.Change.TheVariants.{Submit}
+use Rattle.ge_model_rows.specs.ClusterRows.{Cluster, opening_cluster}
+use Rattle.ge_model_rows.specs.EntryRows.{Submit}
+use Rattle.ge_model_rows.specs.EventRows.{Event}
 use Rattle.ge_model_plan.specs.Refusals.{first_refusal, unless_refused}
 use Rattle.ge_model_plan.specs.Submit as first
 use Rattle.ge_model_value.specs.Complexes.{opening}
 use Rattle.ge_model_value.specs.Faults.{when, first_fault}
 use Rattle.ge_model_config.specs.Requests.{request_of}
-use Rattle.ge_model_master.specs.Answers.{changed}
-use Rattle.ge_model_master.specs.JobOptions.{option_faults}
-use Rattle.ge_model_master.specs.Submitting as whole
+use Rattle.ge_model_core.specs.Answers.{changed}
+use Rattle.ge_model_core.specs.JobAdvances.{join_faults}
+use Rattle.ge_model_core.specs.JobOptions.{option_faults}
+use Rattle.ge_model_core.specs.Submitting as whole
 use Rattle.ge_model_built.specs.Early.{Brief, Counts, IsEarly, early, early_job, early_jobs}
 use Rattle.ge_model_built.proofs.SubmitSizes.{scripts_within, tasks_within}
 
@@ -69,11 +69,11 @@ faults_of_size n briefs e name words = refl
 
 -- the first refusal of the whole model is the one of the first path
 faults_same : (n : Counts) (briefs : List Brief) (e : Event) (name : List ℕ) (words : List (List ℕ))
-    → first_fault (option_faults (early n briefs) e (named name) (whole.submitter e (named name)) ++ whole.size_faults (early n briefs) (whole.tasks_of (named name)) words [])
+    → first_fault (option_faults (early n briefs) e (named name) (whole.submitter e (named name)) ++ join_faults (early n briefs) e (named name) ++ whole.size_faults (early n briefs) (whole.tasks_of (named name)) words [])
     ≡ first.submit_refusal (early n briefs) words
 unfolding early
 faults_same n briefs e name words =
-    ap (λ faults. first_fault (faults ++ whole.size_faults (early n briefs) (whole.tasks_of (named name)) words [])) (no_option_faults (early n briefs) e name)
+    ap (λ faults. first_fault (faults ++ join_faults (early n briefs) e (named name) ++ whole.size_faults (early n briefs) (whole.tasks_of (named name)) words [])) (no_option_faults (early n briefs) e name)
     ∙ ap first_fault (faults_of_size n briefs e name words)
     ∙ refusals_same (nat_le 100000 (length (early_jobs briefs))) (nat_lt 4294967294 n.next_job) (nat_lt 1024 (length words)) _ _ (scripts_within briefs) (tasks_within briefs)
 

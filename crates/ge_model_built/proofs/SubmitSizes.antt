@@ -3,7 +3,7 @@ use Rattle.std.proofs.Common.{◌≡◌, ◌+◌, ◌<◌, false, List, [], ◌�
 use Rattle.std.specs.Prelude.{nat_lt, nat_le}
 use Rattle.std.proofs.lemmas.Bool.{le-ltb, leb-false}
 use Rattle.std.proofs.lemmas.List.Sums.{sum_by-cons}
-use Rattle.ge_model_master.specs.Submitting.{live_count, script_length}
+use Rattle.ge_model_core.specs.Submitting.{live_count, script_length}
 use Rattle.ge_model_built.specs.Early.{Dispatch, Brief, early_row, early_jobs}
 
 -- a job has one live task, be it that it waits or runs

@@ -1,17 +1,15 @@
 -- A script's output by the first path's plan is its output by the whole model's plan of the commands that are built.
 use Rattle.std.proofs.Common.{◌≡◌, ℕ, Bool, true, false, List, [], ◌∷◌, ◌++◌, Option, refl, sym, subst, ap, ◌∙◌, arith}
 use Rattle.std.specs.List.{AllByRecursion}
-use Rattle.ge_rows.specs.Opening.{opening_cluster}
-use Rattle.ge_rows.specs.declared.cluster.Cluster.{Cluster}
-use Rattle.ge_rows.specs.declared.events.Event.{Event}
-use Rattle.ge_rows.specs.declared.planned.Planned.{Planned}
+use Rattle.ge_model_rows.specs.ClusterRows.{Cluster, opening_cluster}
+use Rattle.ge_model_rows.specs.EventRows.{Event, Planned}
 use Rattle.ge_outside.specs.Streams.{Gains, GainsPrefix}
 use Rattle.ge_model_script.specs.Events.{events_of}
 use Rattle.ge_model_plan.specs.Render.{rendered}
 use Rattle.ge_model_plan.specs.Trace as first
 use Rattle.ge_model_value.specs.Complexes.{opening}
-use Rattle.ge_model_master.specs.Built.{built_plan_of}
-use Rattle.ge_model_master.specs.Trace as whole
+use Rattle.ge_model_core.specs.Built.{built_plan_of}
+use Rattle.ge_model_core.specs.Trace as whole
 use Rattle.ge_model_built.specs.Early.{Counts, IsEarly, early}
 use Rattle.ge_model_built.proofs.Moments.{IsSoon, events_soon}
 use Rattle.ge_model_built.proofs.PlansSame.{StaysEarly, plan_same, plan_stays}

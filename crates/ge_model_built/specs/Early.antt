@@ -2,14 +2,13 @@
 -- waiting or running on the one queue instance.
 use Rattle.std.specs.Prelude.{◌≡◌, ℕ, ◌+◌, ◌<◌, pos, false, List, [], ◌∷◌, map, Option, Some, None, codes}
 use Rattle.std.specs.List.{AllByRecursion}
-use Rattle.ge_rows.specs.declared.cluster.Cluster.{Cluster}
-use Rattle.ge_rows.specs.declared.hosts.InstanceId.{InstanceId}
-use Rattle.ge_rows.specs.declared.jobs.Grant.{Grant}
-use Rattle.ge_rows.specs.declared.jobs.Job.{Job}
-use Rattle.ge_rows.specs.declared.jobs.Running.{Running}
-use Rattle.ge_rows.specs.declared.tasks.TaskSpan.{TaskSpan}
+use Rattle.ge_model_rows.specs.ClusterRows.{Cluster}
+use Rattle.ge_model_rows.specs.HostRows.{InstanceId}
+use Rattle.ge_model_rows.specs.JobRows.{Job, Running, Grant}
+use Rattle.ge_model_rows.specs.TaskRows.{TaskSpan}
 use Rattle.ge_model_value.specs.Complexes.{opening}
-use Rattle.ge_model_master.specs.Submitting.{no_request, one_task}
+use Rattle.ge_model_core.specs.JobAdvances.{no_request}
+use Rattle.ge_model_core.specs.Submitting.{one_task}
 
 -- a dispatch: its serial and the moment when it started
 pub record Dispatch : Type 0 where
@@ -69,6 +68,7 @@ early_job b = record {
   oticket = 0;
   words = b.words;
   script = [];
+  advance = 0;
 }
 
 abbrev pub early_row : Brief → ℕ × Job

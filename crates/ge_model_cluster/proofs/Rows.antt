@@ -3,12 +3,10 @@ use Rattle.std.proofs.Common.{◌≡◌, ℕ, Bool, true, false, List, [], ◌�
 use Rattle.std.specs.Prelude.{◌==◌, ◌||◌, codes, pos}
 use Rattle.std.specs.List.{IsDistinct}
 use Rattle.std.proofs.lemmas.Bool.{true≢false, false≢true, eqb-true}
-use Rattle.ge_rows.specs.Opening.{opening_cluster}
-use Rattle.ge_rows.specs.declared.cluster.Cluster.{Cluster}
-use Rattle.ge_rows.specs.declared.jobs.Job.{Job}
-use Rattle.ge_rows.specs.declared.jobs.Running.{Running}
-use Rattle.ge_rows.specs.declared.tasks.TaskSpan.{TaskSpan}
-use Rattle.ge_model_cluster.specs.Soundness.{IsSound, is_in_span}
+use Rattle.ge_model_rows.specs.ClusterRows.{Cluster, opening_cluster}
+use Rattle.ge_model_rows.specs.JobRows.{Job, Running, Advance}
+use Rattle.ge_model_rows.specs.TaskRows.{TaskSpan}
+use Rattle.ge_model_cluster.specs.Soundness.{IsSound, IsBooked, is_in_span}
 
 abbrev span : ℕ → ℕ → ℕ → TaskSpan
 span first last step = record { first = first; last = last; step = step }
@@ -56,6 +54,7 @@ job queued running = record {
   oticket = 0;
   words = [];
   script = [];
+  advance = 0;
 }
 
 -- a task that runs with a serial since 20
@@ -76,7 +75,7 @@ one_or_two n has = by (n == 1) (n == 2) refl refl has
 
 -- both tasks run
 two_run : IsSound (cluster 20 [] (since 1 1 ∷ since 2 2 ∷ []))
-unfolding cluster job IsDistinct
+unfolding opening_cluster cluster job IsDistinct
 two_run = record {
   numbers = (omega arith, tt);
   tasks = ((1, refl), tt);
@@ -87,6 +86,7 @@ two_run = record {
   different = ((refl, tt), (tt, tt));
   submissions = (omega arith, tt);
   starts = ((omega arith, (omega arith, tt)), tt);
+  booked = record { next = omega arith; advances = tt; jobs = (refl, tt) };
 }
 
 -- a task waits and runs
@@ -113,3 +113,48 @@ next_runs sound = absurd (omega (arith, sound.serials.0.1))
 later_start : ¬ (IsSound (cluster 19 [] (since 1 1 ∷ [])))
 unfolding cluster job
 later_start sound = absurd (omega (arith, sound.starts.0.0))
+
+-- an advance reservation from 20 until before a moment
+abbrev advance_until : ℕ → Advance
+advance_until moment = record {
+  name = [];
+  owner = [];
+  group = [];
+  from = 20;
+  until = moment;
+  request = record { asked = []; queues = []; pe = None };
+  grants = [];
+}
+
+-- the job joined one
+abbrev joined : ℕ → Job
+joined number = record (job [] (since 1 1 ∷ since 2 2 ∷ [])) { advance = number }
+
+-- a cluster with one advance reservation, the next one's number, and the job that joined one
+unfoldable booked : ℕ → ℕ → ℕ → ℕ → Cluster
+unfolding cluster
+booked number until next mine = record (cluster 20 [] (since 1 1 ∷ since 2 2 ∷ [])) { jobs = (1, joined mine) ∷ []; next_advance = next; advances = (number, advance_until until) ∷ [] }
+
+one_joined : IsBooked (booked 1 21 2 1)
+unfolding booked job
+one_joined = record { next = omega arith; advances = ((omega arith, omega arith, omega arith), tt); jobs = (refl, tt) }
+
+-- the job joined one that isn't there
+joined_none : ¬ (IsBooked (booked 1 21 2 2))
+unfolding booked job
+joined_none is = false≢true is.jobs.0
+
+-- it has the number of the next one
+next_booked : ¬ (IsBooked (booked 2 21 2 0))
+unfolding booked job
+next_booked is = absurd (omega (arith, is.advances.0.1))
+
+-- it has no number
+numberless : ¬ (IsBooked (booked 0 21 2 0))
+unfolding booked job
+numberless is = absurd (omega (arith, is.advances.0.0))
+
+-- it ends as it begins
+momentary : ¬ (IsBooked (booked 1 20 2 0))
+unfolding booked job
+momentary is = absurd (omega (arith, is.advances.0.2))

@@ -4,14 +4,11 @@ use Rattle.std.specs.BTreeMap.{is_at}
 use Rattle.std.specs.Ordering.{nat_cmp}
 use Rattle.ge_collections.specs.Keyed.{put_number}
 use Rattle.ge_collections.specs.Changed.{change_value}
-use Rattle.ge_rows.specs.declared.cluster.Cluster.{Cluster}
-use Rattle.ge_rows.specs.declared.jobs.Job.{Job}
-use Rattle.ge_rows.specs.declared.jobs.Running.{Running}
-use Rattle.ge_rows.specs.declared.tasks.TaskSpan.{TaskSpan}
-use Rattle.ge_rows.specs.declared.scheduling.Start.{Start}
-use Rattle.ge_rows.specs.declared.entries.Entry.{Entry}
-use Rattle.ge_rows.specs.declared.entries.Change.{Change}
-use Rattle.ge_rows.specs.declared.entries.Change.TheVariants.{Submit, Run}
+use Rattle.ge_model_rows.specs.ClusterRows.{Cluster}
+use Rattle.ge_model_rows.specs.EntryRows.{Entry, Change, Submit, Run}
+use Rattle.ge_model_rows.specs.JobRows.{Job, Running}
+use Rattle.ge_model_rows.specs.ScheduleRows.{Start}
+use Rattle.ge_model_rows.specs.TaskRows.{TaskSpan}
 
 -- the number after a number of 32 bits, cut at the end of its type
 abbrev pub next_number : ℕ → ℕ

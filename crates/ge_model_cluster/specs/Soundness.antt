@@ -1,10 +1,9 @@
 -- What makes a cluster sound.
 use Rattle.std.specs.Prelude.{ℕ, ◌-◌, ◌%◌, ◌≤◌, ◌<◌, ◌==◌, Bool, IsTrue, ◌&&◌, ◌||◌, not, nat_eq, nat_le, List, map, flat_map}
 use Rattle.std.specs.List.{AllByRecursion, IsDistinct, list_any}
-use Rattle.ge_rows.specs.declared.cluster.Cluster.{Cluster}
-use Rattle.ge_rows.specs.declared.jobs.Job.{Job}
-use Rattle.ge_rows.specs.declared.jobs.Running.{Running}
-use Rattle.ge_rows.specs.declared.tasks.TaskSpan.{TaskSpan}
+use Rattle.ge_model_rows.specs.ClusterRows.{Cluster}
+use Rattle.ge_model_rows.specs.JobRows.{Job, Running, Advance}
+use Rattle.ge_model_rows.specs.TaskRows.{TaskSpan}
 
 -- whether a number lies in a span: from the first to the last, in steps
 abbrev pub is_in_span : ℕ → TaskSpan → Bool
@@ -58,6 +57,22 @@ serials_of jobs = flat_map job_serials jobs
 abbrev pub HasStarted : ℕ → ℕ × Job → Type 0
 HasStarted moment job = AllByRecursion (λ task. task.1.start ≤ moment) job.1.running
 
+-- the number of an advance reservation is at least 1 and below the next one's, and it begins before its end
+abbrev pub IsAdvance : ℕ → ℕ × Advance → Type 0
+IsAdvance next booked = (1 ≤ booked.0) × (booked.0 < next) × (booked.1.from < booked.1.until)
+
+-- whether a job joined no advance reservation, or one that is there
+abbrev pub has_advance : List (ℕ × Advance) → ℕ × Job → Bool
+has_advance advances job = job.1.advance == 0 || list_any (is_under job.1.advance) advances
+
+pub record IsBooked (c : Cluster) : Type 0 where
+  -- the next advance reservation's number is at least 1
+  pub next : 1 ≤ c.next_advance
+  -- each has a number below it, and ends after it begins
+  pub advances : AllByRecursion (IsAdvance c.next_advance) c.advances
+  -- each live job's advance reservation, if it joined one, is there
+  pub jobs : AllByRecursion (λ job. IsTrue (has_advance c.advances job)) c.jobs
+
 pub record IsSound (c : Cluster) : Type 0 where
   -- each live job's number is below the next job's
   pub numbers : AllByRecursion (λ job. job.0 < c.next_job) c.jobs
@@ -72,3 +87,5 @@ pub record IsSound (c : Cluster) : Type 0 where
   -- no job was submitted and no task started after the last entry
   pub submissions : AllByRecursion (λ job. job.1.submitted ≤ c.last) c.jobs
   pub starts : AllByRecursion (HasStarted c.last) c.jobs
+  -- advance reservations, and the jobs that joined them
+  pub booked : IsBooked c

@@ -1,10 +1,7 @@
 -- Commands by their words. A word that isn't here yet makes no command.
 use Rattle.std.specs.Prelude.{ℕ, Bool, false, not, ◌&&◌, ◌==◌, if◌then◌else◌, List, [], ◌∷◌, Option, Some, None, codes}
 use Rattle.std.specs.Str.{bytes_eq}
-use Rattle.ge_rows.specs.declared.commands.Command.{Command}
-use Rattle.ge_rows.specs.declared.commands.Command.TheVariants.{Submit, Show, Sched}
-use Rattle.ge_rows.specs.declared.commands.Listing.TheVariants.{All}
-use Rattle.ge_rows.specs.declared.commands.Options.{Options}
+use Rattle.ge_model_rows.specs.CommandRows.{Command, Submit, Show, Sched, Options, All}
 use Rattle.ge_model_script.specs.Names.{is_job_name}
 use Rattle.ge_model_command.specs.Words.{is_command_line, words_of, is_unquoted}
 

@@ -1,12 +1,9 @@
 -- Listings of small clusters, by computation.
 use Rattle.std.specs.Prelude.{◌≡◌, ℕ, true, false, List, [], ◌∷◌, Some, None, codes, pos, refl}
 use Rattle.std.specs.Fmt.{digits}
-use Rattle.ge_rows.specs.Opening.{opening_cluster, default_queue, default_sched}
-use Rattle.ge_rows.specs.declared.cluster.Cluster.{Cluster}
-use Rattle.ge_rows.specs.declared.jobs.Grant.{Grant}
-use Rattle.ge_rows.specs.declared.jobs.Job.{Job}
-use Rattle.ge_rows.specs.declared.jobs.Running.{Running}
-use Rattle.ge_rows.specs.declared.commands.Listing.TheVariants.{All}
+use Rattle.ge_model_rows.specs.ClusterRows.{Cluster, opening_cluster, default_queue, default_sched}
+use Rattle.ge_model_rows.specs.CommandRows.{All}
+use Rattle.ge_model_rows.specs.JobRows.{Job, Running, Grant}
 use Rattle.ge_model_listing.specs.TaskText.{one_number, spans_text}
 use Rattle.ge_model_listing.specs.Listing.{listing_of}
 
@@ -37,6 +34,7 @@ waiting_job name = record {
   oticket = 0;
   words = codes "x" ∷ [];
   script = [];
+  advance = 0;
 }
 
 abbrev some_slots : List ℕ → ℕ → Grant

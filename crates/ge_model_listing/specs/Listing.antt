@@ -2,16 +2,12 @@
 use Rattle.std.specs.Prelude.{ℕ, Bool, true, not, ◌||◌, ◌==◌, if◌then◌else◌, List, [], ◌∷◌, ◌++◌, map, flat_map, sum_by, Option, Some, None, is_some, codes, decimal}
 use Rattle.std.specs.List.{list_any}
 use Rattle.ge_collections.specs.Keyed.{at_number}
-use Rattle.ge_rows.specs.declared.cluster.Cluster.{Cluster}
-use Rattle.ge_rows.specs.declared.hosts.InstanceId.{InstanceId}
-use Rattle.ge_rows.specs.declared.jobs.Grant.{Grant}
-use Rattle.ge_rows.specs.declared.jobs.Job.{Job}
-use Rattle.ge_rows.specs.declared.jobs.PeRequest.{PeRequest}
-use Rattle.ge_rows.specs.declared.jobs.Running.{Running}
-use Rattle.ge_rows.specs.declared.tasks.TaskSpan.{TaskSpan}
-use Rattle.ge_rows.specs.declared.scheduling.Prio.{Prio}
-use Rattle.ge_rows.specs.declared.commands.Listing.{Listing}
-use Rattle.ge_rows.specs.declared.commands.Listing.TheVariants as listing
+use Rattle.ge_model_rows.specs.ClusterRows.{Cluster}
+use Rattle.ge_model_rows.specs.CommandRows.{Listing}
+use Rattle.ge_model_rows.specs.HostRows.{InstanceId}
+use Rattle.ge_model_rows.specs.JobRows.{Job, PeRequest, Running, Grant}
+use Rattle.ge_model_rows.specs.ScheduleRows.{Prio}
+use Rattle.ge_model_rows.specs.TaskRows.{TaskSpan}
 use Rattle.ge_model_listing.specs.TaskText.{one_number, tasks_text}
 
 -- a word behind a blank
@@ -101,7 +97,7 @@ prios_listing prios = []
 
 -- the lines of a listing at a moment, with the priorities of a run
 unfoldable pub listing_of : Cluster → Listing → ℕ → List Prio → List (List ℕ)
-listing_of c (listing.All pattern) now prios = jobs_listing c.jobs pattern
-listing_of c (listing.One number) now prios = one_job_listing c number
-listing_of c listing.Queues now prios = queues_listing c now
-listing_of c listing.Prios now prios = prios_listing prios
+listing_of c (Listing.All pattern) now prios = jobs_listing c.jobs pattern
+listing_of c (Listing.One number) now prios = one_job_listing c number
+listing_of c Listing.Queues now prios = queues_listing c now
+listing_of c Listing.Prios now prios = prios_listing prios

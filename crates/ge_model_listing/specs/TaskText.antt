@@ -1,6 +1,6 @@
 -- Sets of tasks as text: qstat
 use Rattle.std.specs.Prelude.{ℕ, Bool, ◌==◌, if◌then◌else◌, List, [], ◌∷◌, ◌++◌, flat_map, codes, decimal}
-use Rattle.ge_rows.specs.declared.tasks.TaskSpan.{TaskSpan}
+use Rattle.ge_model_rows.specs.TaskRows.{TaskSpan}
 
 -- the span of one task
 abbrev pub one_number : ℕ → TaskSpan

@@ -1,39 +1,38 @@
 -- The opening cluster is sound, and a sound cluster stays sound under each entry that a plan gives.
 use Rattle.std.proofs.Common.{◌≡◌, ℕ, ◌+◌, ◌<◌, ◌≤◌, Bool, true, false, List, [], ◌∷◌, ◌++◌, Option, Some, None, length, refl, ap, sym, subst, ◌∙◌, arith}
-use Rattle.std.specs.Prelude.{fold, IfSome, ◌||◌, nat_eq, nat_le, nat_lt, map, if◌then◌else◌}
-use Rattle.std.specs.List.{AllByRecursion, IsDistinct}
+use Rattle.std.specs.Prelude.{fold, IfSome, IsTrue, ◌||◌, ◌==◌, nat_eq, nat_le, nat_lt, map, if◌then◌else◌}
+use Rattle.std.specs.BTreeMap.{is_at}
+use Rattle.std.specs.List.{AllByRecursion, IsDistinct, list_any}
+use Rattle.std.specs.Ordering.{nat_cmp}
 use Rattle.std.proofs.lemmas.Bool.{ltb-false}
 use Rattle.std.proofs.lemmas.Grind.{flat_map-append}
 use Rattle.std.proofs.lemmas.List.{append-nil}
 use Rattle.ge_base.specs.declared.refusal.Refusal.{Refusal}
 use Rattle.ge_base.specs.declared.refusal.Refusal.TheVariants.{TooLong, TimeBack, Limit}
 use Rattle.ge_collections.specs.Keyed.{put_number}
-use Rattle.ge_rows.specs.Opening.{opening_cluster}
-use Rattle.ge_rows.specs.declared.cluster.Cluster.{Cluster}
-use Rattle.ge_rows.specs.declared.commands.Command.{Command}
-use Rattle.ge_rows.specs.declared.commands.Command.TheVariants as command
-use Rattle.ge_rows.specs.declared.commands.Options.{Options}
-use Rattle.ge_rows.specs.declared.entries.Change.TheVariants.{Submit, Run}
-use Rattle.ge_rows.specs.declared.events.Event.{Event}
-use Rattle.ge_rows.specs.declared.jobs.Job.{Job}
-use Rattle.ge_rows.specs.declared.planned.Planned.{Planned}
-use Rattle.ge_rows.specs.declared.scheduling.Start.{Start}
+use Rattle.ge_model_rows.specs.ClusterRows.{Cluster, opening_cluster}
+use Rattle.ge_model_rows.specs.CommandRows.{Command, Options}
+use Rattle.ge_model_rows.specs.EntryRows.{Submit, Run}
+use Rattle.ge_model_rows.specs.EventRows.{Event, Planned}
+use Rattle.ge_model_rows.specs.JobRows.{Job, Advance}
+use Rattle.ge_model_rows.specs.ScheduleRows.{Start}
 use Rattle.ge_model_script.specs.Lines.{is_too_long}
-use Rattle.ge_model_cluster.specs.Applying.{start_task, serial_past, next_number, with_job, with_run, changed_by, after_entry}
-use Rattle.ge_model_cluster.specs.Soundness.{IsSound, HasTask, IsSpanned, IsParted, HasStarted, is_in_span, at_most_one, serial_of, job_serials, serials_of}
+use Rattle.ge_model_cluster.specs.Applying.{with_start, start_task, serial_past, next_number, with_job, with_run, changed_by, after_entry}
+use Rattle.ge_model_cluster.specs.Soundness.{IsSound, IsBooked, has_advance, is_under, HasTask, IsSpanned, IsParted, HasStarted, is_in_span, at_most_one, serial_of, job_serials, serials_of}
 use Rattle.ge_model_run.specs.Running.{run_of}
 use Rattle.ge_model_plan.specs.Plan.{plan_of, timely_plan, command_plan, event_command, is_cut}
 use Rattle.ge_model_plan.specs.Refusals.{refused, first_refusal, unless_refused}
 use Rattle.ge_model_plan.specs.Sched.{sched_plan, sched_refusal, starts_of, dispatch_order}
 use Rattle.ge_model_plan.specs.Submit.{one_task, job_of, submit_plan, submit_refusal}
-use Rattle.ge_model_plan.proofs.SoundnessLists.{all_append, all_weaker, put_last}
+use Rattle.ge_model_plan.proofs.SoundnessLists.{all_append, all_weaker, all_changed, all_put, put_last}
+use Rattle.ge_model_plan.proofs.SoundnessJobs.{start-advance}
 use Rattle.ge_model_plan.proofs.SoundnessStarts.{AreSound, started_all, serial_past_all}
 use Rattle.ge_model_plan.proofs.SoundnessSerials.{AreNumbered, run_numbered}
 
 -- before the first command
 pub opening_is_sound : IsSound opening_cluster
 unfolding opening_cluster IsDistinct
-opening_is_sound = record { numbers = tt; tasks = tt; spans = tt; places = tt; next = omega arith; serials = tt; different = tt; submissions = tt; starts = tt }
+opening_is_sound = record { numbers = tt; tasks = tt; spans = tt; places = tt; next = omega arith; serials = tt; different = tt; submissions = tt; starts = tt; booked = record { next = omega arith; advances = tt; jobs = tt } }
 
 -- a sound cluster's jobs, at a later moment
 pub jobs_are_sound : (c : Cluster) (moment : ℕ) → IsSound c → c.last ≤ moment → AreSound c.next_job moment c.next_serial c.jobs
@@ -49,8 +48,8 @@ jobs_are_sound c moment sound later = record {
 }
 
 -- a cluster whose jobs are sound
-pub sound_from_jobs : (c : Cluster) → 1 ≤ c.next_serial → AreSound c.next_job c.last c.next_serial c.jobs → IsSound c
-sound_from_jobs c next sound = record {
+pub sound_from_jobs : (c : Cluster) → 1 ≤ c.next_serial → AreSound c.next_job c.last c.next_serial c.jobs → IsBooked c → IsSound c
+sound_from_jobs c next sound booked = record {
   numbers = sound.numbers;
   tasks = sound.tasks;
   spans = sound.spans;
@@ -60,6 +59,7 @@ sound_from_jobs c next sound = record {
   different = sound.different;
   submissions = sound.submissions;
   starts = sound.starts;
+  booked = booked;
 }
 
 -- a job that doesn't run adds no serial
@@ -92,6 +92,11 @@ unfolding after_entry changed_by with_job job_of
 submission_is_sound c e items words sound later in_range =
     sound_from_jobs _ sound.next (subst (λ n. AreSound n e.moment c.next_serial (put_number c.jobs c.next_job (job_of c e items words))) next
     (job_added c.next_job e.moment c.next_serial (job_of c e items words) c.jobs (jobs_are_sound c e.moment sound later) (1, refl) spanned parted refl (omega arith)))
+    (record {
+      next = sound.booked.next;
+      advances = sound.booked.advances;
+      jobs = all_put (λ job. IsTrue (has_advance c.advances job)) c.next_job (job_of c e items words) (λ key. refl) c.jobs sound.booked.jobs;
+    })
   where
     next : c.next_job + 1 ≡ next_number c.next_job
     next = omega arith
@@ -110,6 +115,15 @@ submission_is_sound c e items words sound later in_range =
     parted : IsParted (c.next_job, job_of c e items words)
     parted n = once (is_in_span n one_task)
 
+-- starts leave jobs in their advance reservations
+started_booked : (advances : List (ℕ × Advance)) (moment : ℕ) (starts : List Start) (jobs : List (ℕ × Job)) → AllByRecursion (λ job. IsTrue (has_advance advances job)) jobs
+    → AllByRecursion (λ job. IsTrue (has_advance advances job)) (fold (start_task moment) jobs starts)
+started_booked advances moment [] jobs all = all
+started_booked advances moment (start ∷ starts) jobs all =
+    started_booked advances moment starts (start_task moment jobs start)
+    (all_changed (λ job. IsTrue (has_advance advances job)) (is_at (nat_cmp start.task.job)) (with_start moment start)
+    (λ row has. ap (λ n. n == 0 || list_any (is_under n) advances) (start-advance moment start row.1) ∙ has) jobs all)
+
 -- after a run with the next serials
 run_is_sound : (c : Cluster) (moment : ℕ) (starts : List Start) → IsSound c → c.last ≤ moment → AreNumbered c.next_serial starts → IsSound (after_entry c (record { moment = moment; change = Run starts }))
 unfolding after_entry changed_by with_run
@@ -118,6 +132,7 @@ run_is_sound c moment starts sound later numbered =
     let jobs : AreSound c.next_job moment (c.next_serial + length starts) (fold (start_task moment) c.jobs starts) =
     started_all c.next_job moment starts c.next_serial c.jobs sound.next numbered.follow (jobs_are_sound c moment sound later) in
     sound_from_jobs _ (omega (arith, past, sound.next)) (subst (λ n. AreSound c.next_job moment n (fold (start_task moment) c.jobs starts)) (sym past) jobs)
+    (record { next = sound.booked.next; advances = sound.booked.advances; jobs = started_booked c.advances moment starts c.jobs sound.booked.jobs })
 
 -- the entry of a plan, if it has one, leaves the cluster sound
 abbrev KeepsSound : Cluster → Planned → Type 0
@@ -156,9 +171,9 @@ keeps_sched c e sound later = keeps_unless c (sched_refusal c e) _ (λ unmet. ru
 
 -- each command; the others have no entry
 keeps_command : (c : Cluster) (e : Event) (asked : Command) → IsSound c → c.last ≤ e.moment → KeepsSound c (command_plan c e asked)
-keeps_command c e (command.Submit options words script) sound later = keeps_submit c e options words sound later
-keeps_command c e command.Sched sound later = keeps_sched c e sound later
-keeps_command c e (command.Show what) sound later = tt
+keeps_command c e (Command.Submit options words script) sound later = keeps_submit c e options words sound later
+keeps_command c e Command.Sched sound later = keeps_sched c e sound later
+keeps_command c e (Command.Show what) sound later = tt
 keeps_command c e other sound later = tt
 
 -- a command that isn't before the last entry

@@ -6,10 +6,9 @@ use Rattle.std.specs.Ordering.{match_ordering}
 use Rattle.std.proofs.Math.Nat.{zero-mod, sub_self}
 use Rattle.std.proofs.lemmas.Bool.{false≢true, and_parts, and_from, or_left, or_right, eqb-true, eq-eqb, le-leb, cond_both}
 use Rattle.ge_collections.specs.Keyed.{put_number}
-use Rattle.ge_rows.specs.declared.jobs.Job.{Job}
-use Rattle.ge_rows.specs.declared.jobs.Running.{Running}
-use Rattle.ge_rows.specs.declared.tasks.TaskSpan.{TaskSpan}
-use Rattle.ge_rows.specs.declared.scheduling.Start.{Start}
+use Rattle.ge_model_rows.specs.JobRows.{Job, Running}
+use Rattle.ge_model_rows.specs.ScheduleRows.{Start}
+use Rattle.ge_model_rows.specs.TaskRows.{TaskSpan}
 use Rattle.ge_model_cluster.specs.Applying.{is_alone, running_from, with_start}
 use Rattle.ge_model_cluster.specs.Soundness.{is_in_span, is_under, waits, is_broken, runs, has_task, at_most_one, HasTask, IsSpanned, IsParted, HasStarted, serial_of, job_serials}
 use Rattle.ge_model_plan.proofs.SoundnessLists.{IsJoined, under_put, all_put}
@@ -91,6 +90,10 @@ start-IsParted moment start e places = after_start (λ job. IsParted (e.0, job))
 -- the submission stays
 pub start-submitted : (most moment : ℕ) (start : Start) (e : ℕ × Job) → e.1.submitted ≤ most → (with_start moment start e.1).submitted ≤ most
 start-submitted most moment start e before = after_start (λ job. job.submitted ≤ most) moment start e.1 before (λ waiting. before)
+
+-- it stays in its advance reservation
+pub start-advance : (moment : ℕ) (start : Start) (job : Job) → (with_start moment start job).advance ≡ job.advance
+start-advance moment start job = after_start (λ new. new.advance ≡ job.advance) moment start job refl (λ waiting. refl)
 
 -- the start is at the moment
 pub start-HasStarted : (moment : ℕ) (start : Start) (e : ℕ × Job) → HasStarted moment e → HasStarted moment (e.0, with_start moment start e.1)

@@ -4,14 +4,11 @@ use Rattle.std.specs.Prelude.{fold, count_by, nat_lt, if◌then◌else◌}
 use Rattle.std.proofs.lemmas.Bool.{ltb-false}
 use Rattle.std.proofs.lemmas.List.{append-nil}
 use Rattle.std.proofs.lemmas.List.Elements.{filter_map-append}
-use Rattle.ge_rows.specs.Parts.{start_of}
-use Rattle.ge_rows.specs.declared.cluster.Cluster.{Cluster}
-use Rattle.ge_rows.specs.declared.jobs.Grant.{Grant}
-use Rattle.ge_rows.specs.declared.scheduling.Booking.{Booking}
-use Rattle.ge_rows.specs.declared.scheduling.Start.{Start}
-use Rattle.ge_rows.specs.declared.scheduling.Decision.{Decision}
-use Rattle.ge_rows.specs.declared.scheduling.Decision.TheVariants as decision
-use Rattle.ge_rows.specs.declared.tasks.TaskId.{TaskId}
+use Rattle.ge_model_rows.specs.ClusterRows.{Cluster}
+use Rattle.ge_model_rows.specs.DecisionRows.{Decision, start_of}
+use Rattle.ge_model_rows.specs.JobRows.{Grant}
+use Rattle.ge_model_rows.specs.ScheduleRows.{Booking, Start}
+use Rattle.ge_model_rows.specs.TaskRows.{TaskId}
 use Rattle.ge_model_run.specs.Placing.{base_bookings, placement}
 use Rattle.ge_model_run.specs.Running.{last_serial, is_start, serial_after, decision_with, decide, run_of}
 use Rattle.ge_model_plan.specs.Sched.{starts_of}
@@ -20,9 +17,9 @@ use Rattle.ge_model_plan.proofs.SoundnessStarts.{FollowOn}
 -- how many of the decisions are starts
 count_from : (decisions : List Decision) (n : ℕ) → fold (λ a d. a + cond (is_start d) 1 0) n decisions ≡ n + length (starts_of decisions)
 count_from [] n = omega arith
-count_from (decision.Start start ∷ more) n = count_from more (n + 1) ∙ omega arith
-count_from (decision.Reserve kept ∷ more) n = count_from more (n + 0) ∙ omega arith
-count_from (decision.Skip task ∷ more) n = count_from more (n + 0) ∙ omega arith
+count_from (Decision.Start start ∷ more) n = count_from more (n + 1) ∙ omega arith
+count_from (Decision.Reserve kept ∷ more) n = count_from more (n + 0) ∙ omega arith
+count_from (Decision.Skip task ∷ more) n = count_from more (n + 0) ∙ omega arith
 
 -- the same, from nothing
 count_starts : (decisions : List Decision) → count_by is_start decisions ≡ length (starts_of decisions)
@@ -54,7 +51,7 @@ numbered_decision c decisions task o numbered = rw (filter_map-append start_of d
     skipped = rw (append-nil (starts_of decisions)) numbered
 
     chosen : (grants : List Grant) (b : Bool) → nat_lt last_serial (serial_after c decisions) ≡ b
-        → AreNumbered c.next_serial (starts_of decisions ++ starts_of ((if b then decision.Skip task else decision.Start (record { task = task; serial = serial_after c decisions; grants = grants })) ∷ []))
+        → AreNumbered c.next_serial (starts_of decisions ++ starts_of ((if b then Decision.Skip task else Decision.Start (record { task = task; serial = serial_after c decisions; grants = grants })) ∷ []))
     chosen grants true test = skipped
     chosen grants false test =
         numbered_more (starts_of decisions) c.next_serial (record { task = task; serial = serial_after c decisions; grants = grants }) numbered (ap (λ n. c.next_serial + n) (count_starts decisions))

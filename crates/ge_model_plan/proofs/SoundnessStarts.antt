@@ -5,8 +5,8 @@ use Rattle.std.specs.BTreeMap.{is_at}
 use Rattle.std.specs.List.{AllByRecursion, IsDistinct}
 use Rattle.std.specs.Ordering.{nat_cmp}
 use Rattle.ge_collections.specs.Changed.{change_value}
-use Rattle.ge_rows.specs.declared.jobs.Job.{Job}
-use Rattle.ge_rows.specs.declared.scheduling.Start.{Start}
+use Rattle.ge_model_rows.specs.JobRows.{Job}
+use Rattle.ge_model_rows.specs.ScheduleRows.{Start}
 use Rattle.ge_model_cluster.specs.Applying.{with_start, start_task, greater_serial, serial_past}
 use Rattle.ge_model_cluster.specs.Soundness.{HasTask, IsSpanned, IsParted, HasStarted, job_serials, serials_of}
 use Rattle.ge_model_plan.proofs.SoundnessLists.{IsJoined, joined_all, joined_distinct, joined_after, joined_before, all_changed, all_weaker}

@@ -1,9 +1,9 @@
 -- A sound cluster stays sound in a trace of events.
 use Rattle.std.proofs.Common.{Bool, true, false, List, [], ◌∷◌, Option, Some, None}
 use Rattle.std.specs.Prelude.{IfSome}
-use Rattle.ge_rows.specs.declared.cluster.Cluster.{Cluster}
-use Rattle.ge_rows.specs.declared.entries.Entry.{Entry}
-use Rattle.ge_rows.specs.declared.events.Event.{Event}
+use Rattle.ge_model_rows.specs.ClusterRows.{Cluster}
+use Rattle.ge_model_rows.specs.EntryRows.{Entry}
+use Rattle.ge_model_rows.specs.EventRows.{Event}
 use Rattle.ge_model_cluster.specs.Applying.{after_entry}
 use Rattle.ge_model_cluster.specs.Soundness.{IsSound}
 use Rattle.ge_model_plan.specs.Plan.{plan_of}

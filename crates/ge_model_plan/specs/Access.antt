@@ -2,7 +2,7 @@
 use Rattle.std.specs.Prelude.{ℕ, Bool, List}
 use Rattle.std.specs.List.{list_any}
 use Rattle.ge_collections.specs.Keyed.{text_eq}
-use Rattle.ge_rows.specs.declared.cluster.Cluster.{Cluster}
+use Rattle.ge_model_rows.specs.ClusterRows.{Cluster}
 
 -- whether a user is a manager (sge_types, managers)
 abbrev pub is_manager : Cluster → List ℕ → Bool

@@ -1,13 +1,9 @@
 -- The plan of an event.
 use Rattle.std.specs.Prelude.{ℕ, Bool, true, false, nat_lt, ◌||◌, if◌then◌else◌, List, [], Option, Some, None}
 use Rattle.ge_base.specs.declared.refusal.Refusal.TheVariants.{Syntax, TooLong, TimeBack}
-use Rattle.ge_rows.specs.declared.cluster.Cluster.{Cluster}
-use Rattle.ge_rows.specs.declared.events.Event.{Event}
-use Rattle.ge_rows.specs.declared.events.Form.{Form}
-use Rattle.ge_rows.specs.declared.events.Form.TheVariants as form
-use Rattle.ge_rows.specs.declared.commands.Command.{Command}
-use Rattle.ge_rows.specs.declared.commands.Command.TheVariants as command
-use Rattle.ge_rows.specs.declared.planned.Planned.{Planned}
+use Rattle.ge_model_rows.specs.ClusterRows.{Cluster}
+use Rattle.ge_model_rows.specs.CommandRows.{Command}
+use Rattle.ge_model_rows.specs.EventRows.{Event, Form, Planned}
 use Rattle.ge_model_script.specs.Lines.{is_too_long}
 use Rattle.ge_model_command.specs.Commands.{command_of}
 use Rattle.ge_model_plan.specs.Refusals.{refused}
@@ -17,24 +13,24 @@ use Rattle.ge_model_plan.specs.Sched.{sched_plan}
 
 -- whether the form says that the request was too long
 abbrev pub is_cut : Form → Bool
-is_cut form.TooLong = true
-is_cut form.Good = false
-is_cut form.BadHeader = false
+is_cut Form.TooLong = true
+is_cut Form.Good = false
+is_cut Form.BadHeader = false
 
 -- the command that an event is
 abbrev pub event_command : Form → List ℕ → Option Command
-event_command form.Good text = command_of text
-event_command form.BadHeader text = None
-event_command form.TooLong text = None
+event_command Form.Good text = command_of text
+event_command Form.BadHeader text = None
+event_command Form.TooLong text = None
 
 -- a list is shown and changes nothing
 abbrev pub shown : List (List ℕ) → Planned
 shown lines = record { entry = None; reply = record { code = 0; lines = lines }; stop = false }
 
 abbrev pub command_plan : Cluster → Event → Command → Planned
-command_plan c e (command.Submit options words script) = submit_plan c e options words
-command_plan c e command.Sched = sched_plan c e
-command_plan c e (command.Show what) = shown (listing_of c what e.moment [])
+command_plan c e (Command.Submit options words script) = submit_plan c e options words
+command_plan c e Command.Sched = sched_plan c e
+command_plan c e (Command.Show what) = shown (listing_of c what e.moment [])
 command_plan c e other = refused Syntax
 
 -- a command is planned where its moment isn't before that of the last entry

@@ -3,8 +3,7 @@ use Rattle.std.specs.Prelude.{ℕ, Bool, false, if◌then◌else◌, List, [], �
 use Rattle.ge_base.specs.Refusal.{reply_code}
 use Rattle.ge_base.specs.declared.refusal.Refusal.{Refusal}
 use Rattle.ge_base.specs.declared.refusal.Refusal.TheVariants.{Syntax, TooLong, TimeBack, NoSuchObject, NotPermitted, Exists, InUse, BadValue, NotRequestable, Cycle, Limit, StaleReport, NoMemory}
-use Rattle.ge_rows.specs.declared.events.Reply.{Reply}
-use Rattle.ge_rows.specs.declared.planned.Planned.{Planned}
+use Rattle.ge_model_rows.specs.EventRows.{Reply, Planned}
 
 -- the line that a refusal is answered with
 abbrev pub refusal_text : Refusal → List ℕ

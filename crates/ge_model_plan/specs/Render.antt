@@ -1,6 +1,6 @@
 -- Replies as they are written.
 use Rattle.std.specs.Prelude.{ℕ, List, [], ◌∷◌, ◌++◌, length, flat_map, decimal}
-use Rattle.ge_rows.specs.declared.events.Reply.{Reply}
+use Rattle.ge_model_rows.specs.EventRows.{Reply}
 
 abbrev pub rendered_line : List ℕ → List ℕ
 rendered_line line = line ++ 10 ∷ []

@@ -2,17 +2,13 @@
 use Rattle.std.specs.Prelude.{ℕ, false, not, List, [], ◌∷◌, ◌++◌, map, flat_map, filter_map, Option, Some, codes, decimal}
 use Rattle.ge_base.specs.declared.refusal.Refusal.{Refusal}
 use Rattle.ge_base.specs.declared.refusal.Refusal.TheVariants.{NotPermitted}
-use Rattle.ge_rows.specs.Parts.{start_of}
-use Rattle.ge_rows.specs.declared.cluster.Cluster.{Cluster}
-use Rattle.ge_rows.specs.declared.events.Event.{Event}
-use Rattle.ge_rows.specs.declared.jobs.Job.{Job}
-use Rattle.ge_rows.specs.declared.jobs.Grant.{Grant}
-use Rattle.ge_rows.specs.declared.tasks.TaskId.{TaskId}
-use Rattle.ge_rows.specs.declared.tasks.TaskSpan.{TaskSpan}
-use Rattle.ge_rows.specs.declared.scheduling.Start.{Start}
-use Rattle.ge_rows.specs.declared.scheduling.Decision.{Decision}
-use Rattle.ge_rows.specs.declared.entries.Change.TheVariants.{Run}
-use Rattle.ge_rows.specs.declared.planned.Planned.{Planned}
+use Rattle.ge_model_rows.specs.ClusterRows.{Cluster}
+use Rattle.ge_model_rows.specs.DecisionRows.{Decision, start_of}
+use Rattle.ge_model_rows.specs.EntryRows.{Run}
+use Rattle.ge_model_rows.specs.EventRows.{Event, Planned}
+use Rattle.ge_model_rows.specs.JobRows.{Job, Grant}
+use Rattle.ge_model_rows.specs.ScheduleRows.{Start}
+use Rattle.ge_model_rows.specs.TaskRows.{TaskId, TaskSpan}
 use Rattle.ge_model_run.specs.Running.{run_of}
 use Rattle.ge_model_plan.specs.Access.{is_manager}
 use Rattle.ge_model_plan.specs.Refusals.{first_refusal, unless_refused}

@@ -2,14 +2,13 @@
 use Rattle.std.specs.Prelude.{ℕ, false, nat_lt, nat_le, List, [], ◌∷◌, ◌++◌, length, Option, Some, None, codes, decimal, pos}
 use Rattle.ge_base.specs.declared.refusal.Refusal.{Refusal}
 use Rattle.ge_base.specs.declared.refusal.Refusal.TheVariants.{Limit}
-use Rattle.ge_rows.specs.declared.cluster.Cluster.{Cluster}
-use Rattle.ge_rows.specs.declared.events.Event.{Event}
-use Rattle.ge_rows.specs.declared.commands.Options.{Options}
-use Rattle.ge_rows.specs.declared.jobs.Job.{Job}
-use Rattle.ge_rows.specs.declared.jobs.Request.{Request}
-use Rattle.ge_rows.specs.declared.tasks.TaskSpan.{TaskSpan}
-use Rattle.ge_rows.specs.declared.entries.Change.TheVariants.{Submit}
-use Rattle.ge_rows.specs.declared.planned.Planned.{Planned}
+use Rattle.ge_limits.specs.Limits as limit
+use Rattle.ge_model_rows.specs.ClusterRows.{Cluster}
+use Rattle.ge_model_rows.specs.CommandRows.{Options}
+use Rattle.ge_model_rows.specs.EntryRows.{Submit}
+use Rattle.ge_model_rows.specs.EventRows.{Event, Planned}
+use Rattle.ge_model_rows.specs.JobRows.{Job, Request}
+use Rattle.ge_model_rows.specs.TaskRows.{TaskSpan}
 use Rattle.ge_model_plan.specs.Refusals.{first_refusal, unless_refused}
 
 -- what -N gives (qsub)
@@ -56,11 +55,12 @@ job_of c e options words = record {
   oticket = 0;
   words = words;
   script = [];
+  advance = 0;
 }
 
 -- 100,000 jobs may live, job numbers end at 4,294,967,294, and a command may have 1,024 words
 abbrev pub submit_refusal : Cluster → List (List ℕ) → Option Refusal
-submit_refusal c words = first_refusal ((nat_le 100000 (length c.jobs), Limit) ∷ (nat_lt 4294967294 c.next_job, Limit) ∷ (nat_lt 1024 (length words), Limit) ∷ [])
+submit_refusal c words = first_refusal ((nat_le limit.live_jobs (length c.jobs), Limit) ∷ (nat_lt limit.last_number c.next_job, Limit) ∷ (nat_lt limit.command_words (length words), Limit) ∷ [])
 
 abbrev pub submitted_line : ℕ → List ℕ → List ℕ
 submitted_line number name = codes "Your job " ++ decimal number ++ codes " (\"" ++ name ++ codes "\") has been submitted"

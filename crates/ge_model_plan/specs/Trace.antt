@@ -3,10 +3,9 @@
 use Rattle.std.specs.Prelude.{◌≡◌, ℕ, ◌≤◌, Bool, true, false, List, [], ◌∷◌, ◌++◌, length, Option, Some, None}
 use Rattle.ge_outside.specs.Streams.{Gains, GainsPrefix}
 use Rattle.ge_base.specs.declared.refusal.Refusal.TheVariants.{NoMemory}
-use Rattle.ge_rows.specs.declared.cluster.Cluster.{Cluster}
-use Rattle.ge_rows.specs.declared.entries.Entry.{Entry}
-use Rattle.ge_rows.specs.declared.events.Event.{Event}
-use Rattle.ge_rows.specs.declared.planned.Planned.{Planned}
+use Rattle.ge_model_rows.specs.ClusterRows.{Cluster}
+use Rattle.ge_model_rows.specs.EntryRows.{Entry}
+use Rattle.ge_model_rows.specs.EventRows.{Event, Planned}
 use Rattle.ge_model_cluster.specs.Applying.{after_entry}
 use Rattle.ge_model_plan.specs.Refusals.{refused}
 use Rattle.ge_model_plan.specs.Plan.{plan_of}

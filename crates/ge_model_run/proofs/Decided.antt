@@ -4,13 +4,11 @@ use Rattle.std.specs.Prelude.{nat_lt}
 use Rattle.std.proofs.lemmas.Bool.{cond_both, ltb-true, ltb-false, lt-ltb, le-ltb}
 use Rattle.std.proofs.lemmas.List.{append-nil}
 use Rattle.std.proofs.lemmas.List.Concat.{flat_map-append}
-use Rattle.ge_rows.specs.declared.cluster.Cluster.{Cluster}
-use Rattle.ge_rows.specs.declared.jobs.Grant.{Grant}
-use Rattle.ge_rows.specs.declared.scheduling.Booking.{Booking}
-use Rattle.ge_rows.specs.declared.scheduling.Decision.{Decision}
-use Rattle.ge_rows.specs.declared.scheduling.Decision.TheVariants.{Start, Reserve, Skip}
-use Rattle.ge_rows.specs.declared.scheduling.Start.{Start as Starting}
-use Rattle.ge_rows.specs.declared.tasks.TaskId.{TaskId}
+use Rattle.ge_model_rows.specs.ClusterRows.{Cluster}
+use Rattle.ge_model_rows.specs.DecisionRows.{Decision, Start, Reserve, Skip}
+use Rattle.ge_model_rows.specs.JobRows.{Grant}
+use Rattle.ge_model_rows.specs.ScheduleRows.{Booking, Start as Starting}
+use Rattle.ge_model_rows.specs.TaskRows.{TaskId}
 use Rattle.ge_model_run.specs.Placing.{base_bookings, placement}
 use Rattle.ge_model_run.specs.Running.{last_serial, serial_after, booked_by, bookings_after, decision_with, decision_of, decide, run_of, IsDecided, IsRunAfter, IsRun}
 

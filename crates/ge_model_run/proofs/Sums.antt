@@ -7,18 +7,16 @@ use Rattle.std.proofs.lemmas.Bool.{cond_both, cases_Bool, and_parts, eqb-true, l
 use Rattle.std.proofs.lemmas.List.{append-nil}
 use Rattle.std.proofs.lemmas.List.Sums.{sum_by_push}
 use Rattle.ge_collections.specs.Keyed.{text_eq, at_number}
-use Rattle.ge_rows.specs.declared.cluster.Cluster.{Cluster}
-use Rattle.ge_rows.specs.declared.hosts.InstanceId.{InstanceId}
-use Rattle.ge_rows.specs.declared.jobs.Job.{Job}
-use Rattle.ge_rows.specs.declared.jobs.Grant.{Grant}
-use Rattle.ge_rows.specs.declared.scheduling.Booking.{Booking}
-use Rattle.ge_rows.specs.declared.scheduling.Decision.{Decision}
-use Rattle.ge_rows.specs.declared.scheduling.Decision.TheVariants.{Start, Skip}
-use Rattle.ge_rows.specs.declared.tasks.TaskId.{TaskId}
-use Rattle.ge_model_run.specs.Bookings.{same_instance, is_within, taken_by, whole_sum, plain_sum, peak, window_end}
+use Rattle.ge_model_rows.specs.ClusterRows.{Cluster}
+use Rattle.ge_model_rows.specs.DecisionRows.{Decision, Start, Skip}
+use Rattle.ge_model_rows.specs.HostRows.{InstanceId}
+use Rattle.ge_model_rows.specs.JobRows.{Job, Grant}
+use Rattle.ge_model_rows.specs.ScheduleRows.{Booking}
+use Rattle.ge_model_rows.specs.TaskRows.{TaskId}
+use Rattle.ge_model_bookings.specs.Bookings.{same_instance, is_within, taken_by, whole_sum, plain_sum, peak, window_end}
 use Rattle.ge_model_run.specs.Placing.{duration_of, slots_limit, slots_at, instances, base_bookings, booking_of, one_slot, is_admissible, first_admissible, job_placement, placement}
 use Rattle.ge_model_run.specs.Running.{last_serial, serial_after, booking_at, booked_by, decision_with, decision_of, decide, run_of, IsRun, KeepsSlots}
-use Rattle.ge_model_run.proofs.Peaks.{within_peak}
+use Rattle.ge_model_bookings.proofs.Peaks.{within_peak}
 use Rattle.ge_model_run.proofs.Decided.{run_books, run_is_run_of}
 
 -- texts that pass the test are equal

@@ -1,4 +1,3 @@
 pub use Rattle.ge_collections.specs.Keyed
-pub mod Bookings
 pub mod Placing
 pub mod Running

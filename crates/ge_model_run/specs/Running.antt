@@ -1,25 +1,24 @@
 -- A scheduling run: one decision for each task, in the order of the tasks.
 use Rattle.std.specs.Prelude.{◌≡◌, ℕ, ◌+◌, ◌-◌, ◌^◌, ◌≤◌, ◌<◌, ◌⊎◌, Bool, true, false, if◌then◌else◌, nat_lt, max, List, [], ◌∷◌, ◌++◌, fold, flat_map, count_by, Option, Some, None}
 use Rattle.ge_collections.specs.Keyed.{at_number}
-use Rattle.ge_rows.specs.declared.cluster.Cluster.{Cluster}
-use Rattle.ge_rows.specs.declared.hosts.InstanceId.{InstanceId}
-use Rattle.ge_rows.specs.declared.jobs.Job.{Job}
-use Rattle.ge_rows.specs.declared.jobs.Grant.{Grant}
-use Rattle.ge_rows.specs.declared.scheduling.Booking.{Booking}
-use Rattle.ge_rows.specs.declared.scheduling.Decision.{Decision}
-use Rattle.ge_rows.specs.declared.scheduling.Decision.TheVariants as decision
-use Rattle.ge_rows.specs.declared.tasks.TaskId.{TaskId}
-use Rattle.ge_model_run.specs.Bookings.{plain_sum}
+use Rattle.ge_limits.specs.Limits as limit
+use Rattle.ge_model_rows.specs.ClusterRows.{Cluster}
+use Rattle.ge_model_rows.specs.DecisionRows.{Decision}
+use Rattle.ge_model_rows.specs.HostRows.{InstanceId}
+use Rattle.ge_model_rows.specs.JobRows.{Job, Grant}
+use Rattle.ge_model_rows.specs.ScheduleRows.{Booking}
+use Rattle.ge_model_rows.specs.TaskRows.{TaskId}
+use Rattle.ge_model_bookings.specs.Bookings.{plain_sum}
 use Rattle.ge_model_run.specs.Placing.{slots_limit, slots_at, booking_of, base_bookings, placement}
 
 -- the last number that a dispatch gets
 abbrev pub last_serial : ℕ
-last_serial = 2 ^ 48 - 1
+last_serial = limit.last_serial
 
 abbrev pub is_start : Decision → Bool
-is_start (decision.Start start) = true
-is_start (decision.Reserve reservation) = false
-is_start (decision.Skip task) = false
+is_start (Decision.Start start) = true
+is_start (Decision.Reserve reservation) = false
+is_start (Decision.Skip task) = false
 
 -- the number that the next start gets, after these decisions
 abbrev pub serial_after : Cluster → List Decision → ℕ
@@ -31,9 +30,9 @@ booking_at c (Some job) task grants from = booking_of c job task grants from ∷
 
 -- what a decision books: a start from now on, a reservation from its moment on
 abbrev pub booked_by : Cluster → ℕ → Decision → List Booking
-booked_by c now (decision.Start start) = booking_at c (at_number c.jobs start.task.job) start.task start.grants now
-booked_by c now (decision.Reserve kept) = booking_at c (at_number c.jobs kept.task.job) kept.task kept.grants kept.at
-booked_by c now (decision.Skip task) = []
+booked_by c now (Decision.Start start) = booking_at c (at_number c.jobs start.task.job) start.task start.grants now
+booked_by c now (Decision.Reserve kept) = booking_at c (at_number c.jobs kept.task.job) kept.task kept.grants kept.at
+booked_by c now (Decision.Skip task) = []
 
 -- what is booked after these decisions of a run: they add their bookings to those of the running tasks, and take none away
 abbrev pub bookings_after : Cluster → ℕ → List Decision → List Booking
@@ -41,9 +40,9 @@ bookings_after c now decisions = base_bookings c now ++ flat_map (booked_by c no
 
 -- a task starts with its placement and the next number; it is skipped where there is none of either
 abbrev pub decision_with : TaskId → ℕ → Option (List Grant) → Decision
-decision_with task serial None = decision.Skip task
+decision_with task serial None = Decision.Skip task
 decision_with task serial (Some grants) =
-    if nat_lt last_serial serial then decision.Skip task else decision.Start (record { task = task; serial = serial; grants = grants })
+    if nat_lt last_serial serial then Decision.Skip task else Decision.Start (record { task = task; serial = serial; grants = grants })
 
 -- the decision of a task, over what is booked and was decided before
 abbrev pub decision_of : Cluster → ℕ → List Booking → List Decision → TaskId → Decision
@@ -76,9 +75,9 @@ IsReserved c now before task = ⊥
 
 -- a decision of a task that may come after these decisions of a run
 abbrev pub IsDecided : Cluster → ℕ → List Decision → TaskId → Decision → Type 0
-IsDecided c now before task (decision.Start start) = (start.task ≡ task) × IsStarted c now before task start.serial start.grants
-IsDecided c now before task (decision.Reserve kept) = (kept.task ≡ task) × IsReserved c now before task
-IsDecided c now before task (decision.Skip skipped) = (skipped ≡ task) × IsSkipped c now before task
+IsDecided c now before task (Decision.Start start) = (start.task ≡ task) × IsStarted c now before task start.serial start.grants
+IsDecided c now before task (Decision.Reserve kept) = (kept.task ≡ task) × IsReserved c now before task
+IsDecided c now before task (Decision.Skip skipped) = (skipped ≡ task) × IsSkipped c now before task
 
 -- decisions of these tasks, one for each and in their order, that come after the decisions before
 abbrev pub IsRunAfter : Cluster → ℕ → List Decision → List TaskId → List Decision → Type 0

@@ -2,12 +2,13 @@
 -- answers, by the commands that are built (built_plan_of).
 use Rattle.std.specs.Prelude.{◌≡◌, ◌≢◌, ℕ, ◌<◌, ◌≤◌, ◌^◌, ◌==◌, ◌⊎◌, List, [], ◌∷◌, length, Option, IfSome, IsTrue}
 use Rattle.std.specs.List.{list_any}
+use Rattle.ge_limits.specs.Limits as limit
 use Rattle.ge_outside.specs.Faults.{Rose}
-use Rattle.ge_rows.specs.Opening.{opening_cluster}
+use Rattle.ge_model_rows.specs.ClusterRows.{opening_cluster}
 use Rattle.ge_model_script.specs.Events.{events_of}
 use Rattle.ge_model_script.specs.Sources.{IsReadToEnd}
-use Rattle.ge_model_master.specs.Built.{built_plan_of}
-use Rattle.ge_model_master.specs.Trace.{WroteAll, WroteReplies, WroteFront}
+use Rattle.ge_model_core.specs.Built.{built_plan_of}
+use Rattle.ge_model_core.specs.Trace.{WroteAll, WroteReplies, WroteFront}
 
 -- Exit statuses: 0 done, 3 the script has no end within 2^40 bytes, 6 a read failed, 7 a write failed, 10 want of memory.
 abbrev pub IsSimulateStatus : ℕ → Type 0
@@ -21,7 +22,7 @@ pub record Simulates (status : ℕ) (script rest : Option (List ℕ)) (reads_bef
   pub ended : status ≡ 0 → IsReadToEnd rest
   pub replies : status ≢ 7 → IfSome script (λ bytes. WroteReplies built_plan_of old new opening_cluster (events_of bytes))
   pub front : IfSome script (λ bytes. WroteFront built_plan_of old new opening_cluster (events_of bytes))
-  pub long : status ≡ 3 → IfSome script (λ bytes. 2 ^ 40 ≤ length bytes)
-  pub below : (status ≡ 0) ⊎ (status ≡ 7) → IfSome script (λ bytes. length bytes < 2 ^ 40)
+  pub long : status ≡ 3 → IfSome script (λ bytes. limit.script_bytes ≤ length bytes)
+  pub below : (status ≡ 0) ⊎ (status ≡ 7) → IfSome script (λ bytes. length bytes < limit.script_bytes)
   pub read : status ≡ 6 → Rose reads_before reads_after
   pub written : status ≡ 7 → Rose writes_before writes_after

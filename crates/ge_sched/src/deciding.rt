@@ -7,11 +7,9 @@ ghost use Rattle.ge_model_run.specs.Running.{is_start, serial_after, booking_at,
 use crate::booking::book;
 use crate::gathering::{find_bookings, find_instances};
 use crate::placing::place;
+use ge_limits::LAST_SERIAL;
 use ge_rows::{Booking, Cluster, Decision, Grant, InstanceId, List, Start, TaskId};
 use std::alloc::{AllocError, Global};
-
-/// The last number that a dispatch gets.
-const LAST_SERIAL: u64 = 281_474_976_710_655;
 
 // What is booked and decided so far, and the number that the next start gets.
 #[derive(Drop)]

@@ -3,8 +3,8 @@ use Rattle.std.proofs.Common.{◌≡◌, ℕ, ◌+◌, Bool, true, false, List, 
 use Rattle.std.proofs.lemmas.List.{length-append, length-replicate, append-nil}
 use Rattle.std.proofs.Math.Seq.{take-append-add, take-length}
 use Rattle.ge_outside.specs.Streams.{Gains, GainsPrefix, Gains-append}
-use Rattle.ge_rows.specs.declared.cluster.Cluster.{Cluster}
-use Rattle.ge_rows.specs.declared.events.Event.{Event}
+use Rattle.ge_model_rows.specs.ClusterRows.{Cluster}
+use Rattle.ge_model_rows.specs.EventRows.{Event}
 use Rattle.ge_model_plan.specs.Render.{rendered}
 use Rattle.ge_model_plan.specs.Trace.{answer_of, after_entries, unless_stopped, output, WroteAll, WroteReplies, WroteFront}
 use Rattle.ge_top.specs.declared.answering.Answer.{Answer}

@@ -1,7 +1,7 @@
 -- What the answer to one event shows.
 use Rattle.std.specs.Prelude.{◌≡◌, ℕ, Bool, List, codes}
-use Rattle.ge_rows.specs.declared.cluster.Cluster.{Cluster}
-use Rattle.ge_rows.specs.declared.events.Event.{Event}
+use Rattle.ge_model_rows.specs.ClusterRows.{Cluster}
+use Rattle.ge_model_rows.specs.EventRows.{Event}
 use Rattle.ge_model_plan.specs.Render.{rendered}
 use Rattle.ge_model_plan.specs.Trace.{answer_of, after_entries}
 use Rattle.ge_top.specs.declared.answering.Rendered.{Rendered}

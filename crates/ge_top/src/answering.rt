@@ -3,8 +3,8 @@ ghost use Rattle.std.specs.Prelude.{◌≡◌, [], ◌∷◌, IfOk, OnOk, IsErrO
 ghost use Rattle.ge_outside.specs.Faults.{Rose};
 ghost use Rattle.ge_rows.specs.Opening.{opening_cluster};
 ghost use Rattle.ge_model_script.specs.Events.{events_of};
-ghost use Rattle.ge_model_master.specs.Built.{built_plan_of};
-ghost use Rattle.ge_model_master.specs.Trace.{WroteAll, WroteReplies, WroteFront};
+ghost use Rattle.ge_model_core.specs.Built.{built_plan_of};
+ghost use Rattle.ge_model_core.specs.Trace.{WroteAll, WroteReplies, WroteFront};
 ghost use Rattle.ge_rows.specs.declared.cluster.Cluster.{Cluster};
 ghost use Rattle.ge_rows.specs.declared.events.Event.{Event};
 ghost use Rattle.ge_top.specs.Answering.{bytes_of, IsAnswer};

@@ -1,5 +1,5 @@
 use Rattle.std.proofs.Common.{◌≤◌, length}
-use Rattle.ge_rows.specs.Opening.{opening_cluster}
+use Rattle.ge_model_rows.specs.ClusterRows.{opening_cluster}
 use Rattle.ge_model_script.specs.Events.{events_of}
 use Rattle.ge_top.proofs.Traces.{HasAnswered}
 use Rattle.ge_top.proofs.answering.answer_script.Given as goal

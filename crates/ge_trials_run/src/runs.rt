@@ -44,6 +44,7 @@ fn waiting_job(alloc: Global, number: u32) -> Job {
         oticket: 0,
         words: List::new(alloc),
         script: Text::new(alloc),
+        advance: 0,
     }
 }
 
