@@ -1,13 +1,13 @@
 -- A day of a small site: hosts, a group, an environment, two queues and a quota, and what is answered to twelve jobs.
 use Rattle.std.specs.Prelude.{◌≡◌, ◌++◌, ℕ, List, [], ◌∷◌, codes, refl}
-use Rattle.ge_rows.specs.declared.cluster.Cluster.{Cluster}
-use Rattle.ge_rows.specs.declared.hosts.InstanceId.{InstanceId}
-use Rattle.ge_rows.specs.declared.tasks.TaskId.{TaskId}
+use Rattle.ge_model_rows.specs.ClusterRows.{Cluster}
+use Rattle.ge_model_rows.specs.HostRows.{InstanceId}
+use Rattle.ge_model_rows.specs.TaskRows.{TaskId}
 use Rattle.ge_model_site.specs.Groups.{expanded}
 use Rattle.ge_model_order.specs.Priority.{prios_at, order_of, order_of_runs}
 use Rattle.ge_model_place.specs.InstanceOrder.{instance_order}
 use Rattle.ge_model_place.specs.Running.{runs_in_full}
-use Rattle.ge_model_master.specs.Scripts.{written_for, left_by}
+use Rattle.ge_model_core.specs.Scripts.{written_for, left_by}
 
 -- the site as it is configured, the loads of its hosts, and the jobs
 unfoldable morning : List ℕ

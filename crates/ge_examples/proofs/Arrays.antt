@@ -1,6 +1,6 @@
 -- Job arrays, their dependencies and their ends.
 use Rattle.std.specs.Prelude.{◌≡◌, ◌++◌, codes, refl}
-use Rattle.ge_model_master.specs.Scripts.{written_for}
+use Rattle.ge_model_core.specs.Scripts.{written_for}
 
 -- a task waits for the task of its number; 99 waits again, 100 is an error
 array_dependencies : written_for (

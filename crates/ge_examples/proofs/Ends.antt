@@ -1,6 +1,6 @@
 -- Reports of daemons, and accounting.
 use Rattle.std.specs.Prelude.{◌≡◌, ◌++◌, codes, refl}
-use Rattle.ge_model_master.specs.Scripts.{written_for}
+use Rattle.ge_model_core.specs.Scripts.{written_for}
 
 -- an end that is reported twice is accounted once
 a_repeated_report : written_for (

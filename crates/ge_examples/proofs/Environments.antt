@@ -1,6 +1,6 @@
 -- Parallel environments and their allocation rules.
 use Rattle.std.specs.Prelude.{◌≡◌, ◌++◌, codes, refl}
-use Rattle.ge_model_master.specs.Scripts.{written_for}
+use Rattle.ge_model_core.specs.Scripts.{written_for}
 
 -- allocation_rule $round_robin, and 3-7 slots asked for
 round_robin : written_for (

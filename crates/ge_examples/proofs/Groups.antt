@@ -1,6 +1,6 @@
 -- Host groups and what a queue has at their hosts.
 use Rattle.std.specs.Prelude.{◌≡◌, ◌++◌, codes, refl}
-use Rattle.ge_model_master.specs.Scripts.{written_for}
+use Rattle.ge_model_core.specs.Scripts.{written_for}
 
 -- a host wins over groups, and the first group over later ones; a group can not have itself
 overrides_by_host_and_group : written_for (

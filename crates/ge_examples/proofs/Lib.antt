@@ -11,4 +11,7 @@ mod Arrays
 mod Priorities
 mod Ends
 mod Groups
+mod WideNumbers
+mod PerJob
+mod AdvanceReservations
 mod Refusals

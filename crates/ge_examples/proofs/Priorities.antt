@@ -1,11 +1,11 @@
 -- Priority, urgency and tickets.
 use Rattle.std.specs.Prelude.{◌≡◌, ◌++◌, ℕ, List, ◌∷◌, [], codes, refl}
-use Rattle.ge_rows.specs.declared.cluster.Cluster.{Cluster}
+use Rattle.ge_model_rows.specs.ClusterRows.{Cluster}
 use Rattle.ge_model_value.specs.Complexes.{opening}
 use Rattle.ge_model_jobs.specs.Usage.{usage_at}
 use Rattle.ge_model_order.specs.Candidates.{candidates}
 use Rattle.ge_model_order.specs.Priority.{all_tickets_of, order_of_runs}
-use Rattle.ge_model_master.specs.Scripts.{written_for, left_by}
+use Rattle.ge_model_core.specs.Scripts.{written_for, left_by}
 
 -- a job alone has half of each part but the tickets
 one_priority : written_for (

@@ -1,6 +1,6 @@
 -- Resource quotas.
 use Rattle.std.specs.Prelude.{◌≡◌, ◌++◌, codes, refl}
-use Rattle.ge_model_master.specs.Scripts.{written_for}
+use Rattle.ge_model_core.specs.Scripts.{written_for}
 
 -- in braces each user has a slot of its own
 quota_braces : written_for (

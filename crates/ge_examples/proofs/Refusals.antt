@@ -1,7 +1,7 @@
 -- Each refusal, by one command that meets it; and that each leaves the cluster as it was.
 use Rattle.std.specs.Prelude.{◌≡◌, ◌++◌, replicate, codes, refl}
 use Rattle.ge_model_value.specs.Complexes.{opening}
-use Rattle.ge_model_master.specs.Scripts.{written_for, left_by}
+use Rattle.ge_model_core.specs.Scripts.{written_for, left_by}
 
 -- -N has a word
 an_option_without_its_word : written_for (

@@ -1,6 +1,6 @@
 -- What jobs ask for: complexes, and what hosts and queues have of them.
 use Rattle.std.specs.Prelude.{◌≡◌, ◌++◌, codes, refl}
-use Rattle.ge_model_master.specs.Scripts.{written_for}
+use Rattle.ge_model_core.specs.Scripts.{written_for}
 
 -- 4 is not at least 5, and no level has an arch
 resources_asked_for : written_for (

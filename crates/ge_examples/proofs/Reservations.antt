@@ -1,6 +1,6 @@
 -- Reservations and backfill.
 use Rattle.std.specs.Prelude.{◌≡◌, ◌++◌, codes, refl}
-use Rattle.ge_model_master.specs.Scripts.{written_for}
+use Rattle.ge_model_core.specs.Scripts.{written_for}
 
 -- B is reserved at the end of A; C ends before, so it starts, and D would hold a slot then
 backfill : written_for (

@@ -1,6 +1,6 @@
 -- Tasks that overrun, and slots that are taken away.
 use Rattle.std.specs.Prelude.{◌≡◌, ◌++◌, codes, refl}
-use Rattle.ge_model_master.specs.Scripts.{written_for}
+use Rattle.ge_model_core.specs.Scripts.{written_for}
 
 -- tasks that run past their time are booked as long as they run
 a_task_that_overruns : written_for (

@@ -1,6 +1,6 @@
 -- Tasks that start, and the lists that show them.
 use Rattle.std.specs.Prelude.{◌≡◌, ◌++◌, codes, refl}
-use Rattle.ge_model_master.specs.Scripts.{written_for}
+use Rattle.ge_model_core.specs.Scripts.{written_for}
 
 listed_without_a_last_line_feed : written_for (codes "@10 ann staff\nqsub -N one sleep 60\n@12 ann staff\nqstat")
     ≡ codes "0 1\nYour job 1 (\"one\") has been submitted\n0 1\n1 one ann qw 10 - 1 -\n"

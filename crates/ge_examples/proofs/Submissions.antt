@@ -1,6 +1,6 @@
 -- Jobs that are submitted, and requests that are refused.
 use Rattle.std.specs.Prelude.{◌≡◌, [], codes, refl}
-use Rattle.ge_model_master.specs.Scripts.{written_for}
+use Rattle.ge_model_core.specs.Scripts.{written_for}
 
 -- nothing is answered to no request
 no_request : written_for [] ≡ []

@@ -1,38 +1,36 @@
 -- Every kind of change keeps a sound cluster sound, and its jobs in order.
-use Rattle.std.proofs.Common.{◌≡◌, ℕ, ◌+◌, ◌==◌, ◌≤◌, Bool, List, [], ◌∷◌, ◌++◌, length, find, fold, Option, Some, None, refl, sym, subst, ◌∙◌, arith}
+use Rattle.std.proofs.Common.{◌≡◌, ℕ, ◌+◌, ◌≤◌, Bool, true, false, if◌then◌else◌, List, [], ◌∷◌, ◌++◌, length, fold, Option, Some, None, refl, sym, subst, ◌∙◌, arith}
+use Rattle.std.specs.Prelude.{IsTrue, IfSome}
 use Rattle.std.specs.BTreeMap.{is_at}
 use Rattle.std.specs.Ordering.{nat_cmp}
 use Rattle.ge_collections.specs.Keyed.{at_number, put_number}
-use Rattle.ge_rows.specs.declared.cluster.Cluster.{Cluster}
-use Rattle.ge_rows.specs.declared.entries.Change.{Change}
-use Rattle.ge_rows.specs.declared.entries.Change.TheVariants as change
-use Rattle.ge_rows.specs.declared.entries.Item.{Item}
-use Rattle.ge_rows.specs.declared.entries.Item.TheVariants as item
-use Rattle.ge_rows.specs.declared.entries.ObjectKind.{ObjectKind}
-use Rattle.ge_rows.specs.declared.entries.ObjectKind.TheVariants as kind
-use Rattle.ge_rows.specs.declared.entries.Patch.{Patch}
-use Rattle.ge_rows.specs.declared.entries.Pick.{Pick}
-use Rattle.ge_rows.specs.declared.jobs.Job.{Job}
-use Rattle.ge_rows.specs.declared.jobs.Running.{Running}
-use Rattle.ge_rows.specs.declared.scheduling.Start.{Start}
-use Rattle.ge_model_cluster.specs.Soundness.{IsSound}
+use Rattle.ge_model_rows.specs.ClusterRows.{Cluster}
+use Rattle.ge_model_rows.specs.EntryRows.{Change, Item, ObjectKind, Patch}
+use Rattle.ge_model_rows.specs.JobRows.{Job, Running}
+use Rattle.ge_model_rows.specs.ScheduleRows.{Start}
+use Rattle.ge_model_rows.specs.TaskRows.{TaskId, TaskSpan}
+use Rattle.ge_model_cluster.specs.Soundness.{IsSound, IsBooked, has_advance}
 use Rattle.ge_model_plan.proofs.Soundness.{jobs_are_sound, sound_from_jobs, job_added}
+use Rattle.ge_model_plan.proofs.SoundnessLists.{all_put}
 use Rattle.ge_model_plan.proofs.SoundnessSerials.{AreNumbered}
 use Rattle.ge_model_plan.proofs.SoundnessStarts.{AreSound, serial_past_all}
-use Rattle.ge_model_jobs.specs.Serials.{has_serial, running_with}
-use Rattle.ge_model_jobs.specs.Picks.{picks_of, picked_jobs}
+use Rattle.ge_model_jobs.specs.declared.After.{After}
+use Rattle.ge_model_jobs.specs.Serials.{running_with}
+use Rattle.ge_model_jobs.specs.Picks.{joined_picks}
 use Rattle.ge_model_jobs.specs.Altering.{change_job, patched, alter_job, held, freed, number_after}
-use Rattle.ge_model_jobs.specs.Starting.{start_task, serial_past}
-use Rattle.ge_model_jobs.specs.Ending.{keep_job, end_task, with_end, without_picked, forced_lines, delete_from, cleared, clear_pick}
+use Rattle.ge_model_jobs.specs.Starting.{start_task, serial_past, started as started_jobs}
+use Rattle.ge_model_jobs.specs.Ending.{lose_tasks, without_ended, runs_in, ended, after_exit, end_task, with_end, without_picked, forced_lines, delete_from, cleared, clear_from}
 use Rattle.ge_model_jobs.specs.Configuring.{with_item, without_item}
 use Rattle.ge_model_jobs.specs.Applying.{after_entry, changes_in_full}
-use Rattle.ge_model_jobs.specs.Orderly.{KeysFrom, IsOrdered, AllOrderly}
-use Rattle.ge_model_jobs.proofs.Keys.{put_rises}
-use Rattle.ge_model_jobs.proofs.Orderly.{IfRuns, runs_there, put_orderly, item_jobs, dropped_jobs, ArePicks, IfOrderly, there_orderly}
+use Rattle.ge_model_jobs.specs.Orderly.{KeysFrom, IsOrderly, IsOrdered, AllOrderly}
+use Rattle.ge_model_jobs.proofs.Keys.{at_has, put_rises}
+use Rattle.ge_model_jobs.proofs.Places.{IsPick}
+use Rattle.ge_model_jobs.proofs.Orderly.{put_orderly, item_jobs, dropped_jobs, AreJoined, picks_joined, IfOrderly, there_orderly}
 use Rattle.ge_soundness.proofs.Brought.{Fits, IsNew}
-use Rattle.ge_soundness.proofs.ChangesJobs.{follows_fields, cleared_follows, cleared_has, picked_follows, exit_follows}
-use Rattle.ge_soundness.proofs.ChangesTables.{AreKept, Stems, stems_same, stems_then, stems_orderly, stems_keys, stems_kept, changed_stems, Stands, IfStands, at_stands, keep_stems}
+use Rattle.ge_soundness.proofs.ChangesJobs.{Follows, follows_fields, cleared_follows, cleared_has, deleted_follows, exit_follows}
+use Rattle.ge_soundness.proofs.ChangesTables.{AreKept, Stems, stems_same, stems_then, stems_orderly, stems_kept, changed_stems, lost_stems}
 use Rattle.ge_soundness.proofs.ChangesStarts.{starts_kept}
+use Rattle.ge_soundness.proofs.ChangesBookings.{AreIn, stems_in, run_booked, more_booked, fewer_booked, dropped_rise, left_rise, put_rise}
 
 -- ---- a cluster and its jobs
 
@@ -40,14 +38,16 @@ use Rattle.ge_soundness.proofs.ChangesStarts.{starts_kept}
 jobs_kept : (c : Cluster) (moment : ℕ) → c.last ≤ moment → IsSound c → IsOrdered c → AreKept c.next_job moment c.next_serial c.jobs
 jobs_kept c moment later sound ordered = record { sound = jobs_are_sound c moment sound later; orderly = ordered.jobs; keys = ordered.numbers }
 
--- a cluster whose jobs are sound and stand in order
-cluster_kept : (c : Cluster) → 1 ≤ c.next_serial → AreKept c.next_job c.last c.next_serial c.jobs → IsSound c × IsOrdered c
-cluster_kept c next jobs = (sound_from_jobs c next jobs.sound, record { numbers = jobs.keys; jobs = jobs.orderly })
+-- a cluster whose jobs and advance reservations are sound and stand in order
+cluster_kept : (c : Cluster) → 1 ≤ c.next_serial → AreKept c.next_job c.last c.next_serial c.jobs → IsBooked c → KeysFrom 0 c.advances → IsSound c × IsOrdered c
+cluster_kept c next jobs booked keys = (sound_from_jobs c next jobs.sound booked, record { numbers = jobs.keys; jobs = jobs.orderly; advances = keys })
 
--- a cluster whose jobs stem from those of another one, with the same next number and serial
+-- a cluster whose jobs stem from those of another one, with the same next numbers and serial and the same advance reservations
 pub record Comes (c after : Cluster) : Type 0 where
   pub next_job : after.next_job ≡ c.next_job
   pub next_serial : after.next_serial ≡ c.next_serial
+  pub next_advance : after.next_advance ≡ c.next_advance
+  pub advances : after.advances ≡ c.advances
   pub jobs : Stems c.jobs after.jobs
 
 -- it is sound where the other one is
@@ -55,42 +55,55 @@ comes_kept : (c after : Cluster) (moment : ℕ) → c.last ≤ moment → Comes 
 comes_kept c after moment later comes sound ordered =
     cluster_kept (record after { last = moment }) (rw comes.next_serial sound.next)
     (rw (comes.next_job, comes.next_serial) (stems_kept c.next_job moment c.next_serial comes.jobs (jobs_kept c moment later sound ordered)))
+    (record {
+      next = rw comes.next_advance sound.booked.next;
+      advances = rw (comes.next_advance, comes.advances) sound.booked.advances;
+      jobs = rw comes.advances (stems_in c.advances comes.jobs sound.booked.jobs);
+    })
+    (rw comes.advances ordered.advances)
 
 -- nothing changes
 comes_same : (c : Cluster) → AllOrderly c.jobs → Comes c c
-comes_same c all = record { next_job = refl; next_serial = refl; jobs = stems_same c.jobs all }
+comes_same c all = record { next_job = refl; next_serial = refl; next_advance = refl; advances = refl; jobs = stems_same c.jobs all }
 
 -- one change after the other
 comes_then : {first second third : Cluster} → Comes first second → Comes second third → Comes first third
-comes_then p q = record { next_job = q.next_job ∙ p.next_job; next_serial = q.next_serial ∙ p.next_serial; jobs = stems_then p.jobs q.jobs }
+comes_then p q = record {
+  next_job = q.next_job ∙ p.next_job;
+  next_serial = q.next_serial ∙ p.next_serial;
+  next_advance = q.next_advance ∙ p.next_advance;
+  advances = q.advances ∙ p.advances;
+  jobs = stems_then p.jobs q.jobs;
+}
 
 -- ---- what is configured
 
--- the next job's number and the next serial stay
-item_next : (moment : ℕ) (c : Cluster) (object : Item) → ((with_item moment c object).next_job ≡ c.next_job) × ((with_item moment c object).next_serial ≡ c.next_serial)
-unfolding with_item
-item_next moment c (item.Complexes rows) = (refl, refl)
-item_next moment c _ = (refl, refl)
+-- the next numbers, the next serial and the advance reservations stay
+record Stays (c after : Cluster) : Type 0 where
+  next_job : after.next_job ≡ c.next_job
+  next_serial : after.next_serial ≡ c.next_serial
+  next_advance : after.next_advance ≡ c.next_advance
+  advances : after.advances ≡ c.advances
 
-dropped_next : (c : Cluster) (sort : ObjectKind) (name : List ℕ) → ((without_item c sort name).next_job ≡ c.next_job) × ((without_item c sort name).next_serial ≡ c.next_serial)
+stays_comes : (c after : Cluster) → Stays c after → Stems c.jobs after.jobs → Comes c after
+stays_comes c after stays jobs = record { next_job = stays.next_job; next_serial = stays.next_serial; next_advance = stays.next_advance; advances = stays.advances; jobs = jobs }
+
+item_next : (moment : ℕ) (c : Cluster) (object : Item) → Stays c (with_item moment c object)
+unfolding with_item
+item_next moment c (Item.Complexes rows) = record { next_job = refl; next_serial = refl; next_advance = refl; advances = refl }
+item_next moment c _ = record { next_job = refl; next_serial = refl; next_advance = refl; advances = refl }
+
+dropped_next : (c : Cluster) (sort : ObjectKind) (name : List ℕ) → Stays c (without_item c sort name)
 unfolding without_item
-dropped_next c kind.Complexes name = (refl, refl)
-dropped_next c _ name = (refl, refl)
+dropped_next c ObjectKind.Complexes name = record { next_job = refl; next_serial = refl; next_advance = refl; advances = refl }
+dropped_next c _ name = record { next_job = refl; next_serial = refl; next_advance = refl; advances = refl }
 
 -- an object is put, or removed
 item_comes : (moment : ℕ) (c : Cluster) (object : Item) → AllOrderly c.jobs → Comes c (with_item moment c object)
-item_comes moment c object all = record {
-  next_job = (item_next moment c object).0;
-  next_serial = (item_next moment c object).1;
-  jobs = subst (Stems c.jobs) (sym (item_jobs moment c object)) (stems_same c.jobs all);
-}
+item_comes moment c object all = stays_comes c _ (item_next moment c object) (subst (Stems c.jobs) (sym (item_jobs moment c object)) (stems_same c.jobs all))
 
 dropped_comes : (c : Cluster) (sort : ObjectKind) (name : List ℕ) → AllOrderly c.jobs → Comes c (without_item c sort name)
-dropped_comes c sort name all = record {
-  next_job = (dropped_next c sort name).0;
-  next_serial = (dropped_next c sort name).1;
-  jobs = subst (Stems c.jobs) (sym (dropped_jobs c sort name)) (stems_same c.jobs all);
-}
+dropped_comes c sort name all = stays_comes c _ (dropped_next c sort name) (subst (Stems c.jobs) (sym (dropped_jobs c sort name)) (stems_same c.jobs all))
 
 -- ---- jobs altered, held and released
 
@@ -103,87 +116,92 @@ folded_stems step stems (one ∷ items) jobs all = let first = stems jobs one al
 -- qalter
 altered_stems : (altered : List (ℕ × Patch)) (jobs : List (ℕ × Job)) → AllOrderly jobs → Stems jobs (fold alter_job jobs altered)
 altered_stems = folded_stems alter_job
-    (λ jobs one all. changed_stems (is_at (nat_cmp one.0)) (patched one.1) (λ number job orderly. (follows_fields job (patched one.1 job) refl refl refl refl refl orderly, λ has. has)) jobs all)
+    (λ jobs one all. changed_stems (is_at (nat_cmp one.0)) (patched one.1) (λ number job orderly. (follows_fields job (patched one.1 job) refl refl refl refl refl refl orderly, λ has. has)) jobs all)
 
 -- qhold
 held_stems : (bits : ℕ) (numbers : List ℕ) (jobs : List (ℕ × Job)) → AllOrderly jobs → Stems jobs (fold (change_job (held bits)) jobs numbers)
 held_stems bits = folded_stems (change_job (held bits))
-    (λ jobs n all. changed_stems (is_at (nat_cmp n)) (held bits) (λ number job orderly. (follows_fields job (held bits job) refl refl refl refl refl orderly, λ has. has)) jobs all)
+    (λ jobs n all. changed_stems (is_at (nat_cmp n)) (held bits) (λ number job orderly. (follows_fields job (held bits job) refl refl refl refl refl refl orderly, λ has. has)) jobs all)
 
 -- qrls
 freed_stems : (bits : ℕ) (numbers : List ℕ) (jobs : List (ℕ × Job)) → AllOrderly jobs → Stems jobs (fold (change_job (freed bits)) jobs numbers)
 freed_stems bits = folded_stems (change_job (freed bits))
-    (λ jobs n all. changed_stems (is_at (nat_cmp n)) (freed bits) (λ number job orderly. (follows_fields job (freed bits job) refl refl refl refl refl orderly, λ has. has)) jobs all)
+    (λ jobs n all. changed_stems (is_at (nat_cmp n)) (freed bits) (λ number job orderly. (follows_fields job (freed bits job) refl refl refl refl refl refl orderly, λ has. has)) jobs all)
 
 -- ---- tasks cleared, deleted and ended
 
 -- tasks in error wait again
-cleared_stems : (picks : List Pick) (jobs : List (ℕ × Job)) → ArePicks picks → AllOrderly jobs → Stems jobs (fold clear_pick jobs picks)
+cleared_stems : (rows : List (ℕ × Option (List TaskSpan))) (jobs : List (ℕ × Job)) → AreJoined rows → AllOrderly jobs → Stems jobs (fold clear_from jobs rows)
 cleared_stems [] jobs fit all = stems_same jobs all
-cleared_stems (pick ∷ picks) jobs fit all = stems_then first (cleared_stems picks (clear_pick jobs pick) fit.1 (stems_orderly first))
+cleared_stems (named ∷ rows) jobs fit all = stems_then first (cleared_stems rows (clear_from jobs named) fit.1 (stems_orderly first))
   where
-    first : Stems jobs (clear_pick jobs pick)
-    first = changed_stems (is_at (nat_cmp pick.job)) (cleared pick.tasks)
-        (λ number job one. (cleared_follows pick.tasks job fit.0 one, cleared_has number pick.tasks job fit.0 one)) jobs all
+    first : Stems jobs (clear_from jobs named)
+    first = changed_stems (is_at (nat_cmp named.0)) (cleared named.1)
+        (λ number job one. (cleared_follows named.1 job fit.0 one, cleared_has number named.1 job fit.0 one)) jobs all
+
+-- a change of one job that each job follows, where the job is there
+some_follows : (change : Job → Job) → ((job : Job) → IsOrderly job → Follows job (change job)) → (found : Option Job) → IfOrderly found → IfSome found (λ job. Follows job (change job))
+some_follows change follows None is = tt
+some_follows change follows (Some job) is = follows job is
 
 -- tasks of one job are deleted
-delete_comes : (moment : ℕ) (force : Bool) (picks : List Pick) (c : Cluster) (number : ℕ) → ArePicks picks → KeysFrom 0 c.jobs → AllOrderly c.jobs → Comes c (delete_from moment force picks c number)
-delete_comes moment force picks c number fit keys all = by (at_number c.jobs number) (at_stands number c.jobs) (there_orderly c.jobs number all)
+delete_comes : (moment : ℕ) (force : Bool) (c : Cluster) (named : ℕ × Option (List TaskSpan)) → IsPick named.1 → AllOrderly c.jobs → Comes c (delete_from moment force c named)
+delete_comes moment force c named fit all = by (at_number c.jobs named.0)
   where
-    by : (found : Option Job) → IfStands number c.jobs found → IfOrderly found
+    by : (found : Option Job)
         → Comes c (elim found as (λ x. Cluster) [
           | None ↦ c
           | Some job ↦ record c {
-            jobs = keep_job c.jobs number (fold (without_picked force) job (picks_of number picks));
-            lines = c.lines ++ forced_lines moment force number job (picks_of number picks);
+            jobs = lose_tasks (without_picked force named.1) c.jobs named.0;
+            lines = c.lines ++ forced_lines moment force named.0 job named.1;
           }
         ])
-    by None stands one = comes_same c all
-    by (Some job) stands one = record {
+    by None = comes_same c all
+    by (Some job) = record {
       next_job = refl;
       next_serial = refl;
-      jobs = keep_stems number job _ c.jobs stands keys all (picked_follows force (λ pick. pick.job == number) picks job fit one);
+      next_advance = refl;
+      advances = refl;
+      jobs = lost_stems (without_picked force named.1) named.0 c.jobs
+          (some_follows (without_picked force named.1) (λ job one. deleted_follows force named.1 job fit one) (at_number c.jobs named.0) (there_orderly c.jobs named.0 all)) all;
     }
 
 -- tasks are deleted, job by job
-deleted_comes : (moment : ℕ) (force : Bool) (picks : List Pick) (numbers : List ℕ) (c : Cluster) → ArePicks picks → KeysFrom 0 c.jobs → AllOrderly c.jobs
-    → Comes c (fold (delete_from moment force picks) c numbers)
-deleted_comes moment force picks [] c fit keys all = comes_same c all
-deleted_comes moment force picks (n ∷ numbers) c fit keys all =
-    let first = delete_comes moment force picks c n fit keys all in
-    comes_then first (deleted_comes moment force picks numbers (delete_from moment force picks c n) fit (stems_keys 0 first.jobs keys) (stems_orderly first.jobs))
+deleted_comes : (moment : ℕ) (force : Bool) (rows : List (ℕ × Option (List TaskSpan))) (c : Cluster) → AreJoined rows → AllOrderly c.jobs → Comes c (fold (delete_from moment force) c rows)
+deleted_comes moment force [] c fit all = comes_same c all
+deleted_comes moment force (named ∷ rows) c fit all =
+    let first = delete_comes moment force c named fit.0 all in
+    comes_then first (deleted_comes moment force rows (delete_from moment force c named) fit.1 (stems_orderly first.jobs))
 
--- the job of a running task that a serial names stands in its table
-abbrev IfFound : List (ℕ × Job) → Option (ℕ × Job × ℕ × Running) → Type 0
-IfFound jobs None = Unit {0}
-IfFound jobs (Some found) = Stands found.0 found.1 jobs
-
--- what a serial names stands there
-found_stands : (jobs : List (ℕ × Job)) (serial : ℕ) → IfFound jobs (running_with jobs serial)
-found_stands [] serial = tt
-found_stands (row ∷ rows) serial = by (find (has_serial serial) row.1.running) (running_with rows serial) (found_stands rows serial)
+-- a task of a table ends
+end_stems : (jobs : List (ℕ × Job)) (id : TaskId) (end : After) → AllOrderly jobs → Stems jobs (ended jobs id end)
+end_stems jobs id end all = by (runs_in (at_number jobs id.job) id.task) refl
   where
-    by : (found : Option (ℕ × Running)) (behind : Option (ℕ × Job × ℕ × Running)) → IfFound rows behind
-        → IfFound (row ∷ rows) (elim found as (λ x. Option (ℕ × Job × ℕ × Running)) [ Some task ↦ Some (row.0, row.1, task.0, task.1) | None ↦ behind ])
-    by (Some task) behind again = Stands.first
-    by None None again = tt
-    by None (Some found) again = Stands.later again
+    there : (found : Option Job) → IfOrderly found → runs_in found id.task ≡ true → IfSome found (λ job. Follows job (without_ended end id.task job))
+    there None one runs = tt
+    there (Some job) one runs = exit_follows end id.task job (sym (at_has id.task job.running) ∙ runs) one
 
--- a task ends
-ended_comes : (moment : ℕ) (c : Cluster) (serial exit cpu mem io : ℕ) → KeysFrom 0 c.jobs → AllOrderly c.jobs → Comes c (with_end moment c serial exit cpu mem io)
+    by : (runs : Bool) → runs_in (at_number jobs id.job) id.task ≡ runs → Stems jobs (if runs then lose_tasks (without_ended end id.task) jobs id.job else jobs)
+    by true runs = lost_stems (without_ended end id.task) id.job jobs (there (at_number jobs id.job) (there_orderly jobs id.job all) runs) all
+    by false runs = stems_same jobs all
+
+-- the task of a serial ends
+ended_comes : (moment : ℕ) (c : Cluster) (serial exit cpu mem io : ℕ) → AllOrderly c.jobs → Comes c (with_end moment c serial exit cpu mem io)
 unfolding with_end
-ended_comes moment c serial exit cpu mem io keys all = by (running_with c.jobs serial) (found_stands c.jobs serial) (runs_there c.jobs serial all)
+ended_comes moment c serial exit cpu mem io all = by (running_with c.jobs serial)
   where
-    by : (found : Option (ℕ × Job × ℕ × Running)) → IfFound c.jobs found → IfRuns found
+    by : (found : Option (ℕ × Job × ℕ × Running))
         → Comes c (elim found as (λ x. Cluster) [
           | None ↦ c
           | Some found ↦ end_task moment c found.0 found.1 found.2 found.3 (record { failed = 0; exit = exit; cpu = cpu; mem = mem; io = io })
         ])
-    by None stands is = comes_same c all
-    by (Some found) stands is = record {
+    by None = comes_same c all
+    by (Some found) = record {
       next_job = refl;
       next_serial = refl;
-      jobs = keep_stems found.0 found.1 _ c.jobs stands keys all (exit_follows exit found.2 found.3 found.1 is.1 is.0);
+      next_advance = refl;
+      advances = refl;
+      jobs = end_stems c.jobs (record { job = found.0; task = found.2 }) (after_exit exit found.3) all;
     }
 
 -- ---- jobs submitted and started
@@ -209,26 +227,37 @@ run_kept c moment starts later numbered sound ordered =
     let jobs = starts_kept c.next_job moment starts c.next_serial c.jobs sound.next numbered.follow (jobs_kept c moment later sound ordered) in
     (omega (arith, past, sound.next), subst (λ n. AreKept c.next_job moment n (fold (start_task moment) c.jobs starts)) (sym past) jobs)
 
+-- the job that is submitted joined no advance reservation, or one that is there
+joined_put : (c : Cluster) (job : Job) → {moment : ℕ} → IsNew c moment job → IsSound c → AreIn c.advances (put_number c.jobs job.number job)
+joined_put c job new sound = all_put (λ job. IsTrue (has_advance c.advances job)) job.number job (λ key. new.joined) c.jobs sound.booked.jobs
+
 -- ---- an entry
 
 -- a sound cluster is sound after each entry whose change brings what it must, and its jobs stay in order
 pub kept : (c : Cluster) (moment : ℕ) (what : Change) → c.last ≤ moment → Fits c moment what → IsSound c → IsOrdered c
     → IsSound (after_entry c (record { moment = moment; change = what })) × IsOrdered (after_entry c (record { moment = moment; change = what }))
 unfolding changes_in_full
-kept c moment (change.Submit job) later fits sound ordered = cluster_kept _ sound.next (submitted_kept c moment job later fits sound ordered)
-kept c moment (change.Alter altered) later fits sound ordered =
-    comes_kept c (record c { jobs = fold alter_job c.jobs altered }) moment later (record { next_job = refl; next_serial = refl; jobs = altered_stems altered c.jobs ordered.jobs }) sound ordered
-kept c moment (change.Hold numbers bits) later fits sound ordered =
-    comes_kept c (record c { jobs = fold (change_job (held bits)) c.jobs numbers }) moment later (record { next_job = refl; next_serial = refl; jobs = held_stems bits numbers c.jobs ordered.jobs }) sound ordered
-kept c moment (change.Release numbers bits) later fits sound ordered =
-    comes_kept c (record c { jobs = fold (change_job (freed bits)) c.jobs numbers }) moment later (record { next_job = refl; next_serial = refl; jobs = freed_stems bits numbers c.jobs ordered.jobs }) sound ordered
-kept c moment (change.Delete picks force) later fits sound ordered =
-    comes_kept c _ moment later (deleted_comes moment force picks (picked_jobs picks) c fits ordered.numbers ordered.jobs) sound ordered
-kept c moment (change.Clear picks) later fits sound ordered =
-    comes_kept c (record c { jobs = fold clear_pick c.jobs picks }) moment later (record { next_job = refl; next_serial = refl; jobs = cleared_stems picks c.jobs fits ordered.jobs }) sound ordered
-kept c moment (change.Put object) later fits sound ordered = comes_kept c _ moment later (item_comes moment c object ordered.jobs) sound ordered
-kept c moment (change.Drop key) later fits sound ordered = comes_kept c _ moment later (dropped_comes c key.kind key.name ordered.jobs) sound ordered
-kept c moment (change.Load host report) later fits sound ordered = cluster_kept _ sound.next (jobs_kept c moment later sound ordered)
-kept c moment (change.End serial exit cpu mem io) later fits sound ordered =
-    comes_kept c _ moment later (ended_comes moment c serial exit cpu mem io ordered.numbers ordered.jobs) sound ordered
-kept c moment (change.Run starts) later fits sound ordered = let run = run_kept c moment starts later fits sound ordered in cluster_kept _ run.0 run.1
+kept c moment (Change.Submit job) later fits sound ordered =
+    cluster_kept _ sound.next (submitted_kept c moment job later fits sound ordered) (record { next = sound.booked.next; advances = sound.booked.advances; jobs = joined_put c job fits sound }) ordered.advances
+kept c moment (Change.Alter altered) later fits sound ordered =
+    comes_kept c (record c { jobs = fold alter_job c.jobs altered }) moment later (record { next_job = refl; next_serial = refl; next_advance = refl; advances = refl; jobs = altered_stems altered c.jobs ordered.jobs }) sound ordered
+kept c moment (Change.Hold numbers bits) later fits sound ordered =
+    comes_kept c (record c { jobs = fold (change_job (held bits)) c.jobs numbers }) moment later (record { next_job = refl; next_serial = refl; next_advance = refl; advances = refl; jobs = held_stems bits numbers c.jobs ordered.jobs }) sound ordered
+kept c moment (Change.Release numbers bits) later fits sound ordered =
+    comes_kept c (record c { jobs = fold (change_job (freed bits)) c.jobs numbers }) moment later (record { next_job = refl; next_serial = refl; next_advance = refl; advances = refl; jobs = freed_stems bits numbers c.jobs ordered.jobs }) sound ordered
+kept c moment (Change.Delete picks force) later fits sound ordered =
+    comes_kept c _ moment later (deleted_comes moment force (joined_picks picks) c (picks_joined picks fits) ordered.jobs) sound ordered
+kept c moment (Change.Clear picks) later fits sound ordered =
+    comes_kept c (record c { jobs = fold clear_from c.jobs (joined_picks picks) }) moment later (record { next_job = refl; next_serial = refl; next_advance = refl; advances = refl; jobs = cleared_stems (joined_picks picks) c.jobs (picks_joined picks fits) ordered.jobs }) sound ordered
+kept c moment (Change.Put object) later fits sound ordered = comes_kept c _ moment later (item_comes moment c object ordered.jobs) sound ordered
+kept c moment (Change.Drop key) later fits sound ordered = comes_kept c _ moment later (dropped_comes c key.kind key.name ordered.jobs) sound ordered
+kept c moment (Change.Load host report) later fits sound ordered = cluster_kept _ sound.next (jobs_kept c moment later sound ordered) (record { next = sound.booked.next; advances = sound.booked.advances; jobs = sound.booked.jobs }) ordered.advances
+kept c moment (Change.End serial exit cpu mem io) later fits sound ordered =
+    comes_kept c _ moment later (ended_comes moment c serial exit cpu mem io ordered.jobs) sound ordered
+kept c moment (Change.Run starts) later fits sound ordered =
+    let run = run_kept c moment starts later fits sound ordered in
+    cluster_kept _ run.0 run.1 (run_booked c sound.booked moment starts _ refl refl refl) (left_rise moment (started_jobs moment c starts) c.advances ordered.advances)
+kept c moment (Change.Book advance) later fits sound ordered =
+    cluster_kept _ sound.next (jobs_kept c moment later sound ordered) (more_booked c sound.booked advance _ fits.0 refl refl refl) (put_rise c.next_advance advance c.advances ordered.advances)
+kept c moment (Change.Unbook numbers) later fits sound ordered =
+    cluster_kept _ sound.next (jobs_kept c moment later sound ordered) (fewer_booked c sound.booked numbers _ ordered.advances fits refl refl refl) (dropped_rise numbers c.advances ordered.advances)

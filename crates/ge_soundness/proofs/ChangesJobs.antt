@@ -1,16 +1,13 @@
 -- A job after tasks of it end, are deleted or wait again: what it has is a part of what it had.
-use Rattle.std.proofs.Common.{◌≡◌, ℕ, ◌-◌, ◌≤◌, ◌%◌, ◌==◌, ◌&&◌, ◌||◌, Bool, true, false, not, cond, if◌then◌else◌, List, [], ◌∷◌, filter, fold, Option, refl, ap, ◌∙◌, arith, true≢false}
+use Rattle.std.proofs.Common.{◌≡◌, ℕ, ◌-◌, ◌≤◌, ◌%◌, ◌==◌, ◌&&◌, ◌||◌, Bool, true, false, not, if◌then◌else◌, List, [], ◌∷◌, Option, refl, ap, ◌∙◌, arith, true≢false}
 use Rattle.std.specs.Prelude.{map}
 use Rattle.std.specs.BTreeMap.{is_at}
 use Rattle.std.specs.List.{AllByRecursion}
 use Rattle.std.specs.Ordering.{nat_cmp}
 use Rattle.std.proofs.Math.Nat.{zero-mod, sub_self}
 use Rattle.std.proofs.lemmas.Bool.{and_from, or_left, eq-eqb, le-leb}
-use Rattle.ge_rows.specs.TaskSet.{is_form}
-use Rattle.ge_rows.specs.declared.entries.Pick.{Pick}
-use Rattle.ge_rows.specs.declared.jobs.Job.{Job}
-use Rattle.ge_rows.specs.declared.jobs.Running.{Running}
-use Rattle.ge_rows.specs.declared.tasks.TaskSpan.{TaskSpan}
+use Rattle.ge_model_rows.specs.JobRows.{Job, Running}
+use Rattle.ge_model_rows.specs.TaskRows.{TaskSpan, is_form}
 use Rattle.ge_model_value.specs.Pieces.{is_empty}
 use Rattle.ge_model_tasks.specs.Spans.{in_span}
 use Rattle.ge_model_tasks.specs.Sets.{has_number, union}
@@ -18,10 +15,12 @@ use Rattle.ge_model_tasks.proofs.Sets.{form_rises}
 use Rattle.ge_model_tasks.proofs.Together.{union_has}
 use Rattle.ge_model_cluster.specs.Soundness.{HasTask, serial_of}
 use Rattle.ge_model_jobs.specs.Picks.{names_task, named_in}
-use Rattle.ge_model_jobs.specs.Ending.{has_no_task, gone, again, in_error, after_exit, marked, is_unnamed, run_on, without_picked, cleared}
+use Rattle.ge_model_jobs.specs.declared.After.{After}
+use Rattle.ge_model_jobs.specs.declared.After.TheVariants as after
+use Rattle.ge_model_jobs.specs.Ending.{has_no_task, gone, again, in_error, moved, without_ended, marked, is_unnamed, run_on, without_picked, cleared}
 use Rattle.ge_model_jobs.specs.Orderly.{has_key, IsOrderly}
 use Rattle.ge_model_jobs.proofs.Places.{is_task, Keeps, IsPick, gone_keeps, again_keeps, in_error_keeps, deleted_keeps, cleared_keeps, named_form, named_has, unnamed_has}
-use Rattle.ge_model_jobs.proofs.Orderly.{ArePicks, same_places}
+use Rattle.ge_model_jobs.proofs.Orderly.{same_places}
 use Rattle.ge_soundness.proofs.ChangesParts.{IsPart, part_all, part_then, part_filter, part_facts, part_map, part_removed}
 
 -- ---- the tasks that run on
@@ -56,17 +55,18 @@ marked_starts moment tasks (task ∷ running) before = (by (names_task tasks tas
 
 -- ---- jobs
 
--- a job after a change: orderly, submitted when it was, with the span it had, and no task, serial or start comes up
+-- a job after a change: orderly, submitted when it was, with the span and the advance reservation it had, and no task, serial or start comes up
 pub record Follows (old new : Job) : Type 0 where
   pub orderly : IsOrderly new
   pub had : (t : ℕ) → is_task t new ≡ true → is_task t old ≡ true
   pub span : new.span ≡ old.span
   pub submitted : new.submitted ≡ old.submitted
+  pub advance : new.advance ≡ old.advance
   pub running : RunOn old.running new.running
 
 -- nothing changes
 pub follows_same : (job : Job) → IsOrderly job → Follows job job
-follows_same job one = record { orderly = one; had = λ t has. has; span = refl; submitted = refl; running = run_part (part_all job.running) }
+follows_same job one = record { orderly = one; had = λ t has. has; span = refl; submitted = refl; advance = refl; running = run_part (part_all job.running) }
 
 -- one change after the other
 pub follows_then : {first second third : Job} → Follows first second → Follows second third → Follows first third
@@ -75,6 +75,7 @@ follows_then p q = record {
   had = λ t has. p.had t (q.had t has);
   span = q.span ∙ p.span;
   submitted = q.submitted ∙ p.submitted;
+  advance = q.advance ∙ p.advance;
   running = record {
     serials = part_then p.running.serials q.running.serials;
     starts = λ moment before. q.running.starts moment (p.running.starts moment before);
@@ -82,23 +83,24 @@ follows_then p q = record {
 }
 
 -- a change that keeps the places of the tasks, and lets no other task run
-follows_kept : (old new : Job) → Keeps old new → new.span ≡ old.span → new.submitted ≡ old.submitted → RunOn old.running new.running → Follows old new
-follows_kept old new keeps span submitted running = record { orderly = keeps.0; had = keeps.1; span = span; submitted = submitted; running = running }
+follows_kept : (old new : Job) → Keeps old new → new.span ≡ old.span → new.submitted ≡ old.submitted → new.advance ≡ old.advance → RunOn old.running new.running → Follows old new
+follows_kept old new keeps span submitted advance running = record { orderly = keeps.0; had = keeps.1; span = span; submitted = submitted; advance = advance; running = running }
 
 -- fields of which soundness doesn't speak change
 pub follows_fields : (old new : Job) → new.queued ≡ old.queued → new.broken ≡ old.broken → new.running ≡ old.running → new.span ≡ old.span → new.submitted ≡ old.submitted
-    → IsOrderly old → Follows old new
-follows_fields old new p q r span submitted one = record {
+    → new.advance ≡ old.advance → IsOrderly old → Follows old new
+follows_fields old new p q r span submitted advance one = record {
   orderly = same_places old new p q r one;
   had = λ t has. rw (← p, ← q, ← r) has;
   span = span;
   submitted = submitted;
+  advance = advance;
   running = rw r (run_part (part_all old.running));
 }
 
 -- tasks in error wait again
 pub cleared_follows : (tasks : Option (List TaskSpan)) (job : Job) → IsPick tasks → IsOrderly job → Follows job (cleared tasks job)
-cleared_follows tasks job pick one = follows_kept job (cleared tasks job) (cleared_keeps tasks job pick one) refl refl (run_part (part_all job.running))
+cleared_follows tasks job pick one = follows_kept job (cleared tasks job) (cleared_keeps tasks job pick one) refl refl refl (run_part (part_all job.running))
 
 -- no task is lost by that
 pub cleared_has : (number : ℕ) (tasks : Option (List TaskSpan)) (job : Job) → IsPick tasks → IsOrderly job → HasTask (number, job) → HasTask (number, cleared tasks job)
@@ -113,42 +115,31 @@ cleared_has number tasks job pick one has = (has.0, stays (names_task tasks has.
         ∙ ap (λ x. has_number has.0 job.queued || x) (named_has has.0 tasks job.broken pick one.broken)
 
 -- tasks are deleted
-pub deleted_follows : (force : Bool) (pick : Pick) (job : Job) → IsPick pick.tasks → IsOrderly job → Follows job (without_picked force job pick)
-deleted_follows force pick job is one = follows_kept job (without_picked force job pick) (deleted_keeps force pick job is one) refl refl (by force)
+pub deleted_follows : (force : Bool) (tasks : Option (List TaskSpan)) (job : Job) → IsPick tasks → IsOrderly job → Follows job (without_picked force tasks job)
+deleted_follows force tasks job is one = follows_kept job (without_picked force tasks job) (deleted_keeps force tasks job is one) refl refl refl (by force)
   where
-    by : (force : Bool) → RunOn job.running (run_on force pick.tasks job.running)
-    by true = run_part (part_filter (is_unnamed pick.tasks) job.running)
-    by false = record { serials = marked_serials pick.tasks job.running; starts = λ moment before. marked_starts moment pick.tasks job.running before }
-
--- tasks that some of these picks name are deleted
-pub picked_follows : (force : Bool) (test : Pick → Bool) (picks : List Pick) (job : Job) → ArePicks picks → IsOrderly job → Follows job (fold (without_picked force) job (filter test picks))
-picked_follows force test [] job fit one = follows_same job one
-picked_follows force test (pick ∷ picks) job fit one = by (test pick) (λ job one. picked_follows force test picks job fit.1 one)
-  where
-    by : (here : Bool) → ((job : Job) → IsOrderly job → Follows job (fold (without_picked force) job (filter test picks)))
-        → Follows job (fold (without_picked force) job (cond here (pick ∷ filter test picks) (filter test picks)))
-    by true again = let first = deleted_follows force pick job fit.0 one in follows_then first (again (without_picked force job pick) first.orderly)
-    by false again = again job one
+    by : (force : Bool) → RunOn job.running (run_on force tasks job.running)
+    by true = run_part (part_filter (is_unnamed tasks) job.running)
+    by false = record { serials = marked_serials tasks job.running; starts = λ moment before. marked_starts moment tasks job.running before }
 
 -- a task ends
-pub exit_follows : (exit task : ℕ) (running : Running) (job : Job) → has_key task job.running ≡ true → IsOrderly job → Follows job (after_exit exit task running job)
-exit_follows exit task running job runs one = by (running.deleting || task == 0) (exit == 99) (exit == 100) at_least
+pub exit_follows : (end : After) (task : ℕ) (job : Job) → has_key task job.running ≡ true → IsOrderly job → Follows job (without_ended end task job)
+exit_follows end task job runs one = by (task == 0) at_least end
   where
-    at_least : (running.deleting || task == 0) ≡ false → 1 ≤ task
+    at_least : (task == 0) ≡ false → 1 ≤ task
     at_least h = grind arith
 
     less : RunOn job.running (gone task job).running
     less = run_part (part_removed (is_at (nat_cmp task)) job.running)
 
     ends : Follows job (gone task job)
-    ends = follows_kept job (gone task job) (gone_keeps task job one) refl refl less
+    ends = follows_kept job (gone task job) (gone_keeps task job one) refl refl refl less
 
-    by : (gone_now waits fails : Bool) → (gone_now ≡ false → 1 ≤ task)
-        → Follows job (if gone_now then gone task job else (if waits then again task job else (if fails then in_error task job else gone task job)))
-    by true waits fails h = ends
-    by false true fails h = follows_kept job (again task job) (again_keeps task job (h refl) runs one) refl refl less
-    by false false true h = follows_kept job (in_error task job) (in_error_keeps task job (h refl) runs one) refl refl less
-    by false false false h = ends
+    by : (none : Bool) → (none ≡ false → 1 ≤ task) → (end : After) → Follows job (if none then gone task job else moved end task job)
+    by true h end = ends
+    by false h after.Gone = ends
+    by false h after.Again = follows_kept job (again task job) (again_keeps task job (h refl) runs one) refl refl refl less
+    by false h after.Broken = follows_kept job (in_error task job) (in_error_keeps task job (h refl) runs one) refl refl refl less
 
 -- ---- what isn't empty
 

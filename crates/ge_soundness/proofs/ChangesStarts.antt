@@ -6,8 +6,8 @@ use Rattle.std.specs.Ordering.{nat_cmp}
 use Rattle.std.proofs.lemmas.Bool.{cond_both, or_left, or_right, eq-eqb}
 use Rattle.ge_collections.specs.Changed.{change_value}
 use Rattle.ge_collections.specs.Keyed.{put_number}
-use Rattle.ge_rows.specs.declared.jobs.Job.{Job}
-use Rattle.ge_rows.specs.declared.scheduling.Start.{Start}
+use Rattle.ge_model_rows.specs.JobRows.{Job}
+use Rattle.ge_model_rows.specs.ScheduleRows.{Start}
 use Rattle.ge_model_cluster.specs.Soundness.{HasTask, IsSpanned, HasStarted, job_serials, serials_of}
 use Rattle.ge_model_plan.proofs.SoundnessLists.{IsJoined, joined_all, joined_distinct, joined_after, joined_before, all_changed, all_put, all_weaker}
 use Rattle.ge_model_plan.proofs.SoundnessLists.IsJoined.{same}
@@ -26,7 +26,7 @@ abbrev started : ℕ → Start → Job → Job
 started moment start job = record job { queued = without_number start.task.task job.queued; running = put_number job.running start.task.task (running_from moment start) }
 
 -- a job after a start: its waiting task runs, or nothing changed
-after_start : (P : Job → Type 0) (moment : ℕ) (start : Start) (job : Job) → P job → (has_number start.task.task job.queued ≡ true → P (started moment start job)) → P (with_start moment start job)
+pub after_start : (P : Job → Type 0) (moment : ℕ) (start : Start) (job : Job) → P job → (has_number start.task.task job.queued ≡ true → P (started moment start job)) → P (with_start moment start job)
 after_start P moment start job before after = cond_both (has_number start.task.task job.queued) (started moment start job) job P after (λ stays. before)
 
 -- the job has a task: the one that starts, where one does

@@ -1,14 +1,15 @@
 -- Tables of jobs before and after a change: each job that stays follows the one under its number, others are gone.
-use Rattle.std.proofs.Common.{◌≡◌, ℕ, ◌+◌, ◌≤◌, ◌<◌, Bool, true, false, cond, if◌then◌else◌, List, [], ◌∷◌, Option, Some, None, refl, sym, subst, arith, nat_cmp, Ordering, Less, Equal, Greater}
+use Rattle.std.proofs.Common.{◌≡◌, ℕ, ◌+◌, ◌≤◌, ◌<◌, Bool, true, false, cond, if◌then◌else◌, List, [], ◌∷◌, Option, Some, None, refl, sym, subst, arith, nat_cmp}
+use Rattle.std.specs.Prelude.{IfSome}
 use Rattle.std.specs.BTreeMap.{is_at}
 use Rattle.std.specs.List.{AllByRecursion}
-use Rattle.std.specs.Ordering.{is_eq, match_ordering}
 use Rattle.ge_collections.specs.Changed.{change_value}
-use Rattle.ge_collections.specs.Keyed.{at_number, put_number, drop_number}
-use Rattle.ge_rows.specs.declared.jobs.Job.{Job}
+use Rattle.ge_collections.specs.Keyed.{at_number, drop_number}
+use Rattle.ge_model_rows.specs.JobRows.{Job}
 use Rattle.ge_model_cluster.specs.Soundness.{HasTask, IsSpanned, IsParted, HasStarted, is_in_span, job_serials, serials_of}
 use Rattle.ge_model_plan.proofs.SoundnessStarts.{AreSound}
-use Rattle.ge_model_jobs.specs.Ending.{has_no_task, keep_job}
+use Rattle.ge_model_jobs.specs.Altering.{change_job}
+use Rattle.ge_model_jobs.specs.Ending.{has_no_task, lose_tasks}
 use Rattle.ge_model_jobs.specs.Orderly.{KeysFrom, IsOrderly, AllOrderly}
 use Rattle.ge_model_jobs.proofs.Keys.{keys_lower}
 use Rattle.ge_soundness.proofs.ChangesParts.{IsPart, part_append, part_behind, part_facts, part_distinct}
@@ -58,7 +59,7 @@ stems_keys low (kept {row = row} follows has stems) keys = (keys.0, stems_keys (
 stems_keys low (gone {row = row} {more = more} stems) keys = keys_lower low (row.0 + 1) more (omega (arith, keys.0)) (stems_keys (row.0 + 1) stems keys.1)
 
 -- a fact of each job that a job which follows has too
-stems_facts : (P : ℕ × Job → Type 0) → ((row : ℕ × Job) (new : Job) → Follows row.1 new → (HasTask row → HasTask (row.0, new)) → P row → P (row.0, new))
+pub stems_facts : (P : ℕ × Job → Type 0) → ((row : ℕ × Job) (new : Job) → Follows row.1 new → (HasTask row → HasTask (row.0, new)) → P row → P (row.0, new))
     → {rows more : List (ℕ × Job)} → Stems rows more → AllByRecursion P rows → AllByRecursion P more
 stems_facts P step none a = tt
 stems_facts P step (kept {row = row} {new = new} follows has stems) a = (step row new follows has a.0, stems_facts P step stems a.1)
@@ -87,7 +88,7 @@ stems_kept number moment serial {rows} {more} stems jobs = record {
   keys = stems_keys 0 stems jobs.keys;
 }
 
--- ---- jobs changed where they stand, put anew and taken out
+-- ---- jobs changed where they stand, and taken out
 
 -- one job is changed
 pub changed_stems : (test : ℕ → Bool) (change : Job → Job) → ((number : ℕ) (job : Job) → IsOrderly job → Follows job (change job) × (HasTask (number, job) → HasTask (number, change job)))
@@ -99,66 +100,32 @@ changed_stems test change step (row ∷ rows) all = by (test row.0) (changed_ste
     by true again = let one = step row.0 row.1 all.0 in kept one.0 one.1 (stems_same rows all.1)
     by false again = kept (follows_same row.1 all.0) (λ has. has) again
 
--- a job is taken out
-dropped_stems : (number : ℕ) (rows : List (ℕ × Job)) → AllOrderly rows → Stems rows (drop_number rows number)
-dropped_stems number [] all = none
-dropped_stems number (row ∷ rows) all = by (is_eq (nat_cmp number row.0)) (dropped_stems number rows all.1)
+-- the job under a number loses tasks where it is there: it follows, or is taken out where it has none
+pub lost_stems : (change : Job → Job) (number : ℕ) (rows : List (ℕ × Job)) → IfSome (at_number rows number) (λ job. Follows job (change job)) → AllOrderly rows → Stems rows (lose_tasks change rows number)
+lost_stems change number [] follows all = none
+lost_stems change number (row ∷ rows) follows (first, all) = by (is_at (nat_cmp number) row.0) (λ later. lost_stems change number rows later all) follows
   where
-    by : (here : Bool) → Stems rows (drop_number rows number) → Stems (row ∷ rows) (cond here rows (row ∷ drop_number rows number))
-    by true again = gone (stems_same rows all.1)
-    by false again = kept (follows_same row.1 all.0) (λ has. has) again
+    here_lost : (empty : Bool) → has_no_task (change row.1) ≡ empty → Follows row.1 (change row.1)
+        → Stems (row ∷ rows) (if empty then rows else (row.0, change row.1) ∷ rows)
+    here_lost true is follows = gone (stems_same rows all)
+    here_lost false is follows = kept follows (λ before. has_some row.0 (change row.1) follows.orderly is) (stems_same rows all)
 
--- a job stands in a table under a number
-pub data Stands (number : ℕ) (job : Job) : List (ℕ × Job) → Type 0 where
-  first : {rows : List (ℕ × Job)} → Stands number job ((number, job) ∷ rows)
-  later : {row : ℕ × Job} {rows : List (ℕ × Job)} → Stands number job rows → Stands number job (row ∷ rows)
+    behind_lost : (found : Option Job)
+        → Stems rows (elim found as (λ x. List (ℕ × Job)) [ None ↦ rows | Some job ↦ if has_no_task (change job) then drop_number rows number else change_job change rows number ])
+        → Stems (row ∷ rows) (elim found as (λ x. List (ℕ × Job)) [ None ↦ row ∷ rows | Some job ↦ if has_no_task (change job) then row ∷ drop_number rows number else row ∷ change_job change rows number ])
+    behind_lost None again = kept (follows_same row.1 first) (λ has. has) again
+    behind_lost (Some job) again = either (has_no_task (change job)) again
+      where
+        either : (empty : Bool) → Stems rows (if empty then drop_number rows number else change_job change rows number)
+            → Stems (row ∷ rows) (if empty then row ∷ drop_number rows number else row ∷ change_job change rows number)
+        either true again = kept (follows_same row.1 first) (λ has. has) again
+        either false again = kept (follows_same row.1 first) (λ has. has) again
 
--- as what a table may have
-abbrev pub IfStands : ℕ → List (ℕ × Job) → Option Job → Type 0
-IfStands number rows None = Unit {0}
-IfStands number rows (Some job) = Stands number job rows
-
--- numbers that compare as equal are the same
-same_number : (n m : ℕ) → is_eq (nat_cmp n m) ≡ true → n ≡ m
-same_number n m h = grind arith
-
--- what a table has at a number stands there
-pub at_stands : (number : ℕ) (rows : List (ℕ × Job)) → IfStands number rows (at_number rows number)
-at_stands number [] = tt
-at_stands number (row ∷ rows) = by (is_at (nat_cmp number) row.0) refl (at_number rows number) (at_stands number rows)
-  where
-    by : (here : Bool) → is_at (nat_cmp number) row.0 ≡ here → (behind : Option Job) → IfStands number rows behind → IfStands number (row ∷ rows) (cond here (Some row.1) behind)
-    by true is behind again = subst (λ n. Stands n row.1 (row ∷ rows)) (sym (same_number number row.0 is)) first
-    by false is None again = tt
-    by false is (Some job) again = later again
-
--- a number of a table isn't below the first
-stands_above : {number : ℕ} {job : Job} (low : ℕ) {rows : List (ℕ × Job)} → Stands number job rows → KeysFrom low rows → low ≤ number
-stands_above low first keys = keys.0
-stands_above low (later {row = row} stands) keys = let behind = stands_above (row.0 + 1) stands keys.1 in omega (arith, keys.0)
-
--- a job is put anew at its number
-put_stems : (number : ℕ) (job new : Job) (low : ℕ) {rows : List (ℕ × Job)} → Stands number job rows → KeysFrom low rows → AllOrderly rows → Follows job new → HasTask (number, new) → Stems rows (put_number rows number new)
-put_stems number job new low (first {rows = rows}) keys all follows has = by (nat_cmp number number) refl
-  where
-    by : (order : Ordering) → nat_cmp number number ≡ order
-        → Stems ((number, job) ∷ rows) (match_ordering order ((number, new) ∷ (number, job) ∷ rows) ((number, new) ∷ rows) ((number, job) ∷ put_number rows number new))
-    by Less is = absurd (grind arith)
-    by Equal is = kept follows (λ before. has) (stems_same rows all.1)
-    by Greater is = absurd (grind arith)
-put_stems number job new low (later {row = row} {rows = rows} stands) keys all follows has =
-    by (nat_cmp number row.0) refl (stands_above (row.0 + 1) stands keys.1) (put_stems number job new (row.0 + 1) stands keys.1 all.1 follows has)
-  where
-    by : (order : Ordering) → nat_cmp number row.0 ≡ order → row.0 + 1 ≤ number → Stems rows (put_number rows number new)
-        → Stems (row ∷ rows) (match_ordering order ((number, new) ∷ row ∷ rows) ((row.0, new) ∷ rows) (row ∷ put_number rows number new))
-    by Less is above again = absurd (grind arith)
-    by Equal is above again = absurd (grind arith)
-    by Greater is above again = kept (follows_same row.1 all.0) (λ before. before) again
-
--- a job that lost tasks is put anew, or taken out where it has none
-pub keep_stems : (number : ℕ) (job new : Job) (rows : List (ℕ × Job)) → Stands number job rows → KeysFrom 0 rows → AllOrderly rows → Follows job new → Stems rows (keep_job rows number new)
-keep_stems number job new rows stands keys all follows = by (has_no_task new) refl
-  where
-    by : (empty : Bool) → has_no_task new ≡ empty → Stems rows (if empty then drop_number rows number else put_number rows number new)
-    by true is = dropped_stems number rows all
-    by false is = put_stems number job new 0 stands keys all follows (has_some number new follows.orderly is)
+    by : (here : Bool) → (IfSome (at_number rows number) (λ job. Follows job (change job)) → Stems rows (lose_tasks change rows number))
+        → IfSome (cond here (Some row.1) (at_number rows number)) (λ job. Follows job (change job))
+        → Stems (row ∷ rows) (elim (cond here (Some row.1) (at_number rows number)) as (λ x. List (ℕ × Job)) [
+          | None ↦ row ∷ rows
+          | Some job ↦ if has_no_task (change job) then cond here rows (row ∷ drop_number rows number) else cond here ((row.0, change row.1) ∷ rows) (row ∷ change_job change rows number)
+        ])
+    by true again follows = here_lost (has_no_task (change row.1)) refl follows
+    by false again follows = behind_lost (at_number rows number) (again follows)

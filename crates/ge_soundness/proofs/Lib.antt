@@ -1,12 +1,15 @@
-pub mod Brought
 pub mod ChangesParts
 pub mod ChangesJobs
 pub mod ChangesTables
 pub mod ChangesStarts
+pub mod ChangesBookings
+pub mod Brought
 pub mod Changes
 pub mod PlansAnswers
 pub mod PlansRuns
 pub mod PlansRanges
+pub mod PlansGranted
+pub mod PlansBookings
 pub mod PlansSubmissions
 pub mod PlansTargets
 pub mod PlansCommands

@@ -2,14 +2,13 @@
 use Rattle.std.proofs.Common.{◌≡◌, ℕ, ◌≤◌, Bool, true, false, if◌then◌else◌, List, [], Option, Some, None, refl}
 use Rattle.std.specs.Prelude.{IfSome}
 use Rattle.ge_base.specs.declared.refusal.Refusal.{Refusal}
-use Rattle.ge_rows.specs.declared.cluster.Cluster.{Cluster}
-use Rattle.ge_rows.specs.declared.entries.Change.{Change}
-use Rattle.ge_rows.specs.declared.events.Event.{Event}
-use Rattle.ge_rows.specs.declared.planned.Planned.{Planned}
+use Rattle.ge_model_rows.specs.ClusterRows.{Cluster}
+use Rattle.ge_model_rows.specs.EntryRows.{Change}
+use Rattle.ge_model_rows.specs.EventRows.{Event, Planned}
 use Rattle.ge_model_value.specs.Faults.{when, first_fault}
 use Rattle.ge_model_plan.specs.Refusals.{refused, unless_refused}
-use Rattle.ge_model_master.proofs.NamedPlans.{none_holds}
-use Rattle.ge_model_master.specs.Answers.{changed, shown, unless_faulty}
+use Rattle.ge_model_core.proofs.NamedPlans.{none_holds}
+use Rattle.ge_model_core.specs.Answers.{changed, shown, unless_faulty}
 use Rattle.ge_soundness.proofs.Brought.{Fits}
 
 -- the entry of a plan, if it has one, isn't before the last one, and its change fits

@@ -2,29 +2,24 @@
 use Rattle.std.proofs.Common.{ℕ, Bool, true, false, if◌then◌else◌, List, [], ◌∷◌, drop, Option, Some, None, option_map, codes}
 use Rattle.std.specs.Prelude.{IfSome, ◌&&◌, nat_le, length, is_some}
 use Rattle.ge_rows.specs.Keyed.{text_eq, at_text}
-use Rattle.ge_rows.specs.declared.commands.Command.{Command}
-use Rattle.ge_rows.specs.declared.commands.Command.TheVariants as command
-use Rattle.ge_rows.specs.declared.commands.Listing.TheVariants as listing
-use Rattle.ge_rows.specs.declared.commands.Query.TheVariants as query
-use Rattle.ge_rows.specs.declared.entries.Key.{Key}
-use Rattle.ge_rows.specs.declared.entries.ObjectKind.{ObjectKind}
-use Rattle.ge_rows.specs.declared.entries.ObjectKind.TheVariants as kind
+use Rattle.ge_model_rows.specs.CommandRows.{Command, Listing, Query}
+use Rattle.ge_model_rows.specs.EntryRows.{ObjectKind, Key}
 use Rattle.ge_model_script.specs.Names.{is_name}
 use Rattle.ge_model_value.specs.Pieces.{is_empty, before_byte, behind_byte}
 use Rattle.ge_model_jobs.proofs.Orderly.{ArePicks}
 use Rattle.ge_model_grammar.specs.Bodies.{body_of}
 use Rattle.ge_model_grammar.specs.Lines.{begins_with, read_each}
 use Rattle.ge_model_grammar.specs.Options.{Given}
-use Rattle.ge_model_grammar.specs.Shapes.{qsub_shapes, qalter_shapes, read_options}
+use Rattle.ge_model_grammar.specs.Shapes.{qsub_shapes, qalter_shapes, qrsub_shapes, read_options, merged_by}
 use Rattle.ge_model_grammar.specs.Targets.{job_of, wide_number, jobs_of, targets_of, holds_of}
 use Rattle.ge_model_grammar.specs.Configuring.{added_kinds, modified_kinds, list_kinds, removed_kinds, printed_kinds, single_kinds, is_name_of, with_body, with_name, without_name, add_name, removal, printing, stopping, bare_form, config_of}
-use Rattle.ge_model_grammar.specs.Commands.{line_words, script_options, submission, submit_of, alteration, alter_of, delete_of, clear_of, with_letters, hold_of, show_of, account_of, reported, load_of, end_with, end_of, orders_of, dispatch_of, run_of, line_command, command_in, command_of}
+use Rattle.ge_model_grammar.specs.Commands.{line_words, script_options, submission, submit_of, alteration, alter_of, delete_of, clear_of, with_letters, hold_of, show_of, account_of, reported, load_of, end_with, end_of, orders_of, dispatch_of, has_one_of, booking_by, booking, book_of, unbook_of, shown_booked, booked_of, run_of, line_command, command_in, command_of}
 use Rattle.ge_soundness.proofs.PlansTargets.{targets_are}
 
 -- the targets of a command that deletes or clears are in the form; no other command has any
 abbrev pub FitsCommand : Command → Type 0
-FitsCommand (command.Delete force picks) = ArePicks picks
-FitsCommand (command.Clear picks) = ArePicks picks
+FitsCommand (Command.Delete force picks) = ArePicks picks
+FitsCommand (Command.Clear picks) = ArePicks picks
 FitsCommand other = Unit {0}
 
 -- a command that is read, if one is
@@ -75,14 +70,14 @@ delete_fits : (words : List (List ℕ)) → FitsRead (delete_of words)
 unfolding delete_of
 delete_fits [] = tt
 delete_fits (word ∷ words) =
-    either (text_eq word (codes "-f")) (option_map (command.Delete true) (targets_of words)) (option_map (command.Delete false) (targets_of (word ∷ words)))
-    (made ArePicks (command.Delete true) (λ picks are. are) (targets_of words) (targets_are words))
-    (made ArePicks (command.Delete false) (λ picks are. are) (targets_of (word ∷ words)) (targets_are (word ∷ words)))
+    either (text_eq word (codes "-f")) (option_map (Command.Delete true) (targets_of words)) (option_map (Command.Delete false) (targets_of (word ∷ words)))
+    (made ArePicks (Command.Delete true) (λ picks are. are) (targets_of words) (targets_are words))
+    (made ArePicks (Command.Delete false) (λ picks are. are) (targets_of (word ∷ words)) (targets_are (word ∷ words)))
 
 clear_fits : (words : List (List ℕ)) → FitsRead (clear_of words)
 unfolding clear_of
 clear_fits [] = tt
-clear_fits (word ∷ words) = where_so (text_eq word (codes "-cj")) (option_map command.Clear (targets_of words)) (made ArePicks command.Clear (λ picks are. are) (targets_of words) (targets_are words))
+clear_fits (word ∷ words) = where_so (text_eq word (codes "-cj")) (option_map Command.Clear (targets_of words)) (made ArePicks Command.Clear (λ picks are. are) (targets_of words) (targets_are words))
 
 hold_fits : (make : ℕ → List ℕ → Command) (words : List (List ℕ)) → ((bits : ℕ) (jobs : List ℕ) → FitsCommand (make bits jobs)) → FitsRead (hold_of make words)
 unfolding hold_of
@@ -103,10 +98,10 @@ hold_fits make (word ∷ words) fits =
 show_fits : (words : List (List ℕ)) → FitsRead (show_of words)
 unfolding show_of
 show_fits [] = tt
-show_fits (word ∷ []) = either (text_eq word (codes "-f")) (Some (command.Show listing.Queues)) _ tt (where_so (text_eq word (codes "-pri")) (Some (command.Show listing.Prios)) tt)
+show_fits (word ∷ []) = either (text_eq word (codes "-f")) (Some (Command.Show Listing.Queues)) _ tt (where_so (text_eq word (codes "-pri")) (Some (Command.Show Listing.Prios)) tt)
 show_fits (word ∷ of ∷ []) =
-    either (text_eq word (codes "-u")) (Some (command.Show (listing.All of))) _ tt
-    (where_so (text_eq word (codes "-j")) _ (plain (λ job. command.Show (listing.One job)) (λ job. tt) (job_of of)))
+    either (text_eq word (codes "-u")) (Some (Command.Show (Listing.All of))) _ tt
+    (where_so (text_eq word (codes "-j")) _ (plain (λ job. Command.Show (Listing.One job)) (λ job. tt) (job_of of)))
 show_fits (word ∷ of ∷ other ∷ words) = tt
 
 account_fits : (words : List (List ℕ)) → FitsRead (account_of words)
@@ -114,8 +109,8 @@ unfolding account_of
 account_fits [] = tt
 account_fits (word ∷ []) = tt
 account_fits (word ∷ of ∷ []) =
-    either (text_eq word (codes "-o")) _ _ (where_so (is_name of) (Some (command.Account (query.Owner of))) tt)
-    (where_so (text_eq word (codes "-j")) _ (plain (λ job. command.Account (query.Job job)) (λ job. tt) (job_of of)))
+    either (text_eq word (codes "-o")) _ _ (where_so (is_name of) (Some (Command.Account (Query.Owner of))) tt)
+    (where_so (text_eq word (codes "-j")) _ (plain (λ job. Command.Account (Query.Job job)) (λ job. tt) (job_of of)))
 account_fits (word ∷ of ∷ other ∷ words) = tt
 
 -- ---- load, end, orders, job, sched
@@ -124,7 +119,7 @@ load_fits : (words : List (List ℕ)) → FitsRead (load_of words)
 unfolding load_of
 load_fits [] = tt
 load_fits (host ∷ []) = tt
-load_fits (host ∷ word ∷ words) = where_so (is_name host) (option_map (command.Load host) (read_each reported (word ∷ words))) (plain (command.Load host) (λ pairs. tt) (read_each reported (word ∷ words)))
+load_fits (host ∷ word ∷ words) = where_so (is_name host) (option_map (Command.Load host) (read_each reported (word ∷ words))) (plain (Command.Load host) (λ pairs. tt) (read_each reported (word ∷ words)))
 
 end_fits : (words : List (List ℕ)) → FitsRead (end_of words)
 unfolding end_of
@@ -141,17 +136,40 @@ end_fits words = by (read_each wide_number words)
 orders_fits : (words : List (List ℕ)) → FitsRead (orders_of words)
 unfolding orders_of
 orders_fits [] = tt
-orders_fits (host ∷ []) = where_so (is_name host) (Some (command.Orders host)) tt
+orders_fits (host ∷ []) = where_so (is_name host) (Some (Command.Orders host)) tt
 orders_fits (host ∷ other ∷ words) = tt
 
 dispatch_fits : (words : List (List ℕ)) → FitsRead (dispatch_of words)
 unfolding dispatch_of
 dispatch_fits [] = tt
-dispatch_fits (serial ∷ []) = plain command.JobOf (λ number. tt) (wide_number serial)
+dispatch_fits (serial ∷ []) = plain Command.JobOf (λ number. tt) (wide_number serial)
 dispatch_fits (serial ∷ other ∷ words) = tt
 
+-- ---- qrsub, qrdel, qrstat
+
+book_fits : (words : List (List ℕ)) → FitsRead (book_of words)
+unfolding book_of
+book_fits words = by (read_options qrsub_shapes words)
+  where
+    by : (given : Option (Given × List (List ℕ))) → FitsRead (elim given as (λ x. Option Command) [ None ↦ None | Some read ↦ booking read ])
+    by None = tt
+    by (Some read) =
+        let given = merged_by qrsub_shapes read.0 in
+        where_so (is_empty read.1) (booking_by given) (where_so (has_one_of given (codes "-e") (codes "-d")) (Some (Command.Book (record { items = given }))) tt)
+
+unbook_fits : (words : List (List ℕ)) → FitsRead (unbook_of words)
+unfolding unbook_of
+unbook_fits words = plain Command.Unbook (λ numbers. tt) (jobs_of words)
+
+booked_fits : (words : List (List ℕ)) → FitsRead (booked_of words)
+unfolding booked_of
+booked_fits [] = tt
+booked_fits (word ∷ []) = tt
+booked_fits (word ∷ of ∷ []) = where_so (text_eq word (codes "-ar")) (option_map shown_booked (job_of of)) (plain shown_booked (λ number. tt) (job_of of))
+booked_fits (word ∷ of ∷ other ∷ words) = tt
+
 run_fits : (words : List (List ℕ)) → FitsRead (run_of words)
-run_fits words = where_so (is_empty words) (Some command.Sched) tt
+run_fits words = where_so (is_empty words) (Some Command.Sched) tt
 
 -- ---- qconf
 
@@ -171,16 +189,16 @@ nameless_fits make None fits = tt
 nameless_fits make (Some sort) fits = fits (record { kind = sort; name = [] })
 
 removal_fits : (word : List ℕ) (words : List (List ℕ)) → FitsRead (removal word words)
-removal_fits word [] = where_so (text_eq word (codes "stree")) (without_name command.Remove (Some kind.Shares)) tt
-removal_fits word (name ∷ words) = name_fits command.Remove (at_text removed_kinds word) (name ∷ words) (λ key. tt)
+removal_fits word [] = where_so (text_eq word (codes "stree")) (without_name Command.Remove (Some ObjectKind.Shares)) tt
+removal_fits word (name ∷ words) = name_fits Command.Remove (at_text removed_kinds word) (name ∷ words) (λ key. tt)
 
 printing_fits : (word : List ℕ) (words : List (List ℕ)) → FitsRead (printing word words)
-printing_fits word [] = nameless_fits command.Print (at_text single_kinds word) (λ key. tt)
-printing_fits word (name ∷ words) = name_fits command.Print (at_text printed_kinds word) (name ∷ words) (λ key. tt)
+printing_fits word [] = nameless_fits Command.Print (at_text single_kinds word) (λ key. tt)
+printing_fits word (name ∷ words) = name_fits Command.Print (at_text printed_kinds word) (name ∷ words) (λ key. tt)
 
 bare_fits : (option : List ℕ) (words : List (List ℕ)) → FitsRead (bare_form option words)
 bare_fits option words =
-    either (text_eq option (codes "-km")) (stopping words) _ (where_so (is_empty words) (Some command.Stop) tt)
+    either (text_eq option (codes "-km")) (stopping words) _ (where_so (is_empty words) (Some Command.Stop) tt)
     (either (begins_with (codes "-d") option) (removal (drop 2 option) words) _ (removal_fits (drop 2 option) words)
     (either (begins_with (codes "-s") option) (printing (drop 2 option) words) _ (printing_fits (drop 2 option) words)
     (where_so (begins_with (codes "-a") option) (with_name add_name (at_text list_kinds (drop 2 option)) words) (name_fits add_name (at_text list_kinds (drop 2 option)) words (λ key. tt)))))
@@ -189,9 +207,9 @@ config_fits : (words : List (List ℕ)) (body : List ℕ) → FitsRead (config_o
 unfolding config_of
 config_fits [] body = tt
 config_fits (option ∷ words) body =
-    either (begins_with (codes "-A") option) (with_body command.Add (at_text added_kinds (drop 2 option)) words body) _ (body_fits command.Add (at_text added_kinds (drop 2 option)) words body (λ sort text. tt))
-    (either (begins_with (codes "-M") option) (with_body command.Modify (at_text modified_kinds (drop 2 option)) words body) _
-    (body_fits command.Modify (at_text modified_kinds (drop 2 option)) words body (λ sort text. tt))
+    either (begins_with (codes "-A") option) (with_body Command.Add (at_text added_kinds (drop 2 option)) words body) _ (body_fits Command.Add (at_text added_kinds (drop 2 option)) words body (λ sort text. tt))
+    (either (begins_with (codes "-M") option) (with_body Command.Modify (at_text modified_kinds (drop 2 option)) words body) _
+    (body_fits Command.Modify (at_text modified_kinds (drop 2 option)) words body (λ sort text. tt))
     (where_so (is_empty body) (bare_form option words) (bare_fits option words)))
 
 -- ---- all of them
@@ -200,8 +218,8 @@ line_fits : (verb : List ℕ) (words : List (List ℕ)) → FitsRead (line_comma
 line_fits verb words =
     either (text_eq verb (codes "qalter")) (alter_of words) _ (alter_fits words)
     (either (text_eq verb (codes "qdel")) (delete_of words) _ (delete_fits words)
-    (either (text_eq verb (codes "qhold")) (hold_of command.Hold words) _ (hold_fits command.Hold words (λ bits jobs. tt))
-    (either (text_eq verb (codes "qrls")) (hold_of command.Release words) _ (hold_fits command.Release words (λ bits jobs. tt))
+    (either (text_eq verb (codes "qhold")) (hold_of Command.Hold words) _ (hold_fits Command.Hold words (λ bits jobs. tt))
+    (either (text_eq verb (codes "qrls")) (hold_of Command.Release words) _ (hold_fits Command.Release words (λ bits jobs. tt))
     (either (text_eq verb (codes "qmod")) (clear_of words) _ (clear_fits words)
     (either (text_eq verb (codes "qstat")) (show_of words) _ (show_fits words)
     (either (text_eq verb (codes "qacct")) (account_of words) _ (account_fits words)
@@ -209,7 +227,10 @@ line_fits verb words =
     (either (text_eq verb (codes "end")) (end_of words) _ (end_fits words)
     (either (text_eq verb (codes "orders")) (orders_of words) _ (orders_fits words)
     (either (text_eq verb (codes "job")) (dispatch_of words) _ (dispatch_fits words)
-    (where_so (text_eq verb (codes "sched")) (run_of words) (run_fits words))))))))))))
+    (either (text_eq verb (codes "qrsub")) (book_of words) _ (book_fits words)
+    (either (text_eq verb (codes "qrdel")) (unbook_of words) _ (unbook_fits words)
+    (either (text_eq verb (codes "qrstat")) (booked_of words) _ (booked_fits words)
+    (where_so (text_eq verb (codes "sched")) (run_of words) (run_fits words)))))))))))))))
 
 words_fit : (words : List (List ℕ)) (text : List ℕ) → FitsRead (command_in words text)
 words_fit [] text = tt

@@ -2,17 +2,17 @@
 use Rattle.std.proofs.Common.{ℕ, ◌≤◌, Bool, List, ◌++◌, flat_map}
 use Rattle.std.specs.Prelude.{not, ◌&&◌}
 use Rattle.ge_base.specs.declared.refusal.Refusal.TheVariants.{Cycle, NotPermitted}
-use Rattle.ge_rows.specs.declared.cluster.Cluster.{Cluster}
-use Rattle.ge_rows.specs.declared.events.Event.{Event}
+use Rattle.ge_model_rows.specs.ClusterRows.{Cluster}
+use Rattle.ge_model_rows.specs.EntryRows.{Pick}
+use Rattle.ge_model_rows.specs.EventRows.{Event}
 use Rattle.ge_model_order.specs.Priority.{prios_at, order_of}
-use Rattle.ge_model_master.specs.Altering.{alter_plan, alter_faults, patches_of, closes_a_cycle}
-use Rattle.ge_model_master.specs.Deleting.{delete_plan, clear_plan}
-use Rattle.ge_model_master.specs.Holding.{hold_plan, release_plan, hold_plan_faults}
-use Rattle.ge_model_master.specs.Configuring.{manager_faults}
-use Rattle.ge_model_master.specs.Scheduling.{decisions_at, sched_plan}
-use Rattle.ge_model_master.specs.Targets.{target_faults}
+use Rattle.ge_model_core.specs.Altering.{alter_plan, alter_faults, patches_of, closes_a_cycle}
+use Rattle.ge_model_core.specs.Deleting.{delete_plan, clear_plan}
+use Rattle.ge_model_core.specs.Holding.{hold_plan, release_plan, hold_plan_faults}
+use Rattle.ge_model_core.specs.Configuring.{manager_faults}
+use Rattle.ge_model_core.specs.Scheduling.{decisions_at, sched_plan}
+use Rattle.ge_model_core.specs.Targets.{target_faults}
 use Rattle.ge_model_jobs.proofs.Orderly.{ArePicks}
-use Rattle.ge_rows.specs.declared.entries.Pick.{Pick}
 use Rattle.ge_model_grammar.specs.Options.{Given}
 use Rattle.ge_model_site.specs.Access.{is_operator}
 use Rattle.ge_model_value.specs.Faults.{when}

@@ -1,8 +1,7 @@
 -- Ranges as they are read, and their sets: these are in the form, and have the numbers of the range.
 use Rattle.std.proofs.Common.{◌≡◌, ℕ, ◌+◌, ◌-◌, ◌^◌, ◌≤◌, ◌<◌, ◌&&◌, Bool, true, false, if◌then◌else◌, min, nat_lt, nat_le, List, [], ◌∷◌, Option, Some, None, option_and_then, codes, refl, ap, ◌∙◌, arith}
 use Rattle.std.specs.Prelude.{IfSome}
-use Rattle.ge_rows.specs.declared.tasks.TaskSpan.{TaskSpan}
-use Rattle.ge_rows.specs.TaskSet.{is_form}
+use Rattle.ge_model_rows.specs.TaskRows.{TaskSpan, is_form}
 use Rattle.ge_model_value.specs.Pieces.{before_byte, behind_byte, has_byte}
 use Rattle.ge_model_tasks.specs.Spans.{span_of, in_span, stretch}
 use Rattle.ge_model_tasks.specs.Sets.{has_number}

@@ -1,12 +1,10 @@
 -- The serials of a run's starts: they follow on the next one of the cluster, up to the last that there is.
 use Rattle.std.proofs.Common.{◌≡◌, ℕ, ◌+◌, ◌≤◌, List, [], ◌∷◌, ◌++◌, cond, filter_map, ap, subst, ◌∙◌, arith}
 use Rattle.std.proofs.lemmas.List.Sums.{fold-append}
-use Rattle.ge_rows.specs.Parts.{start_of}
-use Rattle.ge_rows.specs.declared.cluster.Cluster.{Cluster}
-use Rattle.ge_rows.specs.declared.scheduling.Decision.{Decision}
-use Rattle.ge_rows.specs.declared.scheduling.Decision.TheVariants as decision
-use Rattle.ge_rows.specs.declared.scheduling.Start.{Start}
-use Rattle.ge_rows.specs.declared.tasks.TaskId.{TaskId}
+use Rattle.ge_model_rows.specs.ClusterRows.{Cluster}
+use Rattle.ge_model_rows.specs.DecisionRows.{Decision, start_of}
+use Rattle.ge_model_rows.specs.ScheduleRows.{Start}
+use Rattle.ge_model_rows.specs.TaskRows.{TaskId}
 use Rattle.ge_model_place.specs.Running.{last_serial, is_start, serial_after, run_of}
 use Rattle.ge_model_place.specs.Runs.{IsRunAfter, IsRun}
 use Rattle.ge_model_place.proofs.Decided.{run_of_is_run}
@@ -31,17 +29,17 @@ numbered_after : (c : Cluster) (now : ℕ) (before : List Decision) (tasks : Lis
 numbered_after c now before [] [] run = record { follow = tt; in_range = λ some. absurd (omega arith) }
 numbered_after c now before [] (d ∷ decisions) run = absurd run
 numbered_after c now before (task ∷ tasks) [] run = absurd run
-numbered_after c now before (task ∷ tasks) (decision.Start start ∷ decisions) (first, run) =
-    let rest = numbered_after c now (before ++ decision.Start start ∷ []) tasks decisions run in
+numbered_after c now before (task ∷ tasks) (Decision.Start start ∷ decisions) (first, run) =
+    let rest = numbered_after c now (before ++ Decision.Start start ∷ []) tasks decisions run in
     start_numbered (serial_after c before) start (filter_map start_of decisions) first.1.next first.1.in_range
-    (subst (λ n. AreNumbered n (filter_map start_of decisions)) (serial_more c before (decision.Start start)) rest)
-numbered_after c now before (task ∷ tasks) (decision.Reserve kept ∷ decisions) (first, run) =
-    let rest = numbered_after c now (before ++ decision.Reserve kept ∷ []) tasks decisions run in
-    let same : serial_after c (before ++ decision.Reserve kept ∷ []) ≡ serial_after c before = serial_more c before (decision.Reserve kept) ∙ omega arith in
+    (subst (λ n. AreNumbered n (filter_map start_of decisions)) (serial_more c before (Decision.Start start)) rest)
+numbered_after c now before (task ∷ tasks) (Decision.Reserve kept ∷ decisions) (first, run) =
+    let rest = numbered_after c now (before ++ Decision.Reserve kept ∷ []) tasks decisions run in
+    let same : serial_after c (before ++ Decision.Reserve kept ∷ []) ≡ serial_after c before = serial_more c before (Decision.Reserve kept) ∙ omega arith in
     subst (λ n. AreNumbered n (filter_map start_of decisions)) same rest
-numbered_after c now before (task ∷ tasks) (decision.Skip skipped ∷ decisions) (first, run) =
-    let rest = numbered_after c now (before ++ decision.Skip skipped ∷ []) tasks decisions run in
-    let same : serial_after c (before ++ decision.Skip skipped ∷ []) ≡ serial_after c before = serial_more c before (decision.Skip skipped) ∙ omega arith in
+numbered_after c now before (task ∷ tasks) (Decision.Skip skipped ∷ decisions) (first, run) =
+    let rest = numbered_after c now (before ++ Decision.Skip skipped ∷ []) tasks decisions run in
+    let same : serial_after c (before ++ Decision.Skip skipped ∷ []) ≡ serial_after c before = serial_more c before (Decision.Skip skipped) ∙ omega arith in
     subst (λ n. AreNumbered n (filter_map start_of decisions)) same rest
 
 -- those of a run have the serials from the cluster's next one on

@@ -3,26 +3,20 @@ use Rattle.std.proofs.Common.{ℕ, ◌≤◌, ◌==◌, Bool, true, List, ◌++�
 use Rattle.std.specs.Prelude.{is_some}
 use Rattle.ge_base.specs.declared.refusal.Refusal.{Refusal}
 use Rattle.ge_base.specs.declared.refusal.Refusal.TheVariants.{Syntax, NoSuchObject}
-use Rattle.ge_rows.specs.declared.cluster.Cluster.{Cluster}
-use Rattle.ge_rows.specs.declared.commands.Listing.{Listing}
-use Rattle.ge_rows.specs.declared.commands.Listing.TheVariants as listing
-use Rattle.ge_rows.specs.declared.commands.Query.{Query}
-use Rattle.ge_rows.specs.declared.commands.Query.TheVariants as query
-use Rattle.ge_rows.specs.declared.entries.Change.TheVariants.{Put}
-use Rattle.ge_rows.specs.declared.entries.Item.{Item}
-use Rattle.ge_rows.specs.declared.entries.Key.{Key}
-use Rattle.ge_rows.specs.declared.entries.ObjectKind.{ObjectKind}
-use Rattle.ge_rows.specs.declared.entries.ObjectKind.TheVariants as kind
-use Rattle.ge_rows.specs.declared.events.Event.{Event}
+use Rattle.ge_model_rows.specs.ClusterRows.{Cluster}
+use Rattle.ge_model_rows.specs.CommandRows.{Listing, Query}
+use Rattle.ge_model_rows.specs.EntryRows.{Put, Item, ObjectKind, Key}
+use Rattle.ge_model_rows.specs.EventRows.{Event}
 use Rattle.ge_collections.specs.Keyed.{at_number, at_text}
 use Rattle.ge_model_config.specs.Reading.{item_of}
 use Rattle.ge_model_config.specs.Printing.{item_at}
-use Rattle.ge_model_grammar.specs.Bodies.{Body, body_of}
+use Rattle.ge_model_grammar.specs.declared.Body.{Body}
+use Rattle.ge_model_grammar.specs.Bodies.{body_of}
 use Rattle.ge_model_report.specs.Accounting.{account_of}
-use Rattle.ge_model_master.specs.Answers.{shown, done}
-use Rattle.ge_model_master.specs.Configuring.{manager_faults, put, add_plan, body_plan, body_plan_of, remove_plan, print_plan, print_plan_of, remove_faults}
-use Rattle.ge_model_master.specs.Showing.{show_plan, account_plan}
-use Rattle.ge_model_master.specs.Reports.{load_plan, end_plan, orders_plan, task_plan, stop_plan, host_faults, report_faults, serial_faults, end_faults}
+use Rattle.ge_model_core.specs.Answers.{shown, done}
+use Rattle.ge_model_core.specs.Configuring.{manager_faults, put, add_plan, body_plan, body_plan_of, remove_plan, print_plan, print_plan_of, remove_faults}
+use Rattle.ge_model_core.specs.Showing.{show_plan, account_plan}
+use Rattle.ge_model_core.specs.Reports.{load_plan, end_plan, orders_plan, task_plan, stop_plan, host_faults, report_faults, serial_faults, end_faults}
 use Rattle.ge_model_report.specs.Orders.{orders_of, task_lines}
 use Rattle.ge_model_jobs.specs.Serials.{running_with}
 use Rattle.ge_model_value.specs.Faults.{when}
@@ -44,8 +38,8 @@ body_entry c e sort adding text later = by (body_of sort text)
     by (Some body) = put_entry c e (item_of c sort adding body) later
 
 pub add_entry : (c : Cluster) (e : Event) (sort : ObjectKind) (text : List ℕ) → c.last ≤ e.moment → EntryFits c (add_plan c e sort text)
-add_entry c e kind.Managers text later = put_entry c e _ later
-add_entry c e kind.Operators text later = put_entry c e _ later
+add_entry c e ObjectKind.Managers text later = put_entry c e _ later
+add_entry c e ObjectKind.Operators text later = put_entry c e _ later
 add_entry c e other text later = body_entry c e other true text later
 
 pub remove_entry : (c : Cluster) (e : Event) (key : Key) → c.last ≤ e.moment → EntryFits c (remove_plan c e key)
@@ -69,16 +63,16 @@ stop_entry c e = entry_unless c (manager_faults c e) (record (shown done) { stop
 
 pub show_entry : (c : Cluster) (e : Event) (what : Listing) → EntryFits c (show_plan c e what)
 unfolding show_plan
-show_entry c e (listing.One number) = entry_where c (is_some (at_number c.jobs number)) _ NoSuchObject (entry_shown c _)
-show_entry c e listing.Prios = entry_shown c _
-show_entry c e listing.Queues = entry_shown c _
-show_entry c e (listing.All pattern) = entry_shown c _
+show_entry c e (Listing.One number) = entry_where c (is_some (at_number c.jobs number)) _ NoSuchObject (entry_shown c _)
+show_entry c e Listing.Prios = entry_shown c _
+show_entry c e Listing.Queues = entry_shown c _
+show_entry c e (Listing.All pattern) = entry_shown c _
 
 pub account_entry : (c : Cluster) (what : Query) → EntryFits c (account_plan c what)
 unfolding account_plan
-account_entry c (query.Job number) = let lines = account_of c (query.Job number) in entry_if c (length lines == 0) NoSuchObject (shown lines) (λ some. entry_shown c lines)
-account_entry c query.Total = entry_shown c _
-account_entry c (query.Owner name) = entry_shown c _
+account_entry c (Query.Job number) = let lines = account_of c (Query.Job number) in entry_if c (length lines == 0) NoSuchObject (shown lines) (λ some. entry_shown c lines)
+account_entry c Query.Total = entry_shown c _
+account_entry c (Query.Owner name) = entry_shown c _
 
 -- ---- load, end, orders, job
 

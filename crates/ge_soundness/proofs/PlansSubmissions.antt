@@ -1,23 +1,25 @@
 -- The job that a submission brings is new: it has the next number, tasks in its span alone, and none that runs.
 use Rattle.std.proofs.Common.{◌≡◌, ℕ, ◌-◌, ◌^◌, ◌≤◌, ◌||◌, Bool, true, false, List, [], ◌++◌, Option, Some, None, option_and_then, codes, refl, sym, ◌∙◌, arith}
-use Rattle.std.specs.Prelude.{IfSome, nat_lt, nat_le, length}
+use Rattle.std.specs.Prelude.{IfSome, IsTrue, ◌==◌, nat_lt, nat_le, length}
 use Rattle.std.proofs.lemmas.Bool.{ltb-false}
 use Rattle.ge_base.specs.declared.refusal.Refusal.TheVariants.{Limit}
-use Rattle.ge_rows.specs.declared.cluster.Cluster.{Cluster}
-use Rattle.ge_rows.specs.declared.entries.Patch.{Patch}
-use Rattle.ge_rows.specs.declared.events.Event.{Event}
-use Rattle.ge_rows.specs.declared.tasks.TaskSpan.{TaskSpan}
+use Rattle.ge_model_rows.specs.ClusterRows.{Cluster}
+use Rattle.ge_model_rows.specs.EntryRows.{Patch}
+use Rattle.ge_model_rows.specs.EventRows.{Event}
+use Rattle.ge_model_rows.specs.TaskRows.{TaskSpan}
 use Rattle.ge_model_tasks.specs.Spans.{in_span}
 use Rattle.ge_model_tasks.specs.Sets.{has_number}
 use Rattle.ge_model_tasks.specs.Ranges.{range_of, range_count, range_set}
 use Rattle.ge_model_tasks.proofs.Steps.{lies_back}
-use Rattle.ge_model_jobs.specs.Orderly.{one_at_most}
+use Rattle.ge_model_jobs.specs.Orderly.{has_key, one_at_most}
 use Rattle.ge_model_grammar.specs.Options.{Given}
-use Rattle.ge_model_master.specs.OptionValues.{word_of}
-use Rattle.ge_model_master.specs.JobOptions.{patch_of, option_faults}
-use Rattle.ge_model_master.specs.Submitting.{range_reached, tasks_of, submitter, job_from, job_of, is_wide, is_full, is_script_over, are_tasks_over, size_faults, submit_plan}
+use Rattle.ge_model_core.specs.OptionValues.{word_of}
+use Rattle.ge_model_core.specs.JobOptions.{patch_of, option_faults}
+use Rattle.ge_model_core.specs.Submitting.{range_reached, tasks_of, submitter, job_from, job_of, is_wide, is_full, is_script_over, are_tasks_over, size_faults, submit_plan}
+use Rattle.ge_model_core.specs.JobAdvances.{advance_named, join_faults}
 use Rattle.ge_soundness.proofs.Brought.{IsNew}
 use Rattle.ge_soundness.proofs.PlansAnswers.{EntryFits, unmet, entry_change}
+use Rattle.ge_soundness.proofs.PlansBookings.{joins_one}
 use Rattle.ge_model_config.proofs.ReadBackNames.{both_empty}
 use Rattle.ge_soundness.proofs.PlansRanges.{IsRange, text_is_range, range_set_form, range_set_has}
 
@@ -39,8 +41,9 @@ tasks_are_range options = by (word_of options (codes "-t"))
 
 -- a job that is made of a range of tasks up to 2^31 - 1 is new: all its tasks wait, and they are those of the range
 job_is_new : (c : Cluster) (e : Event) (options : Given) (words : List (List ℕ)) (script : List ℕ) (span : TaskSpan) (given : Patch)
-    → IsRange span → span.last ≤ 2 ^ 31 - 1 → c.next_job ≤ 4294967294 → IsNew c e.moment (job_from c e options words script span given)
-job_is_new c e options words script span given range small in_range = record {
+    → IsRange span → span.last ≤ 2 ^ 31 - 1 → c.next_job ≤ 4294967294 → IsTrue (advance_named options == 0 || has_key (advance_named options) c.advances)
+    → IsNew c e.moment (job_from c e options words script span given)
+job_is_new c e options words script span given range small in_range joined = record {
   number = refl;
   in_range = in_range;
   tasks = (span.first, alone (has_number span.first (range_set span)) (has span.first ∙ first_there));
@@ -48,6 +51,7 @@ job_is_new c e options words script span given range small in_range = record {
   idle = refl;
   orderly = record { waiting = range_set_form span range; broken = refl; keys = tt; places = λ t. once (has_number t (range_set span)) };
   submitted = omega arith;
+  joined = joined;
 }
   where
     has : (n : ℕ) → has_number n (range_set span) ≡ in_span n span
@@ -87,6 +91,8 @@ fits_in c span words script none =
 pub submit_entry : (c : Cluster) (e : Event) (options : Given) (words : List (List ℕ)) (script : List ℕ) → c.last ≤ e.moment → EntryFits c (submit_plan c e options words script)
 unfolding submit_plan job_of
 submit_entry c e options words script later =
-    entry_change c e (option_faults c e options (submitter e options) ++ size_faults c (tasks_of options) words script) _ _ later
-    (λ none. let fits = fits_in c (tasks_of options) words script (both_empty (option_faults c e options (submitter e options)) _ none).1 in
-    job_is_new c e options words script (tasks_of options) (patch_of c options (submitter e options)) (tasks_are_range options) fits.0 fits.1)
+    entry_change c e (option_faults c e options (submitter e options) ++ join_faults c e options ++ size_faults c (tasks_of options) words script) _ _ later
+    (λ none. let two = both_empty (option_faults c e options (submitter e options) ++ join_faults c e options) (size_faults c (tasks_of options) words script) none in
+    let fits = fits_in c (tasks_of options) words script two.1 in
+    job_is_new c e options words script (tasks_of options) (patch_of c options (submitter e options)) (tasks_are_range options) fits.0 fits.1
+    (joins_one c e options (both_empty (option_faults c e options (submitter e options)) (join_faults c e options) two.0).1))

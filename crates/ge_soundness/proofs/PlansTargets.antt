@@ -1,8 +1,8 @@
 -- The targets that are read from a command line: the tasks that they name are sets in the form.
 use Rattle.std.proofs.Common.{ℕ, Bool, true, false, if◌then◌else◌, List, [], ◌∷◌, ◌++◌, Option, Some, None, option_map}
 use Rattle.std.specs.Prelude.{IfSome}
-use Rattle.ge_rows.specs.declared.entries.Pick.{Pick}
-use Rattle.ge_rows.specs.declared.tasks.TaskSpan.{TaskSpan}
+use Rattle.ge_model_rows.specs.EntryRows.{Pick}
+use Rattle.ge_model_rows.specs.TaskRows.{TaskSpan}
 use Rattle.ge_model_value.specs.Pieces.{is_empty, before_byte, behind_byte, has_byte}
 use Rattle.ge_model_tasks.specs.Ranges.{range_of}
 use Rattle.ge_model_jobs.proofs.Places.{IsPick}

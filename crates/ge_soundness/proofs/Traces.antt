@@ -1,15 +1,13 @@
 -- A sound cluster in order stays so under each entry of a plan, and in a trace of events.
 use Rattle.std.proofs.Common.{◌≤◌, Bool, true, false, List, [], ◌∷◌, Option, Some, None}
 use Rattle.std.specs.Prelude.{IfSome}
-use Rattle.ge_rows.specs.Opening.{opening_cluster}
-use Rattle.ge_rows.specs.declared.cluster.Cluster.{Cluster}
-use Rattle.ge_rows.specs.declared.entries.Entry.{Entry}
-use Rattle.ge_rows.specs.declared.events.Event.{Event}
-use Rattle.ge_rows.specs.declared.planned.Planned.{Planned}
+use Rattle.ge_model_rows.specs.ClusterRows.{Cluster, opening_cluster}
+use Rattle.ge_model_rows.specs.EntryRows.{Entry}
+use Rattle.ge_model_rows.specs.EventRows.{Event, Planned}
 use Rattle.ge_model_cluster.specs.Soundness.{IsSound}
 use Rattle.ge_model_jobs.specs.Orderly.{IsOrdered}
 use Rattle.ge_model_jobs.specs.Applying.{after_entry}
-use Rattle.ge_model_master.specs.Trace.{answer_of, after_entries, cluster_after}
+use Rattle.ge_model_core.specs.Trace.{answer_of, after_entries, cluster_after}
 use Rattle.ge_soundness.proofs.Brought.{Fits}
 use Rattle.ge_soundness.proofs.Changes.{kept}
 
@@ -17,10 +15,10 @@ use Rattle.ge_soundness.proofs.Changes.{kept}
 abbrev pub IsKept : Cluster → Type 0
 IsKept c = IsSound c × IsOrdered c
 
--- before the first command no job lives
+-- before the first command no job lives and nothing is booked
 pub opening_ordered : IsOrdered opening_cluster
 unfolding opening_cluster
-opening_ordered = record { numbers = tt; jobs = tt }
+opening_ordered = record { numbers = tt; jobs = tt; advances = tt }
 
 -- what a plan's entry brings, where there is one, fits
 abbrev pub Brings : (Cluster → Event → Planned) → Type 0

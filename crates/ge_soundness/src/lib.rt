@@ -2,16 +2,20 @@
 //!
 //! - [`sound_clusters_stay_sound`]: the opening cluster is sound, and no event takes that away.
 //! - [`refused_events_change_nothing`]: an event is accepted or refused, and a refused one leaves all as it was.
+//! - [`granted_reservations_keep_limits`]: an advance reservation is granted what there is.
 //! - [`the_first_path_stays_sound`]: the first by the definitions that today's functions are proved against.
 //!
 //! The functions do nothing: their contracts are the laws.
 #![tactic(auto)]
 
-ghost use Rattle.std.specs.Prelude.{◌≡◌, ◌≢◌, ◌∷◌, ◌⊎◌, Bool, IfSome, List};
+ghost use Rattle.std.specs.Prelude.{◌≡◌, ◌≢◌, ◌∷◌, ◌⊎◌, Bool, IfSome, List, Some};
 ghost use Rattle.ge_base.specs.declared.refusal.Refusal.{Refusal};
 ghost use Rattle.ge_rows.specs.Opening.{opening_cluster};
 ghost use Rattle.ge_rows.specs.declared.cluster.Cluster.{Cluster};
 ghost use Rattle.ge_rows.specs.declared.events.Event.{Event};
+ghost use Rattle.ge_rows.specs.declared.entries.Change.TheVariants.{Book};
+ghost use Rattle.ge_rows.specs.declared.jobs.Advance.{Advance};
+ghost use Rattle.ge_model_place.specs.Advances.{KeepsBeside};
 ghost use Rattle.ge_model_cluster.specs.Applying.{after_entry as first_after_entry};
 ghost use Rattle.ge_model_cluster.specs.Soundness.{IsSound};
 ghost use Rattle.ge_model_plan.specs.Plan.{plan_of as first_plan_of};
@@ -19,19 +23,21 @@ ghost use Rattle.ge_model_plan.specs.Refusals.{refused};
 ghost use Rattle.ge_model_plan.specs.Trace.{cluster_after as first_cluster_after};
 ghost use Rattle.ge_model_jobs.specs.Applying.{after_entry};
 ghost use Rattle.ge_model_jobs.specs.Orderly.{IsOrdered};
-ghost use Rattle.ge_model_master.specs.Built.{built_plan_of};
-ghost use Rattle.ge_model_master.specs.Plan.{plan_of};
-ghost use Rattle.ge_model_master.specs.Trace.{cluster_after};
+ghost use Rattle.ge_model_core.specs.Built.{built_plan_of};
+ghost use Rattle.ge_model_core.specs.Plan.{plan_of};
+ghost use Rattle.ge_model_core.specs.Trace.{cluster_after};
 
-/// The opening cluster is sound, and a sound cluster whose jobs are in order is so after each entry that the plan of
-/// an event gives: the plan of every command, and that of the commands which are built. So is the cluster after any
-/// trace, also one in which memory was wanting for some of the events.
+/// The opening cluster is sound, and a sound cluster in order is so after each entry that the plan of an event gives:
+/// the plan of every command, and that of the commands which are built. So is the cluster after any trace, also one in
+/// which memory was wanting for some of the events.
 ///
 /// In a sound cluster the number of each live job is below the next job's; each live job has a task, and each of its
 /// tasks is in its span and waits, is in error or runs, just one of these; the serials of running tasks are at least
-/// 1, below the next one, and differ; and no job was submitted and no task started after the last entry. Its jobs are
-/// in order where they stand by rising number, and each has its sets of tasks in their one form and its running tasks
-/// by rising number, as the tables and sets of a program do.
+/// 1, below the next one, and differ; no job was submitted and no task started after the last entry; the numbers of
+/// advance reservations are at least 1 and below the next one, which is at least 1 too, and each begins before it ends;
+/// and each live job joined no advance reservation, or one that is there. It is in order where its jobs and its advance
+/// reservations stand by rising number, and each job has its sets of tasks in their one form and its running tasks by
+/// rising number, as the tables and sets of a program do.
 pub fn sound_clusters_stay_sound()
     ensures opening { IsSound opening_cluster × IsOrdered opening_cluster }
     ensures entries { (c : Cluster) (e : Event) → IsSound c → IsOrdered c → IfSome (plan_of c e).entry (λ entry. IsSound (after_entry c entry) × IsOrdered (after_entry c entry)) }
@@ -50,6 +56,16 @@ pub fn refused_events_change_nothing()
         → cluster_after plan_of c (e ∷ events) (mark ∷ marks) ≡ cluster_after plan_of c events marks }
     ensures built_traces { (c : Cluster) (e : Event) (events : List Event) (mark : Bool) (marks : List Bool) → (built_plan_of c e).reply.code ≢ 0
         → cluster_after built_plan_of c (e ∷ events) (mark ∷ marks) ≡ cluster_after built_plan_of c events marks }
+{}
+
+/// What an accepted `qrsub` is granted takes no limit over what there is: where the plan of an event in a sound cluster
+/// books an advance reservation, under the next number, the slots and resources of each limit that running tasks and
+/// advance reservations book at each moment, with it among them, are at most as many as there are, unless more were
+/// booked before it.
+pub fn granted_reservations_keep_limits()
+    ensures { (c : Cluster) (e : Event) (advance : Advance)
+        → IsSound c → (plan_of c e).entry ≡ Some (record { moment = e.moment; change = Book advance })
+        → KeepsBeside c e.moment c.next_advance advance }
 {}
 
 /// Soundness by the first path's definitions, of every sound cluster: they need no order of the jobs.

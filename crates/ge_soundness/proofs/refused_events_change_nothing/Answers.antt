@@ -1,6 +1,6 @@
-use Rattle.ge_model_master.specs.Built.{built_plan_of}
-use Rattle.ge_model_master.specs.Plan.{plan_of}
-use Rattle.ge_model_master.proofs.Refused.{IsAnswer, plan_answers, built_plan_answers, refused_leaves}
+use Rattle.ge_model_core.specs.Built.{built_plan_of}
+use Rattle.ge_model_core.specs.Plan.{plan_of}
+use Rattle.ge_model_core.proofs.Refused.{IsAnswer, plan_answers, built_plan_answers, refused_leaves}
 use Rattle.ge_soundness.proofs.refused_events_change_nothing.Goals as goal
 
 pub returns-clause-answers : goal.returns-clause-answers

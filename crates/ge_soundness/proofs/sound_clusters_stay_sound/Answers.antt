@@ -1,7 +1,7 @@
-use Rattle.ge_rows.specs.Opening.{opening_cluster}
+use Rattle.ge_model_rows.specs.ClusterRows.{opening_cluster}
 use Rattle.ge_model_plan.proofs.Soundness.{opening_is_sound}
-use Rattle.ge_model_master.specs.Built.{built_plan_of}
-use Rattle.ge_model_master.specs.Plan.{plan_of}
+use Rattle.ge_model_core.specs.Built.{built_plan_of}
+use Rattle.ge_model_core.specs.Plan.{plan_of}
 use Rattle.ge_soundness.proofs.Plans.{planned, built_planned}
 use Rattle.ge_soundness.proofs.Traces.{opening_ordered, entry_kept, trace_kept}
 use Rattle.ge_soundness.proofs.sound_clusters_stay_sound.Goals as goal

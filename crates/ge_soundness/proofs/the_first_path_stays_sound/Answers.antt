@@ -1,4 +1,4 @@
-use Rattle.ge_rows.specs.Opening.{opening_cluster}
+use Rattle.ge_model_rows.specs.ClusterRows.{opening_cluster}
 use Rattle.ge_model_plan.proofs.Soundness.{opening_is_sound, keeps_sound}
 use Rattle.ge_model_plan.proofs.SoundnessTraces.{trace_is_sound}
 use Rattle.ge_soundness.proofs.the_first_path_stays_sound.Goals as goal

@@ -1,0 +1,9 @@
+mod EligibleTasks
+mod OrderOnce
+mod OrderSorted
+mod ReadAgain
+mod PlannedEntries
+mod GrowingLines
+mod ToldFaults
+mod ToldCommands
+mod ToldPlans

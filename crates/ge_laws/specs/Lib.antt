@@ -1,0 +1,4 @@
+pub mod Orders
+pub mod TaskSets
+pub mod PrintedObjects
+pub mod PlannedEvents

@@ -1,0 +1,34 @@
+//! Laws of the cluster by the definitions, one for each subject that a user of a batch system asks about.
+//!
+//! - `runs`: what a scheduling run decides, what it books, and where it places a task.
+//! - `order`: which tasks a run decides, and in which order.
+//! - `sets`: sets of task numbers, and their texts.
+//! - `printed`: configured objects, printed and read again.
+//! - `plans`: what an event is answered with, and what it changes.
+//!
+//! The functions do nothing: their contracts are the laws.
+#![tactic(auto)]
+
+mod order;
+mod plans;
+mod printed;
+mod runs;
+mod sets;
+
+pub use order::{
+    candidates_have_one_priority, eligible_tasks_are_the_first_without_a_hold,
+    orders_go_by_priority_then_number, orders_have_each_eligible_task_once,
+};
+pub use plans::{
+    accepted_changes_have_entries, accounting_lines_only_grow, only_an_accepted_stop_stops,
+    plans_never_want_memory,
+};
+pub use printed::{printed_objects_read_back, shown_objects_are_taken_again, tables_have_names};
+pub use runs::{
+    advances_keep_limits, placements_follow_their_rule, reservations_are_at_the_first_moment,
+    runs_decide_each_task_once, runs_keep_limits,
+};
+pub use sets::{
+    set_texts_read_back, sets_are_counted_and_walked, sets_gain_and_lose_one_number,
+    sets_have_one_form, sets_join_meet_and_differ,
+};

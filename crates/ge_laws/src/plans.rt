@@ -1,0 +1,39 @@
+//! Plans: what an event is answered with, and what it changes.
+ghost use Rattle.std.specs.Prelude.{◌≡◌, ◌≢◌, ℕ, ◌&&◌, Bool, IfSome, List, is_some};
+ghost use Rattle.ge_rows.specs.declared.cluster.Cluster.{Cluster};
+ghost use Rattle.ge_rows.specs.declared.entries.Entry.{Entry};
+ghost use Rattle.ge_rows.specs.declared.events.Event.{Event};
+ghost use Rattle.ge_model_jobs.specs.Applying.{after_entry};
+ghost use Rattle.ge_model_core.specs.Plan.{event_command, plan_of};
+ghost use Rattle.ge_model_core.specs.Trace.{cluster_after};
+ghost use Rattle.ge_laws.specs.PlannedEvents.{asks_for_change, asks_for_stop};
+ghost use Rattle.ge_laws.specs.PlannedEvents.{is_accepted, IsFrontOf};
+
+/// An event has an entry exactly where it is accepted and its command changes the cluster, which is each command but
+/// the queries and `qconf -km`. The entry's moment is the event's.
+pub fn accepted_changes_have_entries()
+    ensures entries { (c : Cluster) (e : Event) → is_some (plan_of c e).entry
+        ≡ (is_accepted (plan_of c e) && asks_for_change (event_command e.form e.text)) }
+    ensures moments { (c : Cluster) (e : Event)
+        → IfSome (plan_of c e).entry (λ entry. entry.moment ≡ e.moment) }
+{}
+
+/// An event stops the master exactly where it is an accepted `qconf -km`.
+pub fn only_an_accepted_stop_stops()
+    ensures { (c : Cluster) (e : Event) → (plan_of c e).stop
+        ≡ (is_accepted (plan_of c e) && asks_for_stop (event_command e.form e.text)) }
+{}
+
+/// Accounting lines are never changed or taken away: after any entry, and after any events, the lines that there were
+/// are the first of those that there are (`accounting`).
+pub fn accounting_lines_only_grow()
+    ensures entry { (c : Cluster) (entry : Entry) → IsFrontOf c.lines (after_entry c entry).lines }
+    ensures traces { (c : Cluster) (events : List Event) (marks : List Bool)
+        → IsFrontOf c.lines (cluster_after plan_of c events marks).lines }
+{}
+
+/// No plan answers an event with 99, the code that tells of want of memory: so a reply with it tells that its event
+/// found no memory and changed nothing, and no other does.
+pub fn plans_never_want_memory()
+    ensures { (c : Cluster) (e : Event) → (plan_of c e).reply.code ≢ 99 }
+{}
