@@ -5,6 +5,7 @@
 //! - `sets`: sets of task numbers, and their texts.
 //! - `printed`: configured objects, printed and read again.
 //! - `plans`: what an event is answered with, and what it changes.
+//! - `rules`: forms that a program can keep give what the rules say.
 //!
 //! The functions do nothing: their contracts are the laws.
 #![tactic(auto)]
@@ -12,6 +13,7 @@
 mod order;
 mod plans;
 mod printed;
+mod rules;
 mod runs;
 mod sets;
 
@@ -24,6 +26,11 @@ pub use plans::{
     plans_never_want_memory,
 };
 pub use printed::{printed_objects_read_back, shown_objects_are_taken_again, tables_have_names};
+pub use rules::{
+    cycles_are_found_by_enough_steps, demands_are_those_of_the_rule,
+    held_tasks_are_held_one_by_one, share_tickets_are_those_of_the_rule,
+    texts_are_commands_or_refused,
+};
 pub use runs::{
     advances_keep_limits, placements_follow_their_rule, reservations_are_at_the_first_moment,
     runs_decide_each_task_once, runs_keep_limits,
