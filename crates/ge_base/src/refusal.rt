@@ -3,6 +3,8 @@
 ghost use Rattle.std.specs.Prelude.{◌≡◌};
 ghost use Rattle.ge_base.specs.Refusal.{reply_code};
 
+use std::alloc::AllocError;
+
 /// Why a command was refused.
 #[derive(Clone, Copy, Debug, PartialEq, Eq, PartialOrd, Ord)]
 pub enum Refusal {
@@ -33,6 +35,16 @@ pub enum Refusal {
     StaleReport,
     /// Memory ran out.
     NoMemory,
+}
+
+impl From<AllocError> for Refusal {
+    ghost use Rattle.ge_base.specs.declared.refusal.Refusal.TheVariants.{NoMemory};
+
+    ghost from_gives = { λ _ refusal. refusal ≡ NoMemory };
+
+    fn from(_want: AllocError) -> Refusal {
+        Refusal::NoMemory
+    }
 }
 
 /// The code that the reply to a refused command begins with: 11 to 22 in the order of the variants, and

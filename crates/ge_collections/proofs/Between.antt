@@ -1,7 +1,7 @@
 -- The pairs of a part of a ledger: which there are, and that they rise.
 use Rattle.std.proofs.Common.{◌≡◌, Bool, true, false, cond, not, ◌&&◌, ◌||◌, List, [], ◌∷◌, ◌++◌, map, ℕ, Some, None, refl, sym, ap, ◌∙◌}
 use Rattle.std.specs.Option.{is_some}
-use Rattle.std.specs.BTreeMap.{BTreeMap, is_at}
+use Rattle.std.specs.BTreeMap.{is_at}
 use Rattle.std.specs.BTreeMap.Range.{entries_between, range_contains}
 use Rattle.std.specs.Cmp.{IsTotalOrder}
 use Rattle.std.specs.List.{list_any, AllByRecursion}
@@ -17,9 +17,10 @@ use Rattle.std.proofs.lemmas.Map.{lookup-none}
 use Rattle.std.proofs.lemmas.Map.Entries.{lookup-filter-keys, none_past_head}
 use Rattle.std.proofs.lemmas.Map.Keys.{IsDistinct-from_sorted, sorted_tail}
 use Rattle.ge_collections.specs.Asked.{bears, has_pair, is_between, pair_cmp, pairs_of}
-use Rattle.ge_collections.specs.Kept.{noted, noted_in, Counts, times_at}
+use Rattle.ge_collections.specs.Kept.{entries_of, noted, noted_in, Counts, times_at}
 use Rattle.ge_collections.proofs.Found.{noted_bears}
 use Rattle.ge_collections.proofs.Gathered.{keys_rise}
+use Rattle.ge_collections.specs.declared.keys.Keys.{Keys}
 
 module _ {K X : Type 0} (test : K → Bool) where
   found_key : (es : List (K × X)) → list_any test (keys_of es) ≡ is_some (lookup test es)
@@ -58,22 +59,22 @@ module _ {K M : Type 0} {R : K → K → Ordering} {C : M → M → Ordering} (k
         by false b = refl
 
     -- a pair is there where the key is noted at the mark
-    pair_noted : (es : List (M × BTreeMap K ℕ)) → IsStrictlySortedBy C (keys_of es) → has_pair R C m q (pairs_of es) ≡ is_some (noted R C es m q)
+    pair_noted : (es : List (M × Keys K)) → IsStrictlySortedBy C (keys_of es) → has_pair R C m q (pairs_of es) ≡ is_some (noted R C es m q)
     pair_noted [] rising = refl
     pair_noted (e ∷ es) rising =
-        list_any-append (λ p. is_at (C m) p.0 && is_at (R q) p.1) (map (λ k. (e.0, k)) (keys_of e.1.entries)) (pairs_of es)
-        ∙ ap (λ r. r || has_pair R C m q (pairs_of es)) (among_keys e.0 (keys_of e.1.entries) ∙ ap (λ r. is_at (C m) e.0 && r) (found_key (is_at (R q)) e.1.entries))
-        ∙ ap (λ r. (is_at (C m) e.0 && is_some (lookup (is_at (R q)) e.1.entries)) || r) (pair_noted es (sorted_tail C e.0 (keys_of es) rising))
+        list_any-append (λ p. is_at (C m) p.0 && is_at (R q) p.1) (map (λ k. (e.0, k)) (keys_of (entries_of e.1))) (pairs_of es)
+        ∙ ap (λ r. r || has_pair R C m q (pairs_of es)) (among_keys e.0 (keys_of (entries_of e.1)) ∙ ap (λ r. is_at (C m) e.0 && r) (found_key (is_at (R q)) (entries_of e.1)))
+        ∙ ap (λ r. (is_at (C m) e.0 && is_some (lookup (is_at (R q)) (entries_of e.1))) || r) (pair_noted es (sorted_tail C e.0 (keys_of es) rising))
         ∙ by (is_at (C m) e.0) refl
       where
         or_false : (b : Bool) → (b || false) ≡ b
         or_false true = refl
         or_false false = refl
 
-        by : (b : Bool) → is_at (C m) e.0 ≡ b → ((b && is_some (lookup (is_at (R q)) e.1.entries)) || is_some (noted R C es m q)) ≡ is_some (noted_in R (cond b (Some e.1) (lookup (is_at (C m)) es)) q)
+        by : (b : Bool) → is_at (C m) e.0 ≡ b → ((b && is_some (lookup (is_at (R q)) (entries_of e.1))) || is_some (noted R C es m q)) ≡ is_some (noted_in R (cond b (Some e.1) (lookup (is_at (C m)) es)) q)
         by true at =
             let gone : lookup (is_at (C m)) es ≡ None = lookup-none (is_at (C m)) es (none_past_head (eq_by_cmp_equiv marks) m e es (IsDistinct-from_sorted C (keys_of (e ∷ es)) rising) at) in
-            ap (λ o. is_some (lookup (is_at (R q)) e.1.entries) || is_some (noted_in R o q)) gone ∙ or_false (is_some (lookup (is_at (R q)) e.1.entries))
+            ap (λ o. is_some (lookup (is_at (R q)) (entries_of e.1)) || is_some (noted_in R o q)) gone ∙ or_false (is_some (lookup (is_at (R q)) (entries_of e.1)))
         by false at = refl
 
     module _ (low high : M) where
@@ -92,7 +93,7 @@ module _ {K M : Type 0} {R : K → K → Ordering} {C : M → M → Ordering} (k
           ap (λ o. is_le o && not (is_le (C high k))) (same_side low k at) ∙ ap (λ o. is_le (C low m) && not (is_le o)) (same_side high k at)
 
       -- a pair of a part is there where its mark lies there and the row at its key bears it
-      pub pair_there : {V : Type 0} (told : V → List M) (ledger : List (M × BTreeMap K ℕ)) (rows : List (K × V)) → IsStrictlySortedBy C (keys_of ledger)
+      pub pair_there : {V : Type 0} (told : V → List M) (ledger : List (M × Keys K)) (rows : List (K × V)) → IsStrictlySortedBy C (keys_of ledger)
           → Counts R C ledger (λ p key. times_at C told p (lookup (is_at (R key)) rows))
           → has_pair R C m q (pairs_of (entries_between C (Included low) (Excluded high) ledger)) ≡ (is_between C low high m && bears C told m (lookup (is_at (R q)) rows))
       pair_there told ledger rows rising known =
@@ -108,16 +109,16 @@ module _ {K M : Type 0} {R : K → K → Ordering} {C : M → M → Ordering} (k
   behind_keys x y k [] less = tt
   behind_keys x y k (j ∷ ks) less = (ap (λ o. ordering_then o (R k j)) less, behind_keys x y k ks less)
 
-  behind : (x : M) (k : K) (es : List (M × BTreeMap K ℕ)) → AllByRecursion (λ y. C x y ≡ Less) (keys_of es) → AllByRecursion (λ p. pair_cmp R C (x, k) p ≡ Less) (pairs_of es)
+  behind : (x : M) (k : K) (es : List (M × Keys K)) → AllByRecursion (λ y. C x y ≡ Less) (keys_of es) → AllByRecursion (λ p. pair_cmp R C (x, k) p ≡ Less) (pairs_of es)
   behind x k [] above = tt
   behind x k (e ∷ es) above =
-      all_append (λ p. pair_cmp R C (x, k) p ≡ Less) (map (λ j. (e.0, j)) (keys_of e.1.entries)) (pairs_of es) (behind_keys x e.0 k (keys_of e.1.entries) above.0) (behind x k es above.1)
+      all_append (λ p. pair_cmp R C (x, k) p ≡ Less) (map (λ j. (e.0, j)) (keys_of (entries_of e.1))) (pairs_of es) (behind_keys x e.0 k (keys_of (entries_of e.1)) above.0) (behind x k es above.1)
 
   above_keys : (x : M) (k : K) (ks : List K) → AllByRecursion (λ j. R k j ≡ Less) ks → AllByRecursion (λ p. pair_cmp R C (x, k) p ≡ Less) (map (λ j. (x, j)) ks)
   above_keys x k [] above = tt
   above_keys x k (j ∷ ks) above = (ap (λ o. ordering_then o (R k j)) (itself x) ∙ above.0, above_keys x k ks above.1)
 
-  keys_then : (x : M) (ks : List K) (es : List (M × BTreeMap K ℕ)) → IsStrictlySortedBy R ks → AllByRecursion (λ y. C x y ≡ Less) (keys_of es) → IsStrictlySortedBy (pair_cmp R C) (pairs_of es)
+  keys_then : (x : M) (ks : List K) (es : List (M × Keys K)) → IsStrictlySortedBy R ks → AllByRecursion (λ y. C x y ≡ Less) (keys_of es) → IsStrictlySortedBy (pair_cmp R C) (pairs_of es)
       → IsStrictlySortedBy (pair_cmp R C) (map (λ k. (x, k)) ks ++ pairs_of es)
   unfolding IsStrictlySortedBy
   keys_then x [] es rising above rest = rest
@@ -125,12 +126,12 @@ module _ {K M : Type 0} {R : K → K → Ordering} {C : M → M → Ordering} (k
       (all_append (λ p. pair_cmp R C (x, k) p ≡ Less) (map (λ j. (x, j)) ks) (pairs_of es) (above_keys x k ks rising.0) (behind x k es above), keys_then x ks es rising.1 above rest)
 
   -- the pairs rise where the marks do and the keys at each
-  pub pairs_rise : (es : List (M × BTreeMap K ℕ)) → IsStrictlySortedBy C (keys_of es) → AllByRecursion (λ e. IsStrictlySortedBy R (keys_of e.1.entries)) es → IsStrictlySortedBy (pair_cmp R C) (pairs_of es)
+  pub pairs_rise : (es : List (M × Keys K)) → IsStrictlySortedBy C (keys_of es) → AllByRecursion (λ e. IsStrictlySortedBy R (keys_of (entries_of e.1))) es → IsStrictlySortedBy (pair_cmp R C) (pairs_of es)
   unfolding IsStrictlySortedBy
   pairs_rise [] rising each = tt
-  pairs_rise (e ∷ es) rising each = keys_then e.0 (keys_of e.1.entries) es each.0 rising.0 (pairs_rise es rising.1 each.1)
+  pairs_rise (e ∷ es) rising each = keys_then e.0 (keys_of (entries_of e.1)) es each.0 rising.0 (pairs_rise es rising.1 each.1)
 
-  pub part_rises : (low high : M) (ledger : List (M × BTreeMap K ℕ)) → IsStrictlySortedBy C (keys_of ledger) → IsStrictlySortedBy C (keys_of (entries_between C (Included low) (Excluded high) ledger))
+  pub part_rises : (low high : M) (ledger : List (M × Keys K)) → IsStrictlySortedBy C (keys_of ledger) → IsStrictlySortedBy C (keys_of (entries_between C (Included low) (Excluded high) ledger))
   part_rises low high ledger rising = keys_rise C (λ e. range_contains C (Included low) (Excluded high) e.0) ledger rising
 
 pub none_rise : {X : Type 0} (C : X → X → Ordering) → IsStrictlySortedBy C []

@@ -1,7 +1,7 @@
 -- What a table answers is what a walk over its rows finds.
 use Rattle.std.proofs.Common.{Bor, ◌≡◌, ℕ, zero, suc, ◌+◌, Bool, true, false, cond, ◌||◌, List, [], ◌∷◌, Option, Some, None, refl, sym, ap, ◌∙◌, arith}
 use Rattle.std.specs.Option.{option_map, is_some, IsSome}
-use Rattle.std.specs.BTreeMap.{BTreeMap, is_at}
+use Rattle.std.specs.BTreeMap.{is_at}
 use Rattle.std.specs.Cmp.{IsTotalOrder}
 use Rattle.std.specs.List.{list_any, find, slice_get, count_by}
 use Rattle.std.specs.List.Sorted.{IsStrictlySortedBy}
@@ -17,6 +17,7 @@ use Rattle.std.proofs.lemmas.Map.Entries.{lookup_from_place, none_below_head}
 use Rattle.ge_collections.specs.Asked.{bears, first_bearer}
 use Rattle.ge_collections.specs.Kept.{nonzero, noted, Counts, times_at}
 use Rattle.ge_collections.specs.Marked.{is_among}
+use Rattle.ge_collections.specs.declared.keys.Keys.{Keys}
 
 more_is_some : (n : ℕ) → is_some (nonzero (1 + n)) ≡ true
 more_is_some n = let e : 1 + n ≡ suc n = omega arith in ap (λ k. is_some (nonzero k)) e
@@ -95,7 +96,7 @@ below Greater g e = cc
 
 module _ {K V M : Type 0} {R : K → K → Ordering} (order : IsTotalOrder R) (C : M → M → Ordering) (marks : V → List M) where
   -- a whole ledger notes a key at a mark where the row at the key bears it
-  pub noted_bears : (ledger : List (M × BTreeMap K ℕ)) (rows : List (K × V)) → Counts R C ledger (λ m q. times_at C marks m (lookup (is_at (R q)) rows))
+  pub noted_bears : (ledger : List (M × Keys K)) (rows : List (K × V)) → Counts R C ledger (λ m q. times_at C marks m (lookup (is_at (R q)) rows))
       → (m : M) (q : K) → is_some (noted R C ledger m q) ≡ bears C marks m (lookup (is_at (R q)) rows)
   noted_bears ledger rows known m q = ap is_some (known m q) ∙ by (lookup (is_at (R q)) rows)
     where
@@ -130,7 +131,7 @@ module _ {K V M : Type 0} {R : K → K → Ordering} (order : IsTotalOrder R) (C
         by false false at is rest = rest (ap (λ x. cond x (Some e.1) (lookup (is_at (R key)) es)) (sym at) ∙ here)
 
     -- the least key that a ledger notes is that of the first row that bears the mark
-    pub first_is : (ledger : List (M × BTreeMap K ℕ)) (rows : List (K × V)) → IsStrictlySortedBy R (keys_of rows)
+    pub first_is : (ledger : List (M × Keys K)) (rows : List (K × V)) → IsStrictlySortedBy R (keys_of rows)
         → Counts R C ledger (λ m q. times_at C marks m (lookup (is_at (R q)) rows))
         → IsSome (noted R C ledger m key) → ((q : K) → IsSome (noted R C ledger m q) → is_gt (R key q) ≡ false)
         → find (λ e. is_at (R key) e.0) rows ≡ first_bearer C marks m rows
@@ -147,7 +148,7 @@ module _ {K V M : Type 0} {R : K → K → Ordering} (order : IsTotalOrder R) (C
         by (Some v) is borne = first_at v rows rising is borne first
 
   -- where a ledger notes no key, no row bears the mark
-  pub none_is : (m : M) (ledger : List (M × BTreeMap K ℕ)) (rows : List (K × V)) → IsStrictlySortedBy R (keys_of rows)
+  pub none_is : (m : M) (ledger : List (M × Keys K)) (rows : List (K × V)) → IsStrictlySortedBy R (keys_of rows)
       → Counts R C ledger (λ m q. times_at C marks m (lookup (is_at (R q)) rows))
       → ((q : K) → noted R C ledger m q ≡ None) → None ≡ first_bearer C marks m rows
   none_is m ledger rows rising known none =

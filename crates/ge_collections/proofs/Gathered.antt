@@ -1,7 +1,7 @@
 -- What a ledger gathers at a mark is what a walk over the rows gathers.
 use Rattle.std.proofs.Common.{Bor, ◌≡◌, ℕ, zero, suc, ◌+◌, Bool, true, false, cond, List, [], ◌∷◌, map, Option, Some, None, refl, sym, ap, subst, ◌∙◌, arith}
 use Rattle.std.specs.Option.{option_map, unwrap_or, is_some}
-use Rattle.std.specs.BTreeMap.{BTreeMap, is_at}
+use Rattle.std.specs.BTreeMap.{is_at}
 use Rattle.std.specs.Cmp.{IsTotalOrder}
 use Rattle.std.specs.List.{filter, filter_map, cons_option, sum_by, slice_get, AllByRecursion}
 use Rattle.std.specs.Ordering.{is_eq, eq_by_cmp}
@@ -23,6 +23,7 @@ use Rattle.ge_collections.specs.Kept.{nonzero, noted_in, Counts, only_at, times_
 use Rattle.ge_collections.specs.Marked.{times, is_among}
 use Rattle.ge_collections.proofs.Alike.{read_alike}
 use Rattle.ge_collections.proofs.Found.{counted}
+use Rattle.ge_collections.specs.declared.keys.Keys.{Keys}
 
 module _ {X Y : Type 0} (f : Y → ℕ) (g : X → Y) where
   sum_by_map : (xs : List X) → sum_by f (map g xs) ≡ sum_by (λ x. f (g x)) xs
@@ -53,7 +54,7 @@ module _ {K V M : Type 0} {R : K → K → Ordering} (order : IsTotalOrder R) (C
   times_read m (Some row) = refl
 
   -- a ledger that learned each row counts what the rows bear
-  pub learned : (ledger : List (M × BTreeMap K ℕ)) (rows : List (K × V)) (yielded : List (Bor K × Bor V)) → IsStrictlySortedBy R (keys_of rows) → map deref_pair yielded ≡ rows
+  pub learned : (ledger : List (M × Keys K)) (rows : List (K × V)) (yielded : List (Bor K × Bor V)) → IsStrictlySortedBy R (keys_of rows) → map deref_pair yielded ≡ rows
       → Counts R C ledger (λ m q. sum_by (λ e. only_at R e.0.now (times C m (marks e.1.now)) q) yielded)
       → Counts R C ledger (λ m q. times_at C marks m (lookup (is_at (R q)) rows))
   learned ledger rows yielded rising all known m q =
@@ -197,7 +198,7 @@ module _ {K V M : Type 0} {R : K → K → Ordering} (order : IsTotalOrder R) (C
       ∙ own_shown f rows (key_itself order rows rising)
 
   -- the counts of a mark in a ledger
-  pub counts_of : (ledger : List (M × BTreeMap K ℕ)) (rows : List (K × V)) (found : Option (BTreeMap K ℕ)) → lookup (is_at (C m)) ledger ≡ found
+  pub counts_of : (ledger : List (M × Keys K)) (rows : List (K × V)) (found : Option (Keys K)) → lookup (is_at (C m)) ledger ≡ found
       → Counts R C ledger (λ p q. times_at C marks p (lookup (is_at (R q)) rows))
       → (q : K) → noted_in R found q ≡ nonzero (times_at C marks m (lookup (is_at (R q)) rows))
   counts_of ledger rows found is known q = sym (ap (λ o. noted_in R o q) is) ∙ known m q

@@ -7,3 +7,6 @@ pub mod Moves
 pub mod Noted
 pub mod Between
 pub mod Rows
+pub mod Shortened
+pub mod Ones
+pub mod Renewed

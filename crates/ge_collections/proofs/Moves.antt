@@ -2,10 +2,10 @@
 use Rattle.std.proofs.Common.{◌≡◌, ℕ, ◌+◌, ◌-◌, Bool, List, Option, Some, None, sym, ap, subst, ◌∙◌}
 use Rattle.std.specs.Option.{unwrap_or, option_map}
 use Rattle.std.specs.Prelude.{IfSome}
-use Rattle.std.specs.BTreeMap.{BTreeMap}
 use Rattle.std.specs.declared.cmp.Ordering.{Ordering}
 use Rattle.ge_collections.specs.Kept.{AreSums, Counts, nonzero, only_at}
 use Rattle.ge_collections.specs.Marked.{times}
+use Rattle.ge_collections.specs.declared.keys.Keys.{Keys}
 
 module _ {X M : Type 0} (lost gained : X → List M) (count : M → List M → ℕ) where
   -- the marks that move are those that an edit told
@@ -31,7 +31,7 @@ module _ (whole : Bool) (first second a b : ℕ) where
 
 module _ {K M : Type 0} (R : K → K → Ordering) (C : M → M → Ordering) where
   -- the same marks under other names
-  pub same_marks : (ledger : List (M × BTreeMap K ℕ)) (count : M → K → ℕ) (key : K) (more gained less lost : List M) → more ≡ gained → less ≡ lost
+  pub same_marks : (ledger : List (M × Keys K)) (count : M → K → ℕ) (key : K) (more gained less lost : List M) → more ≡ gained → less ≡ lost
       → Counts R C ledger (λ m q. count m q + only_at R key (times C m more) q - only_at R key (times C m less) q)
       → Counts R C ledger (λ m q. count m q + only_at R key (times C m gained) q - only_at R key (times C m lost) q)
   same_marks ledger count key more gained less lost g l known m q =

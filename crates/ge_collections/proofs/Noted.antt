@@ -9,8 +9,10 @@ use Rattle.std.specs.Map.{lookup}
 use Rattle.std.specs.declared.cmp.Ordering.{Ordering}
 use Rattle.std.proofs.lemmas.Cmp.{eq_by_cmp_equiv}
 use Rattle.std.proofs.lemmas.List.Sums.{sum_by_more}
-use Rattle.ge_collections.specs.Kept.{nonzero, noted_in, Counts, only_at}
+use Rattle.ge_collections.specs.Kept.{entries_of, nonzero, noted_in, Counts, only_at}
 use Rattle.ge_collections.specs.Marked.{times}
+use Rattle.ge_collections.specs.declared.keys.Keys.{Keys}
+use Rattle.ge_collections.specs.declared.keys.Keys.TheVariants.{One}
 
 module _ {K V : Type 0} where
   lookup_same : (p r : K → Bool) → ((x : K) → p x ≡ r x) → (es : List (K × V)) → lookup p es ≡ lookup r es
@@ -52,12 +54,12 @@ pub more_noted : (n : ℕ) → Some (n + 1) ≡ nonzero (n + 1)
 more_noted n = rw add-one refl
 
 module _ {K M : Type 0} {R : K → K → Ordering} {C : M → M → Ordering} (keys : IsTotalOrder R) (marks : IsTotalOrder C) where
-  noted_one : (found : Option (BTreeMap K ℕ)) (key q : K) → is_at (R key) q ≡ true → noted_in R found key ≡ noted_in R found q
+  noted_one : (found : Option (Keys K)) (key q : K) → is_at (R key) q ≡ true → noted_in R found key ≡ noted_in R found q
   noted_one None key q at = refl
-  noted_one (Some known) key q at = lookup_one keys key q known.entries at
+  noted_one (Some known) key q at = lookup_one keys key q (entries_of known) at
 
   -- a ledger after the count of a key at a mark took a step
-  pub counts_at : (step : ℕ → ℕ) (ledger after : List (M × BTreeMap K ℕ)) (mark : M) (key : K) (found left : Option (BTreeMap K ℕ)) (count : M → K → ℕ)
+  pub counts_at : (step : ℕ → ℕ) (ledger after : List (M × Keys K)) (mark : M) (key : K) (found left : Option (Keys K)) (count : M → K → ℕ)
       → lookup (is_at (C mark)) ledger ≡ found
       → ((m : M) → lookup (is_at (C m)) after ≡ cond (is_at (C mark) m) left (lookup (is_at (C m)) ledger))
       → ((q : K) → noted_in R left q ≡ cond (is_at (R key) q) (nonzero (step (unwrap_or (noted_in R found key) 0))) (noted_in R found q))
@@ -78,57 +80,57 @@ module _ {K M : Type 0} {R : K → K → Ordering} {C : M → M → Ordering} (k
       by false b at same = counts m q
 
   -- the count of a key at a mark rises
-  pub raised : (ledger after : List (M × BTreeMap K ℕ)) (mark : M) (key : K) (found : Option (BTreeMap K ℕ)) (left : BTreeMap K ℕ)
+  pub raised : (ledger after : List (M × Keys K)) (mark : M) (key : K) (found : Option (Keys K)) (left : Keys K)
       → lookup (is_at (C mark)) ledger ≡ found
       → ((m : M) → lookup (is_at (C m)) after ≡ cond (is_at (C mark) m) (Some left) (lookup (is_at (C m)) ledger))
-      → ((q : K) → lookup (is_at (R q)) left.entries ≡ cond (is_at (R key) q) (Some (unwrap_or (noted_in R found key) 0 + 1)) (noted_in R found q))
+      → ((q : K) → lookup (is_at (R q)) (entries_of left) ≡ cond (is_at (R key) q) (Some (unwrap_or (noted_in R found key) 0 + 1)) (noted_in R found q))
       → (count : M → K → ℕ) → Counts R C ledger count → Counts R C after (λ m q. cond (is_at (C mark) m && is_at (R key) q) (count m q + 1) (count m q))
   raised ledger after mark key found left is shown changed count =
       counts_at (λ n. n + 1) ledger after mark key found (Some left) count is shown
       (λ q. changed q ∙ ap (λ o. cond (is_at (R key) q) o (noted_in R found q)) (more_noted (unwrap_or (noted_in R found key) 0)))
 
   -- a mark that no key had has one
-  pub raised_new : (ledger before after : BTreeMap M (BTreeMap K ℕ)) (mark copy : M) (key : K) (empty left : BTreeMap K ℕ)
-      → before ≡ ledger → copy ≡ mark → empty.entries ≡ [] → None ≡ lookup (is_at (C mark)) ledger.entries
-      → ((m : M) → lookup (is_at (C m)) after.entries ≡ cond (is_at (C copy) m) (Some left) (lookup (is_at (C m)) before.entries))
-      → ((q : K) → lookup (is_at (R q)) left.entries ≡ cond (is_at (R key) q) (Some (unwrap_or (lookup (is_at (R key)) empty.entries) 0 + 1)) (lookup (is_at (R q)) empty.entries))
+  pub raised_new : (ledger before after : BTreeMap M (Keys K)) (mark copy : M) (key own : K)
+      → before ≡ ledger → copy ≡ mark → own ≡ key → None ≡ lookup (is_at (C mark)) ledger.entries
+      → ((m : M) → lookup (is_at (C m)) after.entries ≡ cond (is_at (C copy) m) (Some (One own 1)) (lookup (is_at (C m)) before.entries))
       → (count : M → K → ℕ) → Counts R C ledger.entries count → Counts R C after.entries (λ m q. cond (is_at (C mark) m && is_at (R key) q) (count m q + 1) (count m q))
-  raised_new ledger before after mark copy key empty left same one none is shown changed =
-      raised ledger.entries after.entries mark key None left (sym is)
-      (λ m. shown m ∙ ap (λ b. cond b (Some left) (lookup (is_at (C m)) before.entries)) (ap (λ k. is_at (C k) m) one) ∙ ap (λ (l : BTreeMap M (BTreeMap K ℕ)). cond (is_at (C mark) m) (Some left) (lookup (is_at (C m)) l.entries)) same)
-      (λ q. changed q ∙ ap (λ (es : List (K × ℕ)). cond (is_at (R key) q) (Some (unwrap_or (lookup (is_at (R key)) es) 0 + 1)) (lookup (is_at (R q)) es)) none)
+  raised_new ledger before after mark copy key own same one two is shown =
+      raised ledger.entries after.entries mark key None (One own 1) (sym is)
+      (λ m. shown m ∙ ap (λ b. cond b (Some (One own 1)) (lookup (is_at (C m)) before.entries)) (ap (λ k. is_at (C k) m) one)
+      ∙ ap (λ (l : BTreeMap M (Keys K)). cond (is_at (C mark) m) (Some (One own 1)) (lookup (is_at (C m)) l.entries)) same)
+      (λ q. ap (λ k. cond (is_at (R q) k) (Some 1) None) two ∙ ap (λ b. cond b (Some 1) None) ((eq_by_cmp_equiv keys).symm q key))
 
   -- the count of a key at a mark falls
-  pub lowered : (ledger after : List (M × BTreeMap K ℕ)) (mark : M) (key : K) (known left : BTreeMap K ℕ)
+  pub lowered : (ledger after : List (M × Keys K)) (mark : M) (key : K) (known left : Keys K)
       → lookup (is_at (C mark)) ledger ≡ Some known
       → ((m : M) → lookup (is_at (C m)) after ≡ cond (is_at (C mark) m) (Some left) (lookup (is_at (C m)) ledger))
-      → ((q : K) → lookup (is_at (R q)) left.entries ≡ cond (is_at (R key) q) (nonzero (unwrap_or (lookup (is_at (R key)) known.entries) 0 - 1)) (lookup (is_at (R q)) known.entries))
+      → ((q : K) → lookup (is_at (R q)) (entries_of left) ≡ cond (is_at (R key) q) (nonzero (unwrap_or (lookup (is_at (R key)) (entries_of known)) 0 - 1)) (lookup (is_at (R q)) (entries_of known)))
       → (count : M → K → ℕ) → Counts R C ledger count → Counts R C after (λ m q. cond (is_at (C mark) m && is_at (R key) q) (count m q - 1) (count m q))
   lowered ledger after mark key known left is shown changed count =
       counts_at (λ n. n - 1) ledger after mark key (Some known) (Some left) count is shown changed
 
   -- the last key of a mark is gone
-  pub lowered_last : (ledger between after : List (M × BTreeMap K ℕ)) (mark : M) (key : K) (known left : BTreeMap K ℕ)
-      → lookup (is_at (C mark)) ledger ≡ Some known → left.entries ≡ []
+  pub lowered_last : (ledger between after : List (M × Keys K)) (mark : M) (key : K) (known left : Keys K)
+      → lookup (is_at (C mark)) ledger ≡ Some known
       → ((m : M) → lookup (is_at (C m)) between ≡ cond (is_at (C mark) m) (Some left) (lookup (is_at (C m)) ledger))
       → ((m : M) → lookup (is_at (C m)) after ≡ cond (is_at (C mark) m) None (lookup (is_at (C m)) between))
-      → ((q : K) → lookup (is_at (R q)) left.entries ≡ cond (is_at (R key) q) (nonzero (unwrap_or (lookup (is_at (R key)) known.entries) 0 - 1)) (lookup (is_at (R q)) known.entries))
+      → ((q : K) → cond (is_at (R key) q) (nonzero (unwrap_or (lookup (is_at (R key)) (entries_of known)) 0 - 1)) (lookup (is_at (R q)) (entries_of known)) ≡ None)
       → (count : M → K → ℕ) → Counts R C ledger count → Counts R C after (λ m q. cond (is_at (C mark) m && is_at (R key) q) (count m q - 1) (count m q))
-  lowered_last ledger between after mark key known left is emptied mid shown changed count =
+  lowered_last ledger between after mark key known left is mid shown gone_all count =
       counts_at (λ n. n - 1) ledger after mark key (Some known) None count is
       (λ m. shown m ∙ gone (is_at (C mark) m) m (mid m))
-      (λ q. sym (ap (λ (es : List (K × ℕ)). lookup (is_at (R q)) es) emptied) ∙ changed q)
+      (λ q. sym (gone_all q))
     where
       gone : (b : Bool) (m : M) → lookup (is_at (C m)) between ≡ cond b (Some left) (lookup (is_at (C m)) ledger) → cond b None (lookup (is_at (C m)) between) ≡ cond b None (lookup (is_at (C m)) ledger)
       gone true m h = refl
       gone false m h = h
 
   -- a mark that no key has loses none
-  pub lowered_none : (ledger after : BTreeMap M (BTreeMap K ℕ)) (mark : M) (key : K) → None ≡ lookup (is_at (C mark)) ledger.entries → after ≡ ledger
+  pub lowered_none : (ledger after : BTreeMap M (Keys K)) (mark : M) (key : K) → None ≡ lookup (is_at (C mark)) ledger.entries → after ≡ ledger
       → (count : M → K → ℕ) → Counts R C ledger.entries count → Counts R C after.entries (λ m q. cond (is_at (C mark) m && is_at (R key) q) (count m q - 1) (count m q))
   lowered_none ledger after mark key is same count =
       counts_at (λ n. n - 1) ledger.entries after.entries mark key None None count (sym is)
-      (λ m. ap (λ (l : BTreeMap M (BTreeMap K ℕ)). lookup (is_at (C m)) l.entries) same ∙ lookup_stays marks mark m ledger.entries None (sym is))
+      (λ m. ap (λ (l : BTreeMap M (Keys K)). lookup (is_at (C m)) l.entries) same ∙ lookup_stays marks mark m ledger.entries None (sym is))
       (λ q. nothing (is_at (R key) q))
     where
       nothing : (b : Bool) → None ≡ cond b (nonzero (0 - 1)) None
@@ -157,7 +159,7 @@ module _ {M : Type 0} {C : M → M → Ordering} (order : IsTotalOrder C) where
       ∙ ap (λ b. times C m (take i marks) + cond b 1 0) ((eq_by_cmp_equiv order).symm m x)
 
 module _ {K M : Type 0} {R : K → K → Ordering} {C : M → M → Ordering} (keys : IsTotalOrder R) (order : IsTotalOrder C) where
-  pub raised_more : (before start after : List (M × BTreeMap K ℕ)) (key : K) (marks : List M) (i : ℕ) (x : M) → x ≡ get_or marks i x → i < length marks
+  pub raised_more : (before start after : List (M × Keys K)) (key : K) (marks : List M) (i : ℕ) (x : M) → x ≡ get_or marks i x → i < length marks
       → ((count : M → K → ℕ) → Counts R C before count → Counts R C start (λ m q. count m q + only_at R key (times C m (take i marks)) q))
       → ((count : M → K → ℕ) → Counts R C start count → Counts R C after (λ m q. cond (is_at (C x) m && is_at (R key) q) (count m q + 1) (count m q)))
       → (count : M → K → ℕ) → Counts R C before count → Counts R C after (λ m q. count m q + only_at R key (times C m (take (i + 1) marks)) q)
@@ -166,7 +168,7 @@ module _ {K M : Type 0} {R : K → K → Ordering} {C : M → M → Ordering} (k
       ∙ ap nonzero (added (is_at (C x) m) (is_at (R key) q) (count m q) (times C m (take i marks))
       ∙ ap (λ t. count m q + only_at R key t q) (sym (times_more order marks i x is lt m)))
 
-  pub lowered_more : (before start after : List (M × BTreeMap K ℕ)) (key : K) (marks : List M) (i : ℕ) (x : M) → x ≡ get_or marks i x → i < length marks
+  pub lowered_more : (before start after : List (M × Keys K)) (key : K) (marks : List M) (i : ℕ) (x : M) → x ≡ get_or marks i x → i < length marks
       → ((count : M → K → ℕ) → Counts R C before count → Counts R C start (λ m q. count m q - only_at R key (times C m (take i marks)) q))
       → ((count : M → K → ℕ) → Counts R C start count → Counts R C after (λ m q. cond (is_at (C x) m && is_at (R key) q) (count m q - 1) (count m q)))
       → (count : M → K → ℕ) → Counts R C before count → Counts R C after (λ m q. count m q - only_at R key (times C m (take (i + 1) marks)) q)

@@ -2,7 +2,7 @@
 use Rattle.std.proofs.Common.{◌≡◌, ℕ, ◌+◌, ◌-◌, Bool, true, false, cond, List, Option, Some, None, refl, sym, ap, ◌∙◌, arith}
 use Rattle.std.specs.Option.{unwrap_or, option_map, IsSomeAnd}
 use Rattle.std.specs.Prelude.{IfSome}
-use Rattle.std.specs.BTreeMap.{BTreeMap, is_at, insert_entry}
+use Rattle.std.specs.BTreeMap.{is_at, insert_entry}
 use Rattle.std.specs.Cmp.{IsTotalOrder}
 use Rattle.std.specs.List.Sorted.{IsStrictlySortedBy}
 use Rattle.std.specs.Map.{lookup, keys_of, remove_entry, set_value}
@@ -11,6 +11,7 @@ use Rattle.std.proofs.lemmas.Map.Entries.{sum_by-remove_entry, sum_by-insert_ent
 use Rattle.ge_collections.specs.Kept.{AreSums, Counts, Tells, nonzero, only_at, times_at, weight_of}
 use Rattle.ge_collections.specs.Marked.{times}
 use Rattle.ge_collections.proofs.Noted.{lookup_stays}
+use Rattle.ge_collections.specs.declared.keys.Keys.{Keys}
 
 module _ {K V : Type 0} (weight : V → ℕ) (test : K → Bool) (rows : List (K × V)) where
   weight_found : (row : V) → lookup test rows ≡ Some row → unwrap_or (option_map weight (lookup test rows)) 0 ≡ weight row
@@ -132,7 +133,7 @@ module _ {K V M : Type 0} {R : K → K → Ordering} (order : IsTotalOrder R) (C
       by true n = omega arith
       by false n = omega arith
 
-  module _ (whole : Bool) (ledger : List (M × BTreeMap K ℕ)) where
+  module _ (whole : Bool) (ledger : List (M × Keys K)) where
     tells_same : (f h : M → K → ℕ) → ((m : M) (q : K) → f m q ≡ h m q) → Tells R C whole ledger f → Tells R C whole ledger h
     tells_same f h same known = λ on m q. known on m q ∙ ap nonzero (same m q)
 

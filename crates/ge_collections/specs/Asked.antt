@@ -2,11 +2,12 @@
 use Rattle.std.specs.Prelude.{ℕ, ◌-◌, ◌^◌, min, Bool, false, not, ◌&&◌, List, map, flat_map, Option, Some, None}
 use Rattle.std.specs.List.{list_any, find, filter}
 use Rattle.std.specs.Map.{keys_of}
-use Rattle.std.specs.BTreeMap.{BTreeMap, is_at}
+use Rattle.std.specs.BTreeMap.{is_at}
 use Rattle.std.specs.Ordering.{is_le, ordering_then}
 use Rattle.std.specs.declared.cmp.Ordering.{Ordering}
-use Rattle.ge_collections.specs.Kept.{weight_of}
+use Rattle.ge_collections.specs.Kept.{entries_of, weight_of}
 use Rattle.ge_collections.specs.Marked.{times, is_among}
+use Rattle.ge_collections.specs.declared.keys.Keys.{Keys}
 
 -- the sum of a weight of rows, cut at 2^128 - 1
 abbrev pub cut_weight : {K V : Type 0} → (V → ℕ) → List (K × V) → ℕ
@@ -49,5 +50,5 @@ abbrev pub is_between : {M : Type 0} → (M → M → Ordering) → M → M → 
 is_between cmp low high mark = is_le (cmp low mark) && not (is_le (cmp high mark))
 
 -- each mark of a ledger with each key that it notes there
-abbrev pub pairs_of : {K M : Type 0} → List (M × BTreeMap K ℕ) → List (M × K)
-pairs_of ledger = flat_map (λ e. map (λ key. (e.0, key)) (keys_of e.1.entries)) ledger
+abbrev pub pairs_of : {K M : Type 0} → List (M × Keys K) → List (M × K)
+pairs_of ledger = flat_map (λ e. map (λ key. (e.0, key)) (keys_of (entries_of e.1))) ledger

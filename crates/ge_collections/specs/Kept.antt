@@ -1,15 +1,22 @@
 -- What a table keeps beside its rows: two sums, and how often the row at each key bears each mark.
-use Rattle.std.specs.Prelude.{◌≡◌, ℕ, zero, suc, Bool, true, cond, List, Option, Some, None}
+use Rattle.std.specs.Prelude.{◌≡◌, ℕ, zero, suc, Bool, true, cond, List, [], ◌∷◌, Option, Some, None}
 use Rattle.std.specs.List.{sum_by}
 use Rattle.std.specs.Map.{lookup, values_of}
-use Rattle.std.specs.BTreeMap.{BTreeMap, is_at}
+use Rattle.std.specs.BTreeMap.{is_at}
 use Rattle.std.specs.declared.cmp.Ordering.{Ordering}
 use Rattle.ge_collections.specs.Marked.{times}
+use Rattle.ge_collections.specs.declared.keys.Keys.{Keys}
+use Rattle.ge_collections.specs.declared.keys.Keys.TheVariants.{One, Many}
 
 -- a count that is noted only where it isn't zero
 abbrev pub nonzero : ℕ → Option ℕ
 nonzero zero = None
 nonzero (suc n) = Some (suc n)
+
+-- keys with how often each is noted
+abbrev pub entries_of : {K : Type 0} → Keys K → List (K × ℕ)
+entries_of (One key count) = (key, count) ∷ []
+entries_of (Many counts) = counts.entries
 
 module _ {V M : Type 0} (cmp : M → M → Ordering) (marks : V → List M) where
   -- how often a row that may not be there bears a mark
@@ -19,9 +26,9 @@ module _ {V M : Type 0} (cmp : M → M → Ordering) (marks : V → List M) wher
 
 module _ {K : Type 0} (order : K → K → Ordering) where
   -- how often a key is noted among those of a mark that may not be there
-  abbrev pub noted_in : Option (BTreeMap K ℕ) → K → Option ℕ
+  abbrev pub noted_in : Option (Keys K) → K → Option ℕ
   noted_in None key = None
-  noted_in (Some keys) key = lookup (is_at (order key)) keys.entries
+  noted_in (Some keys) key = lookup (is_at (order key)) (entries_of keys)
 
   -- a number that counts at one key, and nothing elsewhere
   abbrev pub only_at : K → ℕ → K → ℕ
@@ -29,15 +36,15 @@ module _ {K : Type 0} (order : K → K → Ordering) where
 
 module _ {K M : Type 0} (order : K → K → Ordering) (cmp : M → M → Ordering) where
   -- how often a ledger notes a key at a mark
-  abbrev pub noted : List (M × BTreeMap K ℕ) → M → K → Option ℕ
+  abbrev pub noted : List (M × Keys K) → M → K → Option ℕ
   noted ledger mark key = noted_in order (lookup (is_at (cmp mark)) ledger) key
 
   -- a ledger notes these counts
-  abbrev pub Counts : List (M × BTreeMap K ℕ) → (M → K → ℕ) → Type 0
+  abbrev pub Counts : List (M × Keys K) → (M → K → ℕ) → Type 0
   Counts ledger count = (mark : M) (key : K) → noted ledger mark key ≡ nonzero (count mark key)
 
   -- a ledger that is whole notes these counts
-  abbrev pub Tells : Bool → List (M × BTreeMap K ℕ) → (M → K → ℕ) → Type 0
+  abbrev pub Tells : Bool → List (M × Keys K) → (M → K → ℕ) → Type 0
   Tells whole ledger count = whole ≡ true → Counts ledger count
 
 -- the sum of the counts of keys

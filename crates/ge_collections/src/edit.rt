@@ -1,5 +1,5 @@
 // Edits of a row in place.
-ghost use Rattle.std.specs.Prelude.{◌≡◌, ◌+◌, ℕ, List, [], IfOk, OnOk, OnErr};
+ghost use Rattle.std.specs.Prelude.{◌≡◌, ◌+◌, ℕ, false, List, [], IfOk, OnOk, OnErr};
 ghost use Rattle.ge_collections.specs.Marked.{times};
 
 use crate::row::Row;
@@ -25,6 +25,13 @@ pub trait Edit<V: Row> {
     /// The marks that the row gains.
     fn gained(&self, alloc: Global, row: &V) -> Result<Vec<V::Mark>, AllocError>
         ensures { IfOk result (λ list. list.items ≡ gained self.now row.now) };
+
+    /// Whether the row's labels may be others after the edit. Where it is false the table never asks for them.
+    fn relabels(&self, _row: &V) -> bool
+        ensures { result ≡ false → V.labels (edited self.now _row.now) ≡ V.labels _row.now }
+    {
+        true
+    }
 
     /// Makes the edit. What the row bears afterwards and what it lost is what it bore and what it gained.
     fn edit(&self, row: &mut V)
@@ -54,6 +61,13 @@ pub trait TryEdit<V: Row> {
     /// The marks that the row gains.
     fn gained(&self, alloc: Global, row: &V) -> Result<Vec<V::Mark>, AllocError>
         ensures { IfOk result (λ list. list.items ≡ gained self.now row.now) };
+
+    /// Whether the row's labels may be others after the edit. Where it is false the table never asks for them.
+    fn relabels(&self, _row: &V) -> bool
+        ensures { result ≡ false → V.labels (edited self.now _row.now) ≡ V.labels _row.now }
+    {
+        true
+    }
 
     /// Makes the edit, or none.
     fn try_edit(&self, alloc: Global, row: &mut V) -> Result<(), AllocError>

@@ -3,8 +3,11 @@ ghost use Rattle.std.specs.Prelude.{◌≡◌, ℕ, ◌-◌, ◌^◌, min, true,
 ghost use Rattle.std.specs.Option.{option_map};
 ghost use Rattle.std.specs.Ordering.{is_gt};
 ghost use Rattle.ge_collections.specs.Asked.{cut_weight, first_bearer, is_borne};
-ghost use Rattle.ge_collections.specs.Kept.{noted};
+ghost use Rattle.std.specs.BTreeMap.{is_at};
+ghost use Rattle.std.specs.Map.{lookup};
+ghost use Rattle.ge_collections.specs.Kept.{entries_of, noted};
 
+use crate::keys::Keys;
 use crate::ledger::Ledger;
 use crate::row::Row;
 use crate::sums::uncut;
@@ -26,19 +29,36 @@ fn totals_of<K: Ord, V: Row>(rows: &BTreeMap<K, V>) -> (u128, u128)
     (first, second)
 }
 
-// The first key that a ledger notes at a mark.
-fn first_noted<'a, K: Ord, M: Ord>(ledger: &'a Ledger<K, M>, mark: &M) -> Option<&'a K>
-    ensures some { IfSome result (λ key. IsSome (noted K.cmp M.cmp ledger.now.bearers.entries mark.now key.now)) }
-    ensures least { IfSome result (λ key. (q : K)
-        → IsSome (noted K.cmp M.cmp ledger.now.bearers.entries mark.now q)
-        → is_gt (K.cmp key.now q) ≡ false) }
-    ensures none { IfNone result ((q : K) → noted K.cmp M.cmp ledger.now.bearers.entries mark.now q ≡ None) }
+// The first of some keys.
+#[tactic(auto, using(crate::proofs::Ones::one_first, crate::proofs::Ones::one_there))]
+fn first_key<K: Ord>(keys: &Keys<K>) -> Option<&K>
+    ensures some { IfSome result (λ key. IsSome
+        (lookup (is_at (K.cmp key.now)) (entries_of keys.now))) }
+    ensures least { IfSome result (λ key. (q : K) → IsSome
+        (lookup (is_at (K.cmp q)) (entries_of keys.now)) → is_gt (K.cmp key.now q) ≡ false) }
+    ensures none { IfNone result ((q : K) → lookup (is_at (K.cmp q)) (entries_of keys.now) ≡ None) }
 {
-    match ledger.bearers.get(mark) {
-        Some(keys) => match keys.first_key_value() {
+    match keys {
+        Keys::One(key, _count) => Some(key),
+        Keys::Many(keys) => match keys.first_key_value() {
             Some((key, _count)) => Some(key),
             None => None,
         },
+    }
+}
+
+// The first key that a ledger notes at a mark.
+fn first_noted<'a, K: Ord, M: Ord>(ledger: &'a Ledger<K, M>, mark: &M) -> Option<&'a K>
+    ensures some { IfSome result (λ key. IsSome (noted K.cmp M.cmp ledger.now.bearers.entries
+        mark.now key.now)) }
+    ensures least { IfSome result (λ key. (q : K)
+        → IsSome (noted K.cmp M.cmp ledger.now.bearers.entries mark.now q)
+        → is_gt (K.cmp key.now q) ≡ false) }
+    ensures none { IfNone result ((q : K) → noted K.cmp M.cmp ledger.now.bearers.entries mark.now
+        q ≡ None) }
+{
+    match ledger.bearers.get(mark) {
+        Some(keys) => first_key(keys),
         None => None,
     }
 }

@@ -1,13 +1,14 @@
 // What a table gathers about its rows by their marks.
-ghost use Rattle.std.specs.Prelude.{◌≡◌, ℕ, IfOk};
+ghost use Rattle.std.specs.Prelude.{◌≡◌, ℕ, [], ◌∷◌, IfOk};
 ghost use Rattle.std.specs.BTreeMap.{is_at};
 ghost use Rattle.std.specs.List.{filter_map};
 ghost use Rattle.std.specs.List.Sorted.{IsStrictlySortedBy};
 ghost use Rattle.std.specs.Map.{keys_of, lookup, lookup_key};
 ghost use Rattle.ge_collections.specs.Asked.{bearers_of, tally_of};
-ghost use Rattle.ge_collections.specs.Kept.{Counts, times_at, total_in};
+ghost use Rattle.ge_collections.specs.Kept.{Counts, entries_of, times_at, total_in};
 
 use crate::kept::learn_row;
+use crate::keys::Keys;
 use crate::ledger::Ledger;
 use crate::row::Row;
 use crate::table::Table;
@@ -50,6 +51,34 @@ fn sum_of<K: Ord>(keys: &BTreeMap<K, u64>) -> Result<u128, AllocError>
     Ok(sum)
 }
 
+// The sum of some counts, of one key or of many.
+#[tactic(auto, using(crate::proofs::Ones::one_rises))]
+fn sum_of_keys<K: Ord>(keys: &Keys<K>) -> Result<u128, AllocError>
+    ensures sum { IfOk result (λ sum. sum ≡ total_in (entries_of keys.now)) }
+    ensures rising { IsStrictlySortedBy K.cmp (keys_of (entries_of keys.now)) }
+{
+    match keys {
+        Keys::One(_key, count) => Ok(u128::from(*count)),
+        Keys::Many(counts) => sum_of(counts),
+    }
+}
+
+// The key of rows that is this one, if it is there.
+fn own_key<K: Ord + Twin + Drop, V>(
+    alloc: Global,
+    rows: &BTreeMap<K, V>,
+    key: &K,
+) -> Result<Vec<K>, AllocError>
+    ensures { IfOk result (λ list. list.items ≡ filter_map
+        (λ key. lookup_key (is_at (K.cmp key)) rows.now.entries) (key.now ∷ [])) }
+{
+    let mut list = Vec::new(alloc);
+    if let Some((own, _row)) = rows.get_key_value(key) {
+        list.push(own.twin(alloc)?)?;
+    }
+    Ok(list)
+}
+
 // The keys of rows that are those of some counts.
 fn own_keys<K: Ord + Twin + Drop, V>(
     alloc: Global,
@@ -71,6 +100,23 @@ fn own_keys<K: Ord + Twin + Drop, V>(
     Ok(list)
 }
 
+// The keys of rows that are those of some counts, of one key or of many.
+#[tactic(auto, using(crate::proofs::Ones::one_rises))]
+fn own_of_keys<K: Ord + Twin + Drop, V>(
+    alloc: Global,
+    rows: &BTreeMap<K, V>,
+    keys: &Keys<K>,
+) -> Result<Vec<K>, AllocError>
+    ensures keys { IfOk result (λ list. list.items ≡ filter_map
+        (λ key. lookup_key (is_at (K.cmp key)) rows.now.entries) (keys_of (entries_of keys.now))) }
+    ensures rising { IsStrictlySortedBy K.cmp (keys_of (entries_of keys.now)) }
+{
+    match keys {
+        Keys::One(key, _count) => own_key(alloc, rows, key),
+        Keys::Many(counts) => own_keys(alloc, rows, counts),
+    }
+}
+
 // How often the rows that a ledger tells of bear a mark.
 fn tally_in<K: Ord, V: Row>(
     rows: &BTreeMap<K, V>,
@@ -82,7 +128,7 @@ fn tally_in<K: Ord, V: Row>(
 {
     let _count = rows.len();
     match ledger.bearers.get(mark) {
-        Some(keys) => sum_of(keys),
+        Some(keys) => sum_of_keys(keys),
         None => Ok(0),
     }
 }
@@ -99,7 +145,7 @@ fn bearers_in<K: Ord + Twin + Drop, V: Row>(
 {
     let _count = rows.len();
     match ledger.bearers.get(mark) {
-        Some(keys) => own_keys(alloc, rows, keys),
+        Some(keys) => own_of_keys(alloc, rows, keys),
         None => Ok(Vec::new(alloc)),
     }
 }

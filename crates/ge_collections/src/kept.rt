@@ -163,6 +163,7 @@ pub(crate) fn shift<K: Ord + Twin + Drop, M: Ord + Twin + Drop>(
         before,
         after,
         marks,
+        relabels: _,
     } = moved;
     take(&mut kept.sums, before);
     add(&mut kept.sums, after);

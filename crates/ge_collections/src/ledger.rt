@@ -4,7 +4,7 @@ ghost use Rattle.std.specs.BTreeMap.{is_at};
 ghost use Rattle.ge_collections.specs.Kept.{Counts, Tells, only_at};
 ghost use Rattle.ge_collections.specs.Marked.{times};
 
-use crate::counts::{lower_count, raise_count};
+use crate::keys::{Keys, lower_keys, raise_keys};
 use crate::twin::Twin;
 use std::alloc::Global;
 use std::collections::BTreeMap;
@@ -14,13 +14,13 @@ use std::collections::BTreeMap;
 #[derive(Drop)]
 pub(crate) struct Ledger<K: Ord, M: Ord> {
     pub(crate) whole: bool,
-    pub(crate) bearers: BTreeMap<M, BTreeMap<K, u64>>,
+    pub(crate) bearers: BTreeMap<M, Keys<K>>,
 }
 
 // A mark once more at a key, if there is memory and the count fits.
 fn raise<K: Ord + Twin + Drop, M: Ord + Twin + Drop>(
     alloc: Global,
-    bearers: &mut BTreeMap<M, BTreeMap<K, u64>>,
+    bearers: &mut BTreeMap<M, Keys<K>>,
     mark: &M,
     key: &K,
 ) -> bool
@@ -30,24 +30,19 @@ fn raise<K: Ord + Twin + Drop, M: Ord + Twin + Drop>(
         + 1) (count m q)) }
 {
     if let Some(keys) = bearers.get_mut(mark) {
-        return raise_count(alloc, keys, key);
+        return raise_keys(alloc, keys, key);
     }
     let Ok(mark) = mark.twin(alloc) else {
         return false;
     };
-    let mut keys = BTreeMap::new(alloc);
-    if !raise_count(alloc, &mut keys, key) {
+    let Ok(key) = key.twin(alloc) else {
         return false;
-    }
-    bearers.insert(mark, keys).is_ok()
+    };
+    bearers.insert(mark, Keys::One(key, 1)).is_ok()
 }
 
 // A mark once less at a key. A mark that no key has any more is forgotten.
-fn lower<K: Ord + Drop, M: Ord + Drop>(
-    bearers: &mut BTreeMap<M, BTreeMap<K, u64>>,
-    mark: &M,
-    key: &K,
-)
+fn lower<K: Ord + Drop, M: Ord + Drop>(bearers: &mut BTreeMap<M, Keys<K>>, mark: &M, key: &K)
     ensures { (count : M → K → ℕ) → Counts K.cmp M.cmp bearers.old.entries count
         → Counts K.cmp M.cmp bearers.new.entries
         (λ m q. cond (is_at (M.cmp mark.now) m && is_at (K.cmp key.now) q) (count m q
@@ -56,8 +51,7 @@ fn lower<K: Ord + Drop, M: Ord + Drop>(
     let Some(keys) = bearers.get_mut(mark) else {
         return;
     };
-    lower_count(keys, key);
-    if !keys.is_empty() {
+    if lower_keys(keys, key) {
         return;
     }
     let _emptied = bearers.remove(mark);
@@ -66,7 +60,7 @@ fn lower<K: Ord + Drop, M: Ord + Drop>(
 // These marks at a key, if there is memory and the counts fit.
 fn raise_all<K: Ord + Twin + Drop, M: Ord + Twin + Drop>(
     alloc: Global,
-    bearers: &mut BTreeMap<M, BTreeMap<K, u64>>,
+    bearers: &mut BTreeMap<M, Keys<K>>,
     key: &K,
     marks: &[M],
 ) -> bool
@@ -83,11 +77,7 @@ fn raise_all<K: Ord + Twin + Drop, M: Ord + Twin + Drop>(
 }
 
 // These marks at a key no more.
-fn lower_all<K: Ord + Drop, M: Ord + Drop>(
-    bearers: &mut BTreeMap<M, BTreeMap<K, u64>>,
-    key: &K,
-    marks: &[M],
-)
+fn lower_all<K: Ord + Drop, M: Ord + Drop>(bearers: &mut BTreeMap<M, Keys<K>>, key: &K, marks: &[M])
     ensures { (count : M → K → ℕ) → Counts K.cmp M.cmp bearers.old.entries count
         → Counts K.cmp M.cmp bearers.new.entries (λ m q. count m q
         - only_at K.cmp key.now (times M.cmp m marks.now) q) }

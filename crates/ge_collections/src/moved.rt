@@ -1,5 +1,5 @@
 // What an edit changes of a row, as a table notes it.
-ghost use Rattle.std.specs.Prelude.{◌≡◌, ◌+◌, ℕ, IfSome, IfOk, OnOk, OnErr};
+ghost use Rattle.std.specs.Prelude.{◌≡◌, ◌+◌, ℕ, false, IfSome, IfOk, OnOk, OnErr};
 ghost use Rattle.ge_collections.specs.Marked.{times};
 
 use crate::edit::{Edit, TryEdit};
@@ -13,12 +13,14 @@ pub(crate) struct Marks<M> {
     pub(crate) gained: Vec<M>,
 }
 
-/// The weights before and after an edit, and the marks that move, where there was memory for them.
+/// The weights before and after an edit, the marks that move, where there was memory for them, and whether the row's
+/// labels may have changed.
 #[derive(Drop)]
 pub(crate) struct Moved<M> {
     pub(crate) before: (u128, u128),
     pub(crate) after: (u128, u128),
     pub(crate) marks: Option<Marks<M>>,
+    pub(crate) relabels: bool,
 }
 
 // The marks that an edit moves.
@@ -43,9 +45,11 @@ pub(crate) fn make<V: Row, E: Edit<V>>(alloc: Global, edit: &E, row: &mut V) -> 
     ensures marks { IfSome result.marks (λ marks. (mark : V.Mark)
         → times V.Mark.cmp mark (V.marks row.new) + times V.Mark.cmp mark marks.lost.items
         ≡ times V.Mark.cmp mark (V.marks row.old) + times V.Mark.cmp mark marks.gained.items) }
+    ensures labels { result.relabels ≡ false → V.labels row.new ≡ V.labels row.old }
     ensures orderly { V.IsOrderly row.new }
 {
     let before = row.weights();
+    let relabels = edit.relabels(row);
     let marks = marks_of(alloc, edit, row);
     edit.edit(row);
     row.orderly();
@@ -53,6 +57,7 @@ pub(crate) fn make<V: Row, E: Edit<V>>(alloc: Global, edit: &E, row: &mut V) -> 
         before,
         after: row.weights(),
         marks,
+        relabels,
     }
 }
 
@@ -82,10 +87,12 @@ pub(crate) fn try_make<V: Row, E: TryEdit<V>>(
     ensures marks { IfOk result (λ moved. IfSome moved.marks (λ marks. (mark : V.Mark)
         → times V.Mark.cmp mark (V.marks row.new) + times V.Mark.cmp mark marks.lost.items
         ≡ times V.Mark.cmp mark (V.marks row.old) + times V.Mark.cmp mark marks.gained.items)) }
+    ensures labels { IfOk result (λ moved. moved.relabels ≡ false → V.labels row.new ≡ V.labels row.old) }
     ensures orderly { OnOk result (V.IsOrderly row.new) }
     ensures err { OnErr result (row.new ≡ row.old) }
 {
     let before = row.weights();
+    let relabels = edit.relabels(row);
     let marks = try_marks_of(alloc, edit, row);
     match edit.try_edit(alloc, row) {
         Ok(()) => {
@@ -94,6 +101,7 @@ pub(crate) fn try_make<V: Row, E: TryEdit<V>>(
                 before,
                 after: row.weights(),
                 marks,
+                relabels,
             })
         }
         Err(want) => Err(want),

@@ -7,9 +7,10 @@ ghost use Rattle.std.specs.List.Sorted.{IsStrictlySortedBy};
 ghost use Rattle.std.specs.Map.{keys_of, lookup};
 ghost use Rattle.std.specs.declared.ops.Bound.TheVariants.{Included, Excluded};
 ghost use Rattle.ge_collections.specs.Asked.{bears, has_pair, is_between, pair_cmp, pairs_of};
-ghost use Rattle.ge_collections.specs.Kept.{Counts, times_at};
+ghost use Rattle.ge_collections.specs.Kept.{Counts, entries_of, times_at};
 
 use crate::gathering::ledger_of;
+use crate::keys::Keys;
 use crate::ledger::Ledger;
 use crate::row::Row;
 use crate::table::Table;
@@ -34,6 +35,27 @@ fn put_pairs<K: Ord + Twin + Drop, M: Twin + Drop>(
     Ok(())
 }
 
+// A mark with each of some keys, of one or of many, behind a list.
+#[tactic(auto, using(crate::proofs::Ones::one_rises))]
+fn put_pairs_of<K: Ord + Twin + Drop, M: Twin + Drop>(
+    alloc: Global,
+    list: &mut Vec<(M, K)>,
+    mark: &M,
+    keys: &Keys<K>,
+) -> Result<(), AllocError>
+    ensures pairs { OnOk result (list.new.items ≡ list.old.items ++ map
+        (λ key. (mark.now, key)) (keys_of (entries_of keys.now))) }
+    ensures rising { IsStrictlySortedBy K.cmp (keys_of (entries_of keys.now)) }
+{
+    match keys {
+        Keys::One(key, _count) => {
+            list.push(twins2(alloc, mark, key)?)?;
+            Ok(())
+        }
+        Keys::Many(counts) => put_pairs(alloc, list, mark, counts),
+    }
+}
+
 // The marks of a ledger in a range that runs forward, each with the keys that it notes there.
 fn pairs_in<K: Ord + Twin + Drop, M: Ord + Twin + Drop>(
     alloc: Global,
@@ -44,12 +66,12 @@ fn pairs_in<K: Ord + Twin + Drop, M: Ord + Twin + Drop>(
     requires { IsLeBy M.cmp low.now high.now }
     ensures pairs { IfOk result (λ list. list.items
         ≡ pairs_of (entries_between M.cmp (Included low.now) (Excluded high.now) ledger.now.bearers.entries)) }
-    ensures keys_rise { IfOk result (λ _. AllByRecursion (λ e. IsStrictlySortedBy K.cmp (keys_of e.1.entries)) (entries_between M.cmp (Included low.now) (Excluded high.now) ledger.now.bearers.entries)) }
+    ensures keys_rise { IfOk result (λ _. AllByRecursion (λ e. IsStrictlySortedBy K.cmp (keys_of (entries_of e.1))) (entries_between M.cmp (Included low.now) (Excluded high.now) ledger.now.bearers.entries)) }
     ensures rising { IsStrictlySortedBy M.cmp (keys_of ledger.now.bearers.entries) }
 {
     let mut list = Vec::new(alloc);
     for (mark, keys) in ledger.bearers.range(low..high) {
-        put_pairs(alloc, &mut list, mark, keys)?;
+        put_pairs_of(alloc, &mut list, mark, keys)?;
     }
     Ok(list)
 }

@@ -7,6 +7,14 @@ use std::alloc::{AllocError, Global};
 impl Row for () {
     type Mark = ();
 
+    type Facts = ();
+
+    type Label = ();
+
+    ghost short = { λ _. tt };
+
+    ghost labels = { λ _. (tt, tt, tt) };
+
     fn weights(&self) -> (u128, u128) {
         (0, 0)
     }
@@ -17,6 +25,16 @@ impl Row for () {
 
     fn marks(&self, alloc: Global) -> Result<Vec<()>, AllocError> {
         Ok(Vec::new(alloc))
+    }
+
+    fn keeps_short() -> bool {
+        false
+    }
+
+    fn short(&self) {}
+
+    fn labels(&self, _alloc: Global) -> Result<((), (), ()), AllocError> {
+        Ok(((), (), ()))
     }
 
     fn orderly(&self) {}
@@ -25,6 +43,14 @@ impl Row for () {
 impl Row for bool {
     type Mark = ();
 
+    type Facts = ();
+
+    type Label = ();
+
+    ghost short = { λ _. tt };
+
+    ghost labels = { λ _. (tt, tt, tt) };
+
     fn weights(&self) -> (u128, u128) {
         (0, 0)
     }
@@ -35,6 +61,16 @@ impl Row for bool {
 
     fn marks(&self, alloc: Global) -> Result<Vec<()>, AllocError> {
         Ok(Vec::new(alloc))
+    }
+
+    fn keeps_short() -> bool {
+        false
+    }
+
+    fn short(&self) {}
+
+    fn labels(&self, _alloc: Global) -> Result<((), (), ()), AllocError> {
+        Ok(((), (), ()))
     }
 
     fn orderly(&self) {}
@@ -43,6 +79,14 @@ impl Row for bool {
 impl Row for u8 {
     type Mark = ();
 
+    type Facts = ();
+
+    type Label = ();
+
+    ghost short = { λ _. tt };
+
+    ghost labels = { λ _. (tt, tt, tt) };
+
     fn weights(&self) -> (u128, u128) {
         (0, 0)
     }
@@ -53,6 +97,16 @@ impl Row for u8 {
 
     fn marks(&self, alloc: Global) -> Result<Vec<()>, AllocError> {
         Ok(Vec::new(alloc))
+    }
+
+    fn keeps_short() -> bool {
+        false
+    }
+
+    fn short(&self) {}
+
+    fn labels(&self, _alloc: Global) -> Result<((), (), ()), AllocError> {
+        Ok(((), (), ()))
     }
 
     fn orderly(&self) {}
@@ -61,6 +115,14 @@ impl Row for u8 {
 impl Row for u32 {
     type Mark = ();
 
+    type Facts = ();
+
+    type Label = ();
+
+    ghost short = { λ _. tt };
+
+    ghost labels = { λ _. (tt, tt, tt) };
+
     fn weights(&self) -> (u128, u128) {
         (0, 0)
     }
@@ -71,6 +133,16 @@ impl Row for u32 {
 
     fn marks(&self, alloc: Global) -> Result<Vec<()>, AllocError> {
         Ok(Vec::new(alloc))
+    }
+
+    fn keeps_short() -> bool {
+        false
+    }
+
+    fn short(&self) {}
+
+    fn labels(&self, _alloc: Global) -> Result<((), (), ()), AllocError> {
+        Ok(((), (), ()))
     }
 
     fn orderly(&self) {}
@@ -79,6 +151,14 @@ impl Row for u32 {
 impl Row for u64 {
     type Mark = ();
 
+    type Facts = ();
+
+    type Label = ();
+
+    ghost short = { λ _. tt };
+
+    ghost labels = { λ _. (tt, tt, tt) };
+
     fn weights(&self) -> (u128, u128) {
         (0, 0)
     }
@@ -89,6 +169,16 @@ impl Row for u64 {
 
     fn marks(&self, alloc: Global) -> Result<Vec<()>, AllocError> {
         Ok(Vec::new(alloc))
+    }
+
+    fn keeps_short() -> bool {
+        false
+    }
+
+    fn short(&self) {}
+
+    fn labels(&self, _alloc: Global) -> Result<((), (), ()), AllocError> {
+        Ok(((), (), ()))
     }
 
     fn orderly(&self) {}
@@ -97,6 +187,14 @@ impl Row for u64 {
 impl Row for u128 {
     type Mark = ();
 
+    type Facts = ();
+
+    type Label = ();
+
+    ghost short = { λ _. tt };
+
+    ghost labels = { λ _. (tt, tt, tt) };
+
     fn weights(&self) -> (u128, u128) {
         (0, 0)
     }
@@ -107,6 +205,16 @@ impl Row for u128 {
 
     fn marks(&self, alloc: Global) -> Result<Vec<()>, AllocError> {
         Ok(Vec::new(alloc))
+    }
+
+    fn keeps_short() -> bool {
+        false
+    }
+
+    fn short(&self) {}
+
+    fn labels(&self, _alloc: Global) -> Result<((), (), ()), AllocError> {
+        Ok(((), (), ()))
     }
 
     fn orderly(&self) {}
@@ -115,6 +223,14 @@ impl Row for u128 {
 impl Row for usize {
     type Mark = ();
 
+    type Facts = ();
+
+    type Label = ();
+
+    ghost short = { λ _. tt };
+
+    ghost labels = { λ _. (tt, tt, tt) };
+
     fn weights(&self) -> (u128, u128) {
         (0, 0)
     }
@@ -125,6 +241,16 @@ impl Row for usize {
 
     fn marks(&self, alloc: Global) -> Result<Vec<()>, AllocError> {
         Ok(Vec::new(alloc))
+    }
+
+    fn keeps_short() -> bool {
+        false
+    }
+
+    fn short(&self) {}
+
+    fn labels(&self, _alloc: Global) -> Result<((), (), ()), AllocError> {
+        Ok(((), (), ()))
     }
 
     fn orderly(&self) {}
@@ -133,6 +259,14 @@ impl Row for usize {
 impl Row for i32 {
     type Mark = ();
 
+    type Facts = ();
+
+    type Label = ();
+
+    ghost short = { λ _. tt };
+
+    ghost labels = { λ _. (tt, tt, tt) };
+
     fn weights(&self) -> (u128, u128) {
         (0, 0)
     }
@@ -143,6 +277,16 @@ impl Row for i32 {
 
     fn marks(&self, alloc: Global) -> Result<Vec<()>, AllocError> {
         Ok(Vec::new(alloc))
+    }
+
+    fn keeps_short() -> bool {
+        false
+    }
+
+    fn short(&self) {}
+
+    fn labels(&self, _alloc: Global) -> Result<((), (), ()), AllocError> {
+        Ok(((), (), ()))
     }
 
     fn orderly(&self) {}
@@ -151,6 +295,14 @@ impl Row for i32 {
 impl Row for Text {
     type Mark = ();
 
+    type Facts = ();
+
+    type Label = ();
+
+    ghost short = { λ _. tt };
+
+    ghost labels = { λ _. (tt, tt, tt) };
+
     fn weights(&self) -> (u128, u128) {
         (0, 0)
     }
@@ -161,6 +313,16 @@ impl Row for Text {
 
     fn marks(&self, alloc: Global) -> Result<Vec<()>, AllocError> {
         Ok(Vec::new(alloc))
+    }
+
+    fn keeps_short() -> bool {
+        false
+    }
+
+    fn short(&self) {}
+
+    fn labels(&self, _alloc: Global) -> Result<((), (), ()), AllocError> {
+        Ok(((), (), ()))
     }
 
     fn orderly(&self) {}
@@ -169,6 +331,14 @@ impl Row for Text {
 impl<T> Row for List<T> {
     type Mark = ();
 
+    type Facts = ();
+
+    type Label = ();
+
+    ghost short = { λ _. tt };
+
+    ghost labels = { λ _. (tt, tt, tt) };
+
     fn weights(&self) -> (u128, u128) {
         (0, 0)
     }
@@ -179,6 +349,16 @@ impl<T> Row for List<T> {
 
     fn marks(&self, alloc: Global) -> Result<Vec<()>, AllocError> {
         Ok(Vec::new(alloc))
+    }
+
+    fn keeps_short() -> bool {
+        false
+    }
+
+    fn short(&self) {}
+
+    fn labels(&self, _alloc: Global) -> Result<((), (), ()), AllocError> {
+        Ok(((), (), ()))
     }
 
     fn orderly(&self) {}

@@ -1,8 +1,9 @@
 // A map in the order of its keys, with an owner.
 ghost use Rattle.std.specs.Prelude.{All, cond, None, Some, ◌≡◌, ℕ, ◌+◌, ◌^◌, ◌<◌, ◌≤◌, [], ◌∷◌, ◌++◌, length, IfOk, OnOk, OnErr, IsTrue, ◌↔◌, IsSome, is_some, ◌&&◌};
 ghost use Rattle.std.specs.Option.{option_copied, option_map};
-ghost use Rattle.std.specs.Cmp.Lexicographic.{pointwise, lists_equiv, lists_per};
-ghost use Rattle.std.specs.Cmp.{on_equiv, and_equiv, on_per, and_per};
+ghost use Rattle.std.specs.Cmp.Lexicographic.{pointwise, slice_cmp, slice_partial_cmp, lists_equiv, lists_agrees, lists_total, lists_ties, lists_per, lists_po};
+ghost use Rattle.std.specs.Ordering.{ordering_then, partial_ordering_then};
+ghost use Rattle.std.specs.Cmp.{on_equiv, and_equiv, then_agrees, on_total, then_total, both_tied, on_per, and_per, on_po, then_po};
 ghost use Rattle.std.specs.List.Sorted.{IsStrictlySortedBy};
 ghost use Rattle.std.specs.Map.{lookup, remove_entry, keys_of, values_of};
 ghost use Rattle.std.specs.Map.Iter.{ShowsInOrder, ShowsValuesInOrder, ShowsInReverse, deref, deref_pair, GivesInOrder};
@@ -15,9 +16,11 @@ use crate::kept::{Kept, gain, lose, make_room, shift};
 use crate::ledger::Ledger;
 use crate::moved::{make, try_make};
 use crate::row::Row;
+use crate::short_rows::{ShortRows, change_short, drop_short, put_short, ready};
 use crate::sums::Sums;
 use crate::twin::Twin;
 use std::alloc::{AllocError, Global};
+use std::cmp::Ordering;
 use std::collections::BTreeMap;
 use std::collections::btree_map::{IntoIter, Iter, Keys, Range, Values};
 use std::fmt::{self, Debug, Formatter, Write};
@@ -26,30 +29,49 @@ use std::ops::RangeBounds;
 
 /// A map in the order of its keys. Contracts see the list of its pairs, whose keys strictly rise.
 ///
-/// Beside its rows it keeps the sums of their weights and a ledger of their marks, so that questions about these need no
-/// walk. Where there was no memory for the ledger once, or a sum didn't fit, the same questions walk the rows: no call
+/// Beside its rows it keeps the sums of their weights, a ledger of their marks, so that questions about these need no
+/// walk, and short rows, where the type of its rows has them. Where there was no memory for the ledger once, or a sum didn't fit, the same questions walk the rows: no call
 /// fails for it.
-#[derive(Drop)]
 pub struct Table<K: Ord, V: Row> {
     pub(crate) alloc: Global,
     pub(crate) rows: BTreeMap<K, V>,
     pub(crate) kept: Kept<K, V::Mark>,
+    pub(crate) shorts: Option<Box<ShortRows<K, V::Label, V::Facts>>>,
+}
+
+// Written out, so that letting a table go is one call where one is let go: its short rows, which it may not have, are
+// looked at here alone.
+impl<K: Ord + Drop, V: Row + Drop> Drop for Table<K, V> {
+    fn drop(self) {
+        let Table {
+            alloc: _,
+            rows: _,
+            kept: _,
+            shorts: _,
+        } = self;
+    }
 }
 
 impl<K: Ord, V: Row> Model for Table<K, V> {
-    ghost use Rattle.std.specs.Prelude.{List, All};
+    ghost use Rattle.std.specs.Prelude.{List, All, IfSome};
     ghost use Rattle.std.specs.BTreeMap.{is_at};
     ghost use Rattle.std.specs.Map.{lookup, values_of};
     ghost use Rattle.ge_collections.specs.Kept.{AreSums, Tells, times_at, weight_of};
+    ghost use Rattle.ge_collections.specs.Short.{AreShown};
 
     ghost Value = { List (K × V) };
 
     ghost view = { λ t. t.rows.entries };
 
     ghost invariant = { λ t.
-        AreSums t.kept.sums.whole t.kept.sums.first t.kept.sums.second (weight_of (λ row. (V.weights row).0) t.rows.entries) (weight_of (λ row. (V.weights row).1) t.rows.entries)
-        × Tells K.cmp V.Mark.cmp t.kept.ledger.whole t.kept.ledger.bearers.entries (λ mark key. times_at V.Mark.cmp V.marks mark (lookup (is_at (K.cmp key)) t.rows.entries))
-        × All V.IsOrderly (values_of t.rows.entries) };
+        AreSums t.kept.sums.whole t.kept.sums.first t.kept.sums.second
+        (weight_of (λ row. (V.weights row).0) t.rows.entries) (weight_of (λ row. (V.weights row).1) t.rows.entries)
+        × Tells K.cmp V.Mark.cmp t.kept.ledger.whole t.kept.ledger.bearers.entries
+        (λ mark key. times_at V.Mark.cmp V.marks mark (lookup (is_at (K.cmp key)) t.rows.entries))
+        × All V.IsOrderly (values_of t.rows.entries)
+        × IfSome t.shorts (λ b. AreShown K.cmp V.Label.cmp V.labels V.short
+        b.value.numbers.entries b.value.bound b.value.rows.entries
+        (λ q. lookup (is_at (K.cmp q)) t.rows.entries)) };
 }
 
 impl<K: Ord, V: Row> Table<K, V> {
@@ -71,6 +93,7 @@ impl<K: Ord, V: Row> Table<K, V> {
                     bearers: BTreeMap::new(alloc),
                 },
             },
+            shorts: None,
         }
     }
 
@@ -166,6 +189,8 @@ impl<K: Ord + Twin + Drop, V: Row> Table<K, V> {
         match self.rows.get_mut(key) {
             Some(row) => {
                 let moved = make(self.alloc, edit, row);
+                let shorts = self.shorts.take();
+                self.shorts = change_short(self.alloc, shorts, key, row, moved.relabels);
                 shift(self.alloc, &mut self.kept, key, moved);
                 true
             }
@@ -189,6 +214,8 @@ impl<K: Ord + Twin + Drop, V: Row> Table<K, V> {
         match self.rows.get_mut(key) {
             Some(row) => match try_make(alloc, edit, row) {
                 Ok(moved) => {
+                    let shorts = self.shorts.take();
+                    self.shorts = change_short(alloc, shorts, key, row, moved.relabels);
                     shift(alloc, &mut self.kept, key, moved);
                     Ok(true)
                 }
@@ -209,6 +236,8 @@ impl<K: Ord + Drop, V: Row> Table<K, V> {
         match self.rows.remove(key) {
             Some(row) => {
                 lose(self.alloc, &mut self.kept, key, &row);
+                let shorts = self.shorts.take();
+                self.shorts = drop_short::<K, V>(shorts, key);
                 Some(row)
             }
             None => None,
@@ -228,11 +257,16 @@ impl<K: Ord + Twin + Drop, V: Row + Drop> Table<K, V> {
         value.orderly();
         make_room(self.alloc, &mut self.kept, &self.rows, &key);
         gain(self.alloc, &mut self.kept, &key, &value);
+        let shorts = self.shorts.take();
+        let shorts = ready(self.alloc, shorts, &self.rows);
+        self.shorts = put_short(self.alloc, shorts, &key, &value);
         match self.rows.insert(key, value) {
             Ok(before) => Ok(before),
             Err(refused) => {
                 let (key, value) = refused.value;
                 lose(self.alloc, &mut self.kept, &key, &value);
+                let shorts = self.shorts.take();
+                self.shorts = drop_short::<K, V>(shorts, &key);
                 Err(AllocError)
             }
         }
@@ -251,6 +285,32 @@ impl<K: Ord, V: Row + PartialEq> PartialEq for Table<K, V> {
 
 impl<K: Ord, V: Row + Eq> Eq for Table<K, V> {
     ghost laws = { lists_equiv (and_equiv (on_equiv (λ p. p.0) K.Eq.laws) (on_equiv (λ p. p.1) V.Eq.laws)) };
+}
+
+impl<K: Ord, V: Row + PartialOrd> PartialOrd for Table<K, V> {
+    ghost partial_cmp = { slice_partial_cmp (λ p q. partial_ordering_then (K.partial_cmp p.0 q.0) (V.partial_cmp p.1 q.1)) };
+
+    ghost laws = { lists_po (then_po (on_po (λ p. p.0) K.PartialOrd.laws) (on_po (λ p. p.1) V.PartialOrd.laws)) };
+
+    fn partial_cmp(&self, other: &Table<K, V>) -> Option<Ordering> {
+        self.rows.partial_cmp(&other.rows)
+    }
+}
+
+impl<K: Ord, V: Row + Ord> Ord for Table<K, V> {
+    ghost cmp = { slice_cmp (λ p q. ordering_then (K.cmp p.0 q.0) (V.Ord.cmp p.1 q.1)) };
+
+    ghost total = { lists_total (then_total (on_total (λ p. p.0) K.total) (on_total (λ p. p.1) V.Ord.total)) };
+
+    ghost matches_partial_cmp = { lists_agrees (then_agrees (λ p q. K.matches_partial_cmp p.0 q.0) (λ p q. V.Ord.matches_partial_cmp p.1 q.1)) };
+
+    ghost matches_eq = { let K' = K.cmp in
+        let V' = V.Ord.cmp in
+        lists_ties (λ p q. ordering_then (K' p.0 q.0) (V' p.1 q.1)) (λ p q. both_tied _ _ (K' p.0 q.0) (V' p.1 q.1) (K.matches_eq p.0 q.0) (V.Ord.matches_eq p.1 q.1)) };
+
+    fn cmp(&self, other: &Table<K, V>) -> Ordering {
+        self.rows.cmp(&other.rows)
+    }
 }
 
 impl<K: Ord + Debug, V: Row + Debug> Debug for Table<K, V> {

@@ -1,8 +1,10 @@
 pub use Rattle.ge_collections.specs.Changed
 pub use Rattle.ge_collections.specs.Keyed
+pub mod JobShort
 pub mod Marks
 pub mod Opening
 pub mod OpeningComplexes
 pub mod Parts
+pub mod Sizes
 pub mod TaskSet
 pub mod Weights

@@ -1,11 +1,13 @@
 // What a table of jobs keeps of them, and what a job keeps of its running tasks.
 ghost use Rattle.std.specs.Prelude.{◌≡◌, ◌≤◌, ◌^◌, ◌++◌, [], ◌∷◌, IfOk, OnOk, map, flat_map};
 ghost use Rattle.ge_rows.specs.Marks.{mark_of, project_marks, advance_marks, run_marks, grant_marks, task_marks as marks_of_task, pe_marks, attribute_mark, own_marks};
-ghost use Rattle.ge_rows.specs.Weights.{span_size as specs_size, set_size as size_of_set, live_tasks as live_of};
+ghost use Rattle.ge_rows.specs.Weights.{live_tasks as live_of};
+ghost use Rattle.ge_rows.specs.JobShort.{job_facts as facts_of_job};
 ghost use Rattle.ge_collections.specs.Marked.{is_among};
 ghost use Rattle.std.specs.Map.{keys_of, values_of};
 
 use crate::jobs::{Grant, Job, PeRequest, Running};
+use crate::labels::{JobFacts, JobLabel, labels_of};
 use crate::marks::{JobMark, MarkSort};
 use crate::tasks::{TaskSet, TaskSpan};
 use crate::values::Value;
@@ -18,7 +20,15 @@ impl Row for Running {
     /// A serial.
     type Mark = u64;
 
+    type Facts = ();
+
+    type Label = ();
+
     ghost marks = { λ task. task.serial ∷ [] };
+
+    ghost short = { λ _. tt };
+
+    ghost labels = { λ _. (tt, tt, tt) };
 
     fn weights(&self) -> (u128, u128) {
         (0, 0)
@@ -32,6 +42,16 @@ impl Row for Running {
         let mut marks = Vec::new(alloc);
         marks.push(self.serial)?;
         Ok(marks)
+    }
+
+    fn keeps_short() -> bool {
+        false
+    }
+
+    fn short(&self) {}
+
+    fn labels(&self, _alloc: Global) -> Result<((), (), ()), AllocError> {
+        Ok(((), (), ()))
     }
 
     fn orderly(&self) {}
@@ -278,36 +298,29 @@ fn own_bear(job: &Job, mark: &JobMark) -> bool
         || asked_bear(&job.request.asked, mark)
 }
 
-// How many numbers a span has.
-fn span_size(span: &TaskSpan) -> u128
-    ensures size { result ≡ specs_size span.now }
-    ensures bound { result ≤ 2 ^ 32 }
-{
-    let steps = span
-        .last
-        .saturating_sub(span.first)
-        .checked_div(span.step)
-        .unwrap_or(0);
-    u128::from(steps) + 1
-}
-
-// How many numbers a set has.
-fn set_size(set: &TaskSet) -> u128
-    ensures size { result ≡ size_of_set set.now }
-    ensures bound { result ≤ 2 ^ 96 }
-{
-    let mut size = 0;
-    for span in set.spans() {
-        size += span_size(span);
-    }
-    size
-}
-
 // How many tasks of a job wait, are in error or run.
 fn live_tasks(job: &Job) -> u128
     ensures { result ≡ live_of job.now }
 {
-    set_size(&job.queued) + set_size(&job.broken) + job.running.len() as u128
+    job.queued.size() + job.broken.size() + job.running.len() as u128
+}
+
+// The facts of a job.
+fn facts_of(job: &Job) -> JobFacts
+    ensures { result ≡ facts_of_job job.now }
+{
+    JobFacts {
+        submitted: job.submitted,
+        not_before: job.not_before,
+        deadline: job.deadline,
+        share: job.share,
+        oticket: job.oticket,
+        priority: job.priority,
+        hold: job.hold,
+        waits: !job.queued.spans().is_empty(),
+        follows: !job.after.items().is_empty() || !job.after_each.items().is_empty(),
+        runs: !job.running.is_empty(),
+    }
 }
 
 impl Row for Job {
@@ -318,13 +331,23 @@ impl Row for Job {
     ghost use Rattle.ge_rows.specs.Marks.{job_marks};
     ghost use Rattle.ge_rows.specs.Weights.{live_tasks, script_bytes};
     ghost use Rattle.ge_rows.specs.TaskSet.{is_form};
+    ghost use Rattle.ge_rows.specs.JobShort.{job_facts, job_labels};
 
     /// What it names, and what its running tasks have.
     type Mark = JobMark;
 
+    type Facts = JobFacts;
+
+    /// Its owner, its project and its kind.
+    type Label = JobLabel;
+
     ghost weights = { λ job. (live_tasks job, script_bytes job) };
 
     ghost marks = { job_marks };
+
+    ghost short = { job_facts };
+
+    ghost labels = { job_labels };
 
     ghost IsOrderly = { λ job. (is_form job.queued ≡ true) × ((is_form job.broken ≡ true) × IsStrictlySortedBy nat_cmp (keys_of job.running)) };
 
@@ -341,6 +364,18 @@ impl Row for Job {
         push_own(alloc, &mut marks, self)?;
         push_tasks(alloc, &mut marks, &self.running)?;
         Ok(marks)
+    }
+
+    fn keeps_short() -> bool {
+        true
+    }
+
+    fn short(&self) -> JobFacts {
+        facts_of(self)
+    }
+
+    fn labels(&self, alloc: Global) -> Result<(JobLabel, JobLabel, JobLabel), AllocError> {
+        labels_of(alloc, self)
     }
 
     fn orderly(&self) {

@@ -4,7 +4,7 @@
 //! - `values`: values, their kinds, the rows of the complex table.
 //! - `hosts`, `queues`, `quotas`, `people`, `settings`: what `qconf` configures.
 //! - `tasks`, `jobs`, `accounts`: jobs, their tasks and sets of tasks, accounting lines.
-//! - `marks`, `job_rows`, `plain_rows`: what a table keeps of its rows beside them.
+//! - `marks`, `labels`, `job_rows`, `plain_rows`: what a table keeps of its rows beside them.
 //! - `cluster`: all of these together; `opening_rows`: the cluster before the first command.
 //! - `scheduling`: limits, bookings and the decisions of a run.
 //! - `entries`: what an accepted command changes.
@@ -23,6 +23,7 @@ mod events;
 mod hosts;
 mod job_rows;
 mod jobs;
+mod labels;
 mod marks;
 mod opening_complexes;
 mod opening_rows;
@@ -41,10 +42,13 @@ pub use cluster::Cluster;
 pub use commands::{Command, Listing, Options, Query};
 pub use entries::{Change, Entry, Item, Key, ObjectKind, Patch, Pick};
 pub use events::{Event, Form, Reply};
-pub use ge_collections::{Edit, List, Row, Table, Text, TryEdit, Twin, twins2, twins3, twins4};
+pub use ge_collections::{
+    Edit, List, Row, ShortRow, Shorts, Table, Text, TryEdit, Twin, twins2, twins3, twins4,
+};
 pub use hosts::{Groups, HostRow, InstanceId};
 pub use job_rows::task_marks;
 pub use jobs::{Advance, Grant, Job, PeRequest, Request, Running};
+pub use labels::{JobFacts, JobKind, JobLabel};
 pub use marks::{JobMark, MarkSort};
 pub use opening_rows::{default_queue, default_sched, opening};
 pub use people::{ProjectRow, ShareNode, UserRow};

@@ -11,6 +11,14 @@ use std::alloc::{AllocError, Global};
 impl Row for Advance {
     type Mark = ();
 
+    type Facts = ();
+
+    type Label = ();
+
+    ghost short = { λ _. tt };
+
+    ghost labels = { λ _. (tt, tt, tt) };
+
     fn weights(&self) -> (u128, u128) {
         (0, 0)
     }
@@ -21,6 +29,16 @@ impl Row for Advance {
 
     fn marks(&self, alloc: Global) -> Result<Vec<()>, AllocError> {
         Ok(Vec::new(alloc))
+    }
+
+    fn keeps_short() -> bool {
+        false
+    }
+
+    fn short(&self) {}
+
+    fn labels(&self, _alloc: Global) -> Result<((), (), ()), AllocError> {
+        Ok(((), (), ()))
     }
 
     fn orderly(&self) {}
@@ -29,6 +47,14 @@ impl Row for Advance {
 impl Row for ComplexDef {
     type Mark = ();
 
+    type Facts = ();
+
+    type Label = ();
+
+    ghost short = { λ _. tt };
+
+    ghost labels = { λ _. (tt, tt, tt) };
+
     fn weights(&self) -> (u128, u128) {
         (0, 0)
     }
@@ -39,6 +65,16 @@ impl Row for ComplexDef {
 
     fn marks(&self, alloc: Global) -> Result<Vec<()>, AllocError> {
         Ok(Vec::new(alloc))
+    }
+
+    fn keeps_short() -> bool {
+        false
+    }
+
+    fn short(&self) {}
+
+    fn labels(&self, _alloc: Global) -> Result<((), (), ()), AllocError> {
+        Ok(((), (), ()))
     }
 
     fn orderly(&self) {}
@@ -47,6 +83,14 @@ impl Row for ComplexDef {
 impl Row for HostRow {
     type Mark = ();
 
+    type Facts = ();
+
+    type Label = ();
+
+    ghost short = { λ _. tt };
+
+    ghost labels = { λ _. (tt, tt, tt) };
+
     fn weights(&self) -> (u128, u128) {
         (0, 0)
     }
@@ -57,6 +101,16 @@ impl Row for HostRow {
 
     fn marks(&self, alloc: Global) -> Result<Vec<()>, AllocError> {
         Ok(Vec::new(alloc))
+    }
+
+    fn keeps_short() -> bool {
+        false
+    }
+
+    fn short(&self) {}
+
+    fn labels(&self, _alloc: Global) -> Result<((), (), ()), AllocError> {
+        Ok(((), (), ()))
     }
 
     fn orderly(&self) {}
@@ -65,6 +119,14 @@ impl Row for HostRow {
 impl Row for PeRow {
     type Mark = ();
 
+    type Facts = ();
+
+    type Label = ();
+
+    ghost short = { λ _. tt };
+
+    ghost labels = { λ _. (tt, tt, tt) };
+
     fn weights(&self) -> (u128, u128) {
         (0, 0)
     }
@@ -75,6 +137,16 @@ impl Row for PeRow {
 
     fn marks(&self, alloc: Global) -> Result<Vec<()>, AllocError> {
         Ok(Vec::new(alloc))
+    }
+
+    fn keeps_short() -> bool {
+        false
+    }
+
+    fn short(&self) {}
+
+    fn labels(&self, _alloc: Global) -> Result<((), (), ()), AllocError> {
+        Ok(((), (), ()))
     }
 
     fn orderly(&self) {}
@@ -83,6 +155,14 @@ impl Row for PeRow {
 impl Row for ProjectRow {
     type Mark = ();
 
+    type Facts = ();
+
+    type Label = ();
+
+    ghost short = { λ _. tt };
+
+    ghost labels = { λ _. (tt, tt, tt) };
+
     fn weights(&self) -> (u128, u128) {
         (0, 0)
     }
@@ -93,6 +173,16 @@ impl Row for ProjectRow {
 
     fn marks(&self, alloc: Global) -> Result<Vec<()>, AllocError> {
         Ok(Vec::new(alloc))
+    }
+
+    fn keeps_short() -> bool {
+        false
+    }
+
+    fn short(&self) {}
+
+    fn labels(&self, _alloc: Global) -> Result<((), (), ()), AllocError> {
+        Ok(((), (), ()))
     }
 
     fn orderly(&self) {}
@@ -101,6 +191,14 @@ impl Row for ProjectRow {
 impl Row for QueueRow {
     type Mark = ();
 
+    type Facts = ();
+
+    type Label = ();
+
+    ghost short = { λ _. tt };
+
+    ghost labels = { λ _. (tt, tt, tt) };
+
     fn weights(&self) -> (u128, u128) {
         (0, 0)
     }
@@ -111,6 +209,16 @@ impl Row for QueueRow {
 
     fn marks(&self, alloc: Global) -> Result<Vec<()>, AllocError> {
         Ok(Vec::new(alloc))
+    }
+
+    fn keeps_short() -> bool {
+        false
+    }
+
+    fn short(&self) {}
+
+    fn labels(&self, _alloc: Global) -> Result<((), (), ()), AllocError> {
+        Ok(((), (), ()))
     }
 
     fn orderly(&self) {}
@@ -119,6 +227,14 @@ impl Row for QueueRow {
 impl Row for QuotaRow {
     type Mark = ();
 
+    type Facts = ();
+
+    type Label = ();
+
+    ghost short = { λ _. tt };
+
+    ghost labels = { λ _. (tt, tt, tt) };
+
     fn weights(&self) -> (u128, u128) {
         (0, 0)
     }
@@ -129,6 +245,16 @@ impl Row for QuotaRow {
 
     fn marks(&self, alloc: Global) -> Result<Vec<()>, AllocError> {
         Ok(Vec::new(alloc))
+    }
+
+    fn keeps_short() -> bool {
+        false
+    }
+
+    fn short(&self) {}
+
+    fn labels(&self, _alloc: Global) -> Result<((), (), ()), AllocError> {
+        Ok(((), (), ()))
     }
 
     fn orderly(&self) {}
@@ -137,6 +263,14 @@ impl Row for QuotaRow {
 impl Row for ShareNode {
     type Mark = ();
 
+    type Facts = ();
+
+    type Label = ();
+
+    ghost short = { λ _. tt };
+
+    ghost labels = { λ _. (tt, tt, tt) };
+
     fn weights(&self) -> (u128, u128) {
         (0, 0)
     }
@@ -147,6 +281,16 @@ impl Row for ShareNode {
 
     fn marks(&self, alloc: Global) -> Result<Vec<()>, AllocError> {
         Ok(Vec::new(alloc))
+    }
+
+    fn keeps_short() -> bool {
+        false
+    }
+
+    fn short(&self) {}
+
+    fn labels(&self, _alloc: Global) -> Result<((), (), ()), AllocError> {
+        Ok(((), (), ()))
     }
 
     fn orderly(&self) {}
@@ -155,6 +299,14 @@ impl Row for ShareNode {
 impl Row for UserRow {
     type Mark = ();
 
+    type Facts = ();
+
+    type Label = ();
+
+    ghost short = { λ _. tt };
+
+    ghost labels = { λ _. (tt, tt, tt) };
+
     fn weights(&self) -> (u128, u128) {
         (0, 0)
     }
@@ -165,6 +317,16 @@ impl Row for UserRow {
 
     fn marks(&self, alloc: Global) -> Result<Vec<()>, AllocError> {
         Ok(Vec::new(alloc))
+    }
+
+    fn keeps_short() -> bool {
+        false
+    }
+
+    fn short(&self) {}
+
+    fn labels(&self, _alloc: Global) -> Result<((), (), ()), AllocError> {
+        Ok(((), (), ()))
     }
 
     fn orderly(&self) {}
@@ -173,6 +335,14 @@ impl Row for UserRow {
 impl Row for Value {
     type Mark = ();
 
+    type Facts = ();
+
+    type Label = ();
+
+    ghost short = { λ _. tt };
+
+    ghost labels = { λ _. (tt, tt, tt) };
+
     fn weights(&self) -> (u128, u128) {
         (0, 0)
     }
@@ -183,6 +353,16 @@ impl Row for Value {
 
     fn marks(&self, alloc: Global) -> Result<Vec<()>, AllocError> {
         Ok(Vec::new(alloc))
+    }
+
+    fn keeps_short() -> bool {
+        false
+    }
+
+    fn short(&self) {}
+
+    fn labels(&self, _alloc: Global) -> Result<((), (), ()), AllocError> {
+        Ok(((), (), ()))
     }
 
     fn orderly(&self) {}
@@ -191,6 +371,14 @@ impl Row for Value {
 impl<T> Row for Attr<T> {
     type Mark = ();
 
+    type Facts = ();
+
+    type Label = ();
+
+    ghost short = { λ _. tt };
+
+    ghost labels = { λ _. (tt, tt, tt) };
+
     fn weights(&self) -> (u128, u128) {
         (0, 0)
     }
@@ -201,6 +389,16 @@ impl<T> Row for Attr<T> {
 
     fn marks(&self, alloc: Global) -> Result<Vec<()>, AllocError> {
         Ok(Vec::new(alloc))
+    }
+
+    fn keeps_short() -> bool {
+        false
+    }
+
+    fn short(&self) {}
+
+    fn labels(&self, _alloc: Global) -> Result<((), (), ()), AllocError> {
+        Ok(((), (), ()))
     }
 
     fn orderly(&self) {}

@@ -8,29 +8,29 @@ use Rattle.ge_model_text.specs.declared.Progress.{Progress}
 use Rattle.ge_model_text.specs.declared.Progress.TheVariants.{Start, Whole, Seconds, Part, Multiple, Letters}
 use Rattle.ge_model_text.specs.declared.ValueFault.TheVariants.{TooLarge}
 use Rattle.ge_model_text.specs.Value.{is_digit, IsInt, IsFixed, WithoutFraction, WithFraction, IsTime, InSeconds, ByTheClock, WithoutEnd, IsMemory, InBytes, InMultiples, WithoutLimit, IsWorth, number, millionths_from, factor, scaled}
-use Rattle.ge_model_text.specs.Reading.{cut, limit, step, if_occurs, done, answer, bounded, reading_from, multiple, occurs}
+use Rattle.ge_model_text.specs.Reading.{amount_cut, limit, step, if_occurs, amount_done, answer, bounded, reading_from, multiple, occurs}
 use Rattle.ge_text.proofs.NumberLemmas.{IsLetter, letters, cut-scaled}
 use Rattle.ge_text.proofs.ReadLemmas.{whole_scaled}
 use Rattle.ge_text.proofs.RunLemmas.{run, run-one, run-append, reading_from-append, run_start, run_clock, run_part, HasFractions}
 
 -- a number with or without a fraction is read
 record IsReadAs (after : Progress) (fixed : ℕ) : Type 0 where
-  as_fixed : done Fixed after ≡ Some (cut fixed)
-  as_memory : done Memory after ≡ Some (cut (scaled fixed 1))
-  by_letter : (b times : ℕ) → factor b ≡ Some times → IsLetter b times → step after b ≡ Some (Multiple (cut (scaled fixed times)))
+  as_fixed : amount_done Fixed after ≡ Some (amount_cut fixed)
+  as_memory : amount_done Memory after ≡ Some (amount_cut (scaled fixed 1))
+  by_letter : (b times : ℕ) → factor b ≡ Some times → IsLetter b times → step after b ≡ Some (Multiple (amount_cut (scaled fixed times)))
 
-letter_of : (whole millionths b times fixed : ℕ) → factor b ≡ Some times → cut (scaled (1000000 * whole + millionths) times) ≡ cut (scaled fixed times)
-    → multiple whole millionths b ≡ Some (Multiple (cut (scaled fixed times)))
+letter_of : (whole millionths b times fixed : ℕ) → factor b ≡ Some times → amount_cut (scaled (1000000 * whole + millionths) times) ≡ amount_cut (scaled fixed times)
+    → multiple whole millionths b ≡ Some (Multiple (amount_cut (scaled fixed times)))
 letter_of whole millionths b times fixed is same =
-    ap (λ o. option_map (λ t. Multiple (cut (scaled (1000000 * whole + millionths) t))) o) is ∙ ap (λ n. Some (Multiple n)) same
+    ap (λ o. option_map (λ t. Multiple (amount_cut (scaled (1000000 * whole + millionths) t))) o) is ∙ ap (λ n. Some (Multiple n)) same
 
-fixed_amount : (n : ℕ) → cut (1000000 * cut n) ≡ cut (1000000 * n)
+fixed_amount : (n : ℕ) → amount_cut (1000000 * amount_cut n) ≡ amount_cut (1000000 * n)
 fixed_amount n = omega arith
 
-memory_amount : (n : ℕ) → cut n ≡ cut (scaled (1000000 * n) 1)
+memory_amount : (n : ℕ) → amount_cut n ≡ amount_cut (scaled (1000000 * n) 1)
 memory_amount n = omega arith
 
-whole_is_read : (text : List ℕ) → IsReadAs (Whole (cut (number text))) (1000000 * number text)
+whole_is_read : (text : List ℕ) → IsReadAs (Whole (amount_cut (number text))) (1000000 * number text)
 whole_is_read text = record {
   as_fixed = ap (λ n. Some n) (fixed_amount (number text));
   as_memory = ap (λ n. Some n) (memory_amount (number text));
@@ -38,13 +38,13 @@ whole_is_read text = record {
       cond-false (is_digit b) _ _ letter.no_digit
       ∙ (cond-false (b == 58) _ _ letter.no_colon
       ∙ (cond-false (b == 46) _ _ letter.no_point
-      ∙ letter_of (cut (number text)) 0 b times (1000000 * number text) is (whole_scaled text (cut (number text)) times refl letter.grows)));
+      ∙ letter_of (amount_cut (number text)) 0 b times (1000000 * number text) is (whole_scaled text (amount_cut (number text)) times refl letter.grows)));
 }
 
-fraction_amount : (n m : ℕ) → cut (1000000 * cut n + m) ≡ cut (1000000 * n + m)
+fraction_amount : (n m : ℕ) → amount_cut (1000000 * amount_cut n + m) ≡ amount_cut (1000000 * n + m)
 fraction_amount n m = omega arith
 
-part_is_read : (whole part : List ℕ) → 0 < length part → IsReadAs (Part (cut (number whole)) (millionths_from 0 part) (length part)) (1000000 * number whole + millionths_from 0 part)
+part_is_read : (whole part : List ℕ) → 0 < length part → IsReadAs (Part (amount_cut (number whole)) (millionths_from 0 part) (length part)) (1000000 * number whole + millionths_from 0 part)
 part_is_read whole part some =
     let n : ℕ = number whole in
     let m : ℕ = millionths_from 0 part in
@@ -55,7 +55,7 @@ part_is_read whole part some =
       by_letter = λ b times is letter.
           cond-false (is_digit b) _ _ letter.no_digit
           ∙ (cond-false (length part == 0) _ _ counted
-          ∙ letter_of (cut n) m b times (1000000 * n + m) is (cut-scaled n m times letter.grows));
+          ∙ letter_of (amount_cut n) m b times (1000000 * n + m) is (cut-scaled n m times letter.grows));
     }
 
 same_end : (whole m n j k : ℕ) → m ≡ n → j ≡ k → Some (Part whole m j) ≡ Some (Part whole n k)
@@ -67,9 +67,9 @@ letter_is b times is = subst (λ (o : Option ℕ). IfSome o (IsLetter b)) is (le
 fixed_run : (form : Form) (text : List ℕ) (fixed : ℕ) → HasFractions form → IsFixed text fixed
     → (after : Progress) × (run form Start text ≡ Some after) × IsReadAs after fixed
 fixed_run form text fixed has (WithoutFraction digits value) =
-    (Whole (cut (number text)), run_start form text digits, rw value (whole_is_read text))
+    (Whole (amount_cut (number text)), run_start form text digits, rw value (whole_is_read text))
 fixed_run form text fixed has (WithFraction is) =
-    let n : ℕ = cut (number is.whole) in
+    let n : ℕ = amount_cut (number is.whole) in
     let some : 0 < length is.part = is.part_digits.some in
     let short : length is.part ≤ 6 = is.short in (
       Part n (millionths_from 0 is.part) (length is.part),
@@ -89,40 +89,40 @@ fixed_fractions whole millionths count = refl
 
 -- the machine reads the text to its amount
 abbrev Reads : Form → List ℕ → ℕ → Type 0
-Reads form text amount = (after : Progress) × (run form Start text ≡ Some after) × (done form after ≡ Some (cut amount))
+Reads form text amount = (after : Progress) × (run form Start text ≡ Some after) × (amount_done form after ≡ Some (amount_cut amount))
 
 reads_int : (text : List ℕ) (amount : ℕ) → IsInt text amount → Reads Int text amount
-reads_int text amount is = (Whole (cut (number text)), run_start Int text is.digits, ap (λ n. Some (cut n)) (sym is.value))
+reads_int text amount is = (Whole (amount_cut (number text)), run_start Int text is.digits, ap (λ n. Some (amount_cut n)) (sym is.value))
 
-clock_amount : (h m s : ℕ) → cut (3600 * cut h + 60 * cut m + cut s) ≡ cut (3600 * h + 60 * m + s)
+clock_amount : (h m s : ℕ) → amount_cut (3600 * amount_cut h + 60 * amount_cut m + amount_cut s) ≡ amount_cut (3600 * h + 60 * m + s)
 clock_amount h m s = omega arith
 
 reads_time : (text : List ℕ) (amount : ℕ) → IsTime text amount → Reads Time text amount
-reads_time text amount (InSeconds is) = (Whole (cut (number text)), run_start Time text is.digits, ap (λ n. Some (cut n)) (sym is.value))
+reads_time text amount (InSeconds is) = (Whole (amount_cut (number text)), run_start Time text is.digits, ap (λ n. Some (amount_cut n)) (sym is.value))
 reads_time text amount (ByTheClock is) = (
-  Seconds (cut (number is.hours)) (cut (number is.minutes)) (cut (number is.rest)),
+  Seconds (amount_cut (number is.hours)) (amount_cut (number is.minutes)) (amount_cut (number is.rest)),
   ap (λ bytes. run Time Start bytes) is.spelled ∙ run_clock is.hours is.minutes is.rest is.hours_digits is.minutes_digits is.rest_digits,
-  ap (λ n. Some n) (clock_amount (number is.hours) (number is.minutes) (number is.rest) ∙ ap cut (sym is.value)),
+  ap (λ n. Some n) (clock_amount (number is.hours) (number is.minutes) (number is.rest) ∙ ap amount_cut (sym is.value)),
 )
 reads_time text amount (WithoutEnd spelled value) =
-    (Letters 8, ap (λ bytes. run Time Start bytes) spelled, ap (λ n. Some (cut n)) (sym value))
+    (Letters 8, ap (λ bytes. run Time Start bytes) spelled, ap (λ n. Some (amount_cut n)) (sym value))
 
 reads_memory : (text : List ℕ) (amount : ℕ) → IsMemory text amount → Reads Memory text amount
 reads_memory text amount (InBytes fixed is value) =
     let ran = fixed_run Memory text fixed memory_fractions is in
-    (ran.0, ran.1, ran.2.as_memory ∙ ap (λ n. Some (cut n)) (sym value))
+    (ran.0, ran.1, ran.2.as_memory ∙ ap (λ n. Some (amount_cut n)) (sym value))
 reads_memory text amount (InMultiples is) =
     let ran = fixed_run Memory is.front is.millionths memory_fractions is.fixed in
     let letter = letter_is is.letter is.times is.multiplier in
-    let n : ℕ = cut (scaled is.millionths is.times) in (
+    let n : ℕ = amount_cut (scaled is.millionths is.times) in (
       Multiple n,
       ap (λ bytes. run Memory Start bytes) is.spelled
           ∙ (run-append Memory Start ran.0 is.front (is.letter ∷ []) ran.1
           ∙ run-one Memory ran.0 (Multiple n) is.letter [] (ap (λ o. if_occurs Memory o) (ran.2.by_letter is.letter is.times is.multiplier letter))),
-      ap (λ a. Some (cut a)) (sym is.value),
+      ap (λ a. Some (amount_cut a)) (sym is.value),
     )
 reads_memory text amount (WithoutLimit spelled value) =
-    (Letters 8, ap (λ bytes. run Memory Start bytes) spelled, ap (λ n. Some (cut n)) (sym value))
+    (Letters 8, ap (λ bytes. run Memory Start bytes) spelled, ap (λ n. Some (amount_cut n)) (sym value))
 
 reads_fixed : (text : List ℕ) (amount : ℕ) → IsFixed text amount → Reads Fixed text amount
 reads_fixed text amount is =
@@ -135,10 +135,10 @@ reads Time text amount is = reads_time text amount is
 reads Memory text amount is = reads_memory text amount is
 reads Fixed text amount is = reads_fixed text amount is
 
-bounded_by : (amount : ℕ) → (amount < limit) ⊎ (limit ≤ amount) → bounded (cut amount) ≡ bounded amount
-bounded_by amount (inl below) = let same : cut amount ≡ amount = omega arith in ap bounded same
+bounded_by : (amount : ℕ) → (amount < limit) ⊎ (limit ≤ amount) → bounded (amount_cut amount) ≡ bounded amount
+bounded_by amount (inl below) = let same : amount_cut amount ≡ amount = omega arith in ap bounded same
 bounded_by amount (inr above) =
-    cond-false (nat_lt (cut amount) limit) (Ok (cut amount)) (Err TooLarge) (le-ltb (cut amount) limit (omega arith))
+    cond-false (nat_lt (amount_cut amount) limit) (Ok (amount_cut amount)) (Err TooLarge) (le-ltb (amount_cut amount) limit (omega arith))
     ∙ sym (cond-false (nat_lt amount limit) (Ok amount) (Err TooLarge) (le-ltb amount limit above))
 
 -- what a text of the grammar is answered

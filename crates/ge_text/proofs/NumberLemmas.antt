@@ -2,8 +2,8 @@
 use Rattle.std.proofs.Common.{◌≡◌, ℕ, suc, zero, ◌+◌, ◌-◌, ◌*◌, ◌<◌, ◌≤◌, Bool, true, false, cond, ◌==◌, nat_le, List, [], ◌∷◌, ◌++◌, length, refl, ap, sym, subst, ◌∙◌, arith, Option, Some, None, IfSome, ◌⊎◌, inl, inr, lit≤}
 use Rattle.std.proofs.Math.Nat.{mul-le-mul, mul-le-mul_left}
 use Rattle.std.proofs.lemmas.Bool.{and_parts, and_from, leb-true, eqb-true, cases_lt}
-use Rattle.ge_model_text.specs.Value.{is_digit, AreDigits, number_after, unit_at, millionths_from, factor, scaled}
-use Rattle.ge_model_text.specs.Reading.{cut, limit, appended}
+use Rattle.ge_model_text.specs.Value.{is_digit, AreDigits, number_with_digits, unit_at, millionths_from, factor, scaled}
+use Rattle.ge_model_text.specs.Reading.{amount_cut, limit, appended}
 
 -- digits
 
@@ -22,11 +22,11 @@ digit_at_most b digit =
 
 -- numbers
 
-pub number_after-append : (n : ℕ) (text : List ℕ) (b : ℕ) → number_after n (text ++ b ∷ []) ≡ 10 * number_after n text + (b - 48)
+pub number_after-append : (n : ℕ) (text : List ℕ) (b : ℕ) → number_with_digits n (text ++ b ∷ []) ≡ 10 * number_with_digits n text + (b - 48)
 number_after-append n [] b = refl
 number_after-append n (c ∷ text) b = number_after-append (10 * n + (c - 48)) text b
 
-pub cut-appended : (n b : ℕ) → appended (cut n) b ≡ cut (10 * n + (b - 48))
+pub cut-appended : (n b : ℕ) → appended (amount_cut n) b ≡ amount_cut (10 * n + (b - 48))
 cut-appended n b = omega arith
 
 -- a number that is cut after each digit
@@ -34,7 +34,7 @@ abbrev pub cut_after : ℕ → List ℕ → ℕ
 cut_after n [] = n
 cut_after n (b ∷ digits) = cut_after (appended n b) digits
 
-pub cut_after-cut : (n : ℕ) (digits : List ℕ) → cut_after (cut n) digits ≡ cut (number_after n digits)
+pub cut_after-cut : (n : ℕ) (digits : List ℕ) → cut_after (amount_cut n) digits ≡ amount_cut (number_with_digits n digits)
 cut_after-cut n [] = refl
 cut_after-cut n (b ∷ digits) = ap (λ m. cut_after m digits) (cut-appended n b) ∙ cut_after-cut (10 * n + (b - 48)) digits
 
@@ -75,7 +75,7 @@ millionths_from-append place (c ∷ digits) b =
 
 -- one more digit behind a point isn't cut
 pub part_uncut : (millionths count b : ℕ) → millionths ≤ 900000 * count → count ≤ 6 → is_digit b ≡ true
-    → cut (millionths + (b - 48) * unit_at count) ≡ millionths + (b - 48) * unit_at count
+    → amount_cut (millionths + (b - 48) * unit_at count) ≡ millionths + (b - 48) * unit_at count
 part_uncut millionths count b low few digit =
     let here : (b - 48) * unit_at count ≤ 900000 = digit_counts b count digit in
     omega arith
@@ -113,12 +113,12 @@ scaled_grows millionths times grows large =
     let more : millionths * 1 ≤ millionths * times = mul-le-mul_left millionths grows in
     omega arith
 
-scaled_by : (n millionths times : ℕ) → 1 ≤ times → (n ≤ limit) ⊎ (limit ≤ n) → cut (scaled (1000000 * cut n + millionths) times) ≡ cut (scaled (1000000 * n + millionths) times)
+scaled_by : (n millionths times : ℕ) → 1 ≤ times → (n ≤ limit) ⊎ (limit ≤ n) → amount_cut (scaled (1000000 * amount_cut n + millionths) times) ≡ amount_cut (scaled (1000000 * n + millionths) times)
 scaled_by n millionths times grows (inl small) =
-    let same : cut n ≡ n = omega arith in
-    ap (λ m. cut (scaled (1000000 * m + millionths) times)) same
+    let same : amount_cut n ≡ n = omega arith in
+    ap (λ m. amount_cut (scaled (1000000 * m + millionths) times)) same
 scaled_by n millionths times grows (inr large) =
-    let before : limit ≤ scaled (1000000 * cut n + millionths) times = scaled_grows (1000000 * cut n + millionths) times grows (omega arith) in
+    let before : limit ≤ scaled (1000000 * amount_cut n + millionths) times = scaled_grows (1000000 * amount_cut n + millionths) times grows (omega arith) in
     let after : limit ≤ scaled (1000000 * n + millionths) times = scaled_grows (1000000 * n + millionths) times grows (omega arith) in
     omega arith
 
@@ -126,5 +126,5 @@ within_or_past : (n : ℕ) → (n < limit) ⊎ (limit ≤ n) → (n ≤ limit) �
 within_or_past n (inl below) = inl (omega arith)
 within_or_past n (inr above) = inr above
 
-pub cut-scaled : (n millionths times : ℕ) → 1 ≤ times → cut (scaled (1000000 * cut n + millionths) times) ≡ cut (scaled (1000000 * n + millionths) times)
+pub cut-scaled : (n millionths times : ℕ) → 1 ≤ times → amount_cut (scaled (1000000 * amount_cut n + millionths) times) ≡ amount_cut (scaled (1000000 * n + millionths) times)
 cut-scaled n millionths times grows = scaled_by n millionths times grows (within_or_past n (cases_lt n limit))

@@ -5,8 +5,8 @@ use Rattle.std.proofs.Math.Seq.{take-suc}
 use Rattle.std.proofs.lemmas.Bool.{and_parts, eqb-true, ltb-true}
 use Rattle.ge_model_text.specs.declared.Progress.{Progress}
 use Rattle.ge_model_text.specs.declared.Progress.TheVariants.{Start, Whole, Minutes, Seconds, Part, Multiple, Letters}
-use Rattle.ge_model_text.specs.Value.{is_digit, AreDigits, IsNumber, IsFixed, WithoutFraction, WithFraction, IsMultiple, number, unit_at, millionths_from, factor, scaled, infinity}
-use Rattle.ge_model_text.specs.Reading.{cut, appended, multiple, step}
+use Rattle.ge_model_text.specs.Value.{is_digit, AreDigits, IsNumber, IsFixed, WithoutFraction, WithFraction, IsMultiple, number, unit_at, millionths_from, factor, scaled, infinity_word}
+use Rattle.ge_model_text.specs.Reading.{amount_cut, appended, multiple, step}
 use Rattle.ge_text.proofs.NumberLemmas.{AreDigits-append, number_after-append, cut-appended, millionths_from-append, part_at_most, part_uncut, IsLetter, letters, cut-scaled}
 
 -- hours, a colon and the digits of the minutes so far
@@ -16,8 +16,8 @@ pub record HasMinutes (front : List ℕ) (hours minutes : ℕ) : Type 0 where
   pub spelled : front ≡ first ++ 58 ∷ second
   pub first_digits : AreDigits first
   pub second_digits : AreDigits second
-  pub first_value : hours ≡ cut (number first)
-  pub second_value : minutes ≡ cut (number second)
+  pub first_value : hours ≡ amount_cut (number first)
+  pub second_value : minutes ≡ amount_cut (number second)
 
 -- hours, minutes, two colons and the digits of the seconds so far
 pub record HasSeconds (front : List ℕ) (hours minutes seconds : ℕ) : Type 0 where
@@ -28,9 +28,9 @@ pub record HasSeconds (front : List ℕ) (hours minutes seconds : ℕ) : Type 0 
   pub first_digits : AreDigits first
   pub second_digits : AreDigits second
   pub third_digits : AreDigits third
-  pub first_value : hours ≡ cut (number first)
-  pub second_value : minutes ≡ cut (number second)
-  pub third_value : seconds ≡ cut (number third)
+  pub first_value : hours ≡ amount_cut (number first)
+  pub second_value : minutes ≡ amount_cut (number second)
+  pub third_value : seconds ≡ amount_cut (number third)
 
 -- a whole number, a point and the digits behind it so far
 pub record HasPart (front : List ℕ) (whole millionths count : ℕ) : Type 0 where
@@ -41,20 +41,20 @@ pub record HasPart (front : List ℕ) (whole millionths count : ℕ) : Type 0 wh
   pub part_digits : AreDigits part
   pub counted : count ≡ length part
   pub short : count ≤ 6
-  pub first_value : whole ≡ cut (number first)
+  pub first_value : whole ≡ amount_cut (number first)
   pub part_value : millionths ≡ millionths_from 0 part
 
 pub record HasWhole (front : List ℕ) (n : ℕ) : Type 0 where
   pub digits : IsNumber front
-  pub value : n ≡ cut (number front)
+  pub value : n ≡ amount_cut (number front)
 
 pub record HasMultiple (front : List ℕ) (n : ℕ) : Type 0 where
   pub bytes : ℕ
   pub spelled : IsMultiple front bytes
-  pub value : n ≡ cut bytes
+  pub value : n ≡ amount_cut bytes
 
 pub record HasLetters (front : List ℕ) (count : ℕ) : Type 0 where
-  pub spelled : front ≡ take count infinity
+  pub spelled : front ≡ take count infinity_word
   pub short : count ≤ 8
 
 -- the bytes that lead to where the machine is
@@ -77,14 +77,14 @@ at_byte P b code holds same = subst P (sym (eqb-true b code same)) holds
 
 -- more digits
 
-more_digits : (text : List ℕ) (b n : ℕ) → AreDigits text → n ≡ cut (number text) → is_digit b ≡ true → HasWhole (text ++ b ∷ []) (appended n b)
+more_digits : (text : List ℕ) (b n : ℕ) → AreDigits text → n ≡ amount_cut (number text) → is_digit b ≡ true → HasWhole (text ++ b ∷ []) (appended n b)
 more_digits text b n digits value digit = record {
   digits = record { digits = AreDigits-append text b digits digit; some = omega (arith, length-append text (b ∷ [])) };
-  value = ap (λ m. appended m b) value ∙ (cut-appended (number text) b ∙ ap cut (sym (number_after-append 0 text b)));
+  value = ap (λ m. appended m b) value ∙ (cut-appended (number text) b ∙ ap amount_cut (sym (number_after-append 0 text b)));
 }
 
-more_value : (text : List ℕ) (b n : ℕ) → n ≡ cut (number text) → appended n b ≡ cut (number (text ++ b ∷ []))
-more_value text b n value = ap (λ m. appended m b) value ∙ (cut-appended (number text) b ∙ ap cut (sym (number_after-append 0 text b)))
+more_value : (text : List ℕ) (b n : ℕ) → n ≡ amount_cut (number text) → appended n b ≡ amount_cut (number (text ++ b ∷ []))
+more_value text b n value = ap (λ m. appended m b) value ∙ (cut-appended (number text) b ∙ ap amount_cut (sym (number_after-append 0 text b)))
 
 behind : (first : List ℕ) (colon : ℕ) (second : List ℕ) (front : List ℕ) (b : ℕ) → front ≡ first ++ colon ∷ second → front ++ b ∷ [] ≡ first ++ colon ∷ (second ++ b ∷ [])
 behind first colon second front b spelled = rw spelled (append_assoc first (colon ∷ second) (b ∷ []))
@@ -102,7 +102,7 @@ from_start b =
 
 -- after a number, a letter
 letter_read : (front : List ℕ) (fixed n b times : ℕ) → IsFixed front fixed → factor b ≡ Some times
-    → n ≡ cut (scaled fixed times) → HasMultiple (front ++ b ∷ []) n
+    → n ≡ amount_cut (scaled fixed times) → HasMultiple (front ++ b ∷ []) n
 letter_read front fixed n b times is multiplier value = record {
   bytes = scaled fixed times;
   spelled = record { front = front; letter = b; millionths = fixed; times = times; spelled = refl; fixed = is; multiplier = multiplier; value = refl };
@@ -110,16 +110,16 @@ letter_read front fixed n b times is multiplier value = record {
 }
 
 by_letter : (front : List ℕ) (fixed whole millionths b : ℕ) (o : Option ℕ) → IsFixed front fixed → factor b ≡ o → IfSome o (IsLetter b)
-    → ((times : ℕ) → 1 ≤ times → cut (scaled (1000000 * whole + millionths) times) ≡ cut (scaled fixed times))
-    → IfSome (option_map (λ times. Multiple (cut (scaled (1000000 * whole + millionths) times))) o) (λ after. HasRead after (front ++ b ∷ []))
+    → ((times : ℕ) → 1 ≤ times → amount_cut (scaled (1000000 * whole + millionths) times) ≡ amount_cut (scaled fixed times))
+    → IfSome (option_map (λ times. Multiple (amount_cut (scaled (1000000 * whole + millionths) times))) o) (λ after. HasRead after (front ++ b ∷ []))
 by_letter front fixed whole millionths b None is multiplier letter same = tt
 by_letter front fixed whole millionths b (Some times) is multiplier letter same =
-    letter_read front fixed (cut (scaled (1000000 * whole + millionths) times)) b times is multiplier (same times letter.grows)
+    letter_read front fixed (amount_cut (scaled (1000000 * whole + millionths) times)) b times is multiplier (same times letter.grows)
 
-pub whole_scaled : (front : List ℕ) (n times : ℕ) → n ≡ cut (number front) → 1 ≤ times → cut (scaled (1000000 * n + 0) times) ≡ cut (scaled (1000000 * number front) times)
+pub whole_scaled : (front : List ℕ) (n times : ℕ) → n ≡ amount_cut (number front) → 1 ≤ times → amount_cut (scaled (1000000 * n + 0) times) ≡ amount_cut (scaled (1000000 * number front) times)
 whole_scaled front n times value grows =
     let plain : 1000000 * number front + 0 ≡ 1000000 * number front = omega arith in
-    ap (λ m. cut (scaled (1000000 * m + 0) times)) value ∙ (cut-scaled (number front) 0 times grows ∙ ap (λ m. cut (scaled m times)) plain)
+    ap (λ m. amount_cut (scaled (1000000 * m + 0) times)) value ∙ (cut-scaled (number front) 0 times grows ∙ ap (λ m. amount_cut (scaled m times)) plain)
 
 from_whole : (front : List ℕ) (n b : ℕ) → HasWhole front n → IfSome (step (Whole n) b) (λ after. HasRead after (front ++ b ∷ []))
 from_whole front n b has =
@@ -182,7 +182,7 @@ part_small front whole millionths count has =
     rw (has.part_value, has.counted) most
 
 part_digit : (front : List ℕ) (whole millionths count b : ℕ) → HasPart front whole millionths count → is_digit b ≡ true → count < 6
-    → HasPart (front ++ b ∷ []) whole (cut (millionths + (b - 48) * unit_at count)) (count + 1)
+    → HasPart (front ++ b ∷ []) whole (amount_cut (millionths + (b - 48) * unit_at count)) (count + 1)
 part_digit front whole millionths count b has digit few = record {
   first = has.first;
   part = has.part ++ b ∷ [];
@@ -206,11 +206,11 @@ not_zero (suc count) some = omega arith
 
 -- a fraction that has a digit
 pub part_fixed : (front : List ℕ) (whole millionths count : ℕ) → HasPart front whole millionths count → (count == 0) ≡ false
-    → (fixed : ℕ) × IsFixed front fixed × ((times : ℕ) → 1 ≤ times → cut (scaled (1000000 * whole + millionths) times) ≡ cut (scaled fixed times)) × (cut (1000000 * whole + millionths) ≡ cut fixed)
+    → (fixed : ℕ) × IsFixed front fixed × ((times : ℕ) → 1 ≤ times → amount_cut (scaled (1000000 * whole + millionths) times) ≡ amount_cut (scaled fixed times)) × (amount_cut (1000000 * whole + millionths) ≡ amount_cut fixed)
 part_fixed front whole millionths count has some =
     let counted : count ≡ length has.part = has.counted in
     let part_value : millionths ≡ millionths_from 0 has.part = has.part_value in
-    let first_value : whole ≡ cut (number has.first) = has.first_value in
+    let first_value : whole ≡ amount_cut (number has.first) = has.first_value in
     let more : 0 < length has.part = subst (λ (n : ℕ). 0 < n) counted (not_zero count some) in (
       1000000 * number has.first + millionths_from 0 has.part,
       WithFraction (record {
@@ -222,15 +222,15 @@ part_fixed front whole millionths count has some =
         short = subst (λ (n : ℕ). n ≤ 6) counted has.short;
         value = refl;
       }),
-      (λ times grows. ap (λ m. cut (scaled (1000000 * whole + m) times)) part_value
-          ∙ (ap (λ w. cut (scaled (1000000 * w + millionths_from 0 has.part) times)) first_value
+      (λ times grows. ap (λ m. amount_cut (scaled (1000000 * whole + m) times)) part_value
+          ∙ (ap (λ w. amount_cut (scaled (1000000 * w + millionths_from 0 has.part) times)) first_value
           ∙ cut-scaled (number has.first) (millionths_from 0 has.part) times grows)),
       omega arith,
     )
 
 from_part : (front : List ℕ) (whole millionths count b : ℕ) (digit few none : Bool) → is_digit b ≡ digit → nat_lt count 6 ≡ few → (count == 0) ≡ none
     → HasPart front whole millionths count
-    → IfSome (cond digit (cond few (Some (Part whole (cut (millionths + (b - 48) * unit_at count)) (count + 1))) None) (cond none None (multiple whole millionths b))) (λ after. HasRead after (front ++ b ∷ []))
+    → IfSome (cond digit (cond few (Some (Part whole (amount_cut (millionths + (b - 48) * unit_at count)) (count + 1))) None) (cond none None (multiple whole millionths b))) (λ after. HasRead after (front ++ b ∷ []))
 from_part front whole millionths count b true true none digit few some has = part_digit front whole millionths count b has digit (ltb-true count 6 few)
 from_part front whole millionths count b true false none digit few some has = tt
 from_part front whole millionths count b false few true digit few_is some has = tt
@@ -238,16 +238,16 @@ from_part front whole millionths count b false few false digit few_is some has =
     let fixed = part_fixed front whole millionths count has some in
     by_letter front fixed.0 whole millionths b (factor b) fixed.1 refl (letters b) fixed.2
 
-from_letters : (front : List ℕ) (count b : ℕ) (goes_on : Bool) → (nat_lt count 8 && (b == get_or infinity count 0)) ≡ goes_on → HasLetters front count
+from_letters : (front : List ℕ) (count b : ℕ) (goes_on : Bool) → (nat_lt count 8 && (b == get_or infinity_word count 0)) ≡ goes_on → HasLetters front count
     → IfSome (cond goes_on (Some (Letters (count + 1))) None) (λ after. HasRead after (front ++ b ∷ []))
 from_letters front count b false is has = tt
 from_letters front count b true is has =
-    let parts = and_parts (nat_lt count 8) (b == get_or infinity count 0) is in
+    let parts = and_parts (nat_lt count 8) (b == get_or infinity_word count 0) is in
     let short : count < 8 = ltb-true count 8 parts.0 in
-    let letter : b ≡ get_or infinity count 0 = eqb-true b (get_or infinity count 0) parts.1 in
-    let spelled : front ≡ take count infinity = has.spelled in
+    let letter : b ≡ get_or infinity_word count 0 = eqb-true b (get_or infinity_word count 0) parts.1 in
+    let spelled : front ≡ take count infinity_word = has.spelled in
     record {
-      spelled = rw (spelled, letter, add-one) (sym (take-suc infinity count 0 short));
+      spelled = rw (spelled, letter, add-one) (sym (take-suc infinity_word count 0 short));
       short = omega arith;
     }
 
@@ -259,4 +259,4 @@ reads_on (Minutes hours minutes) front b has = from_minutes front hours minutes 
 reads_on (Seconds hours minutes seconds) front b has = from_seconds front hours minutes seconds b has
 reads_on (Part whole millionths count) front b has = from_part front whole millionths count b (is_digit b) (nat_lt count 6) (count == 0) refl refl refl has
 reads_on (Multiple n) front b has = tt
-reads_on (Letters count) front b has = from_letters front count b (nat_lt count 8 && (b == get_or infinity count 0)) refl has
+reads_on (Letters count) front b has = from_letters front count b (nat_lt count 8 && (b == get_or infinity_word count 0)) refl has

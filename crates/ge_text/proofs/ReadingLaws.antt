@@ -9,7 +9,7 @@ use Rattle.ge_model_text.specs.declared.Progress.TheVariants.{Start}
 use Rattle.ge_model_text.specs.declared.ValueFault.{ValueFault}
 use Rattle.ge_model_text.specs.declared.ValueFault.TheVariants.{Empty, Digit, TooLarge}
 use Rattle.ge_model_text.specs.Value.{IsWorth}
-use Rattle.ge_model_text.specs.Reading.{cut, limit, step, next, if_occurs, occurs, done, answer, bounded, reading, reading_from, Begins, EndsFront, Answers}
+use Rattle.ge_model_text.specs.Reading.{amount_cut, limit, step, next, if_occurs, occurs, amount_done, answer, bounded, reading, reading_from, Begins, EndsFront, Answers}
 use Rattle.ge_text.proofs.ReadLemmas.{HasRead, reads_on}
 use Rattle.ge_text.proofs.WorthLemmas.{Worth, done_is_worth, read_begins}
 use Rattle.ge_text.proofs.RunLemmas.{run, run-one, run-append, reading_from-append}
@@ -38,12 +38,12 @@ next_reads form progress after front b has is =
 
 worth_by : (form : Form) (text : List ℕ) (value : ℕ) → Worth form text value → (value < limit) ⊎ (limit ≤ value) → Answers form text (bounded value)
 worth_by form text value worth (inl below) =
-    let value_is : value ≡ cut worth.0 = worth.2 in
+    let value_is : value ≡ amount_cut worth.0 = worth.2 in
     let same : worth.0 ≡ value = omega arith in
     subst (λ (r : Result ℕ ValueFault). Answers form text r) (sym (cond-true (nat_lt value limit) (Ok value) (Err TooLarge) (lt-ltb value limit below)))
     (subst (λ (n : ℕ). IsWorth form text n) same worth.1, below)
 worth_by form text value worth (inr above) =
-    let value_is : value ≡ cut worth.0 = worth.2 in
+    let value_is : value ≡ amount_cut worth.0 = worth.2 in
     let large : limit ≤ worth.0 = omega arith in
     subst (λ (r : Result ℕ ValueFault). Answers form text r) (sym (cond-false (nat_lt value limit) (Ok value) (Err TooLarge) (le-ltb value limit above)))
     (worth.0, worth.1, large)
@@ -105,11 +105,11 @@ sound : (form : Form) (progress : Progress) (front rest : List ℕ) (place : ℕ
     → run form Start front ≡ Some progress → place ≡ length front → 0 < length (front ++ rest) → Answers form (front ++ rest) (reading_from form progress place rest)
 sound form progress front [] place has there ran where_ some =
     let here : place ≡ 0 + length front = omega arith in
-    let read : reading_from form Start 0 front ≡ answer place (done form progress) =
+    let read : reading_from form Start 0 front ≡ answer place (amount_done form progress) =
     ap (λ bytes. reading_from form Start 0 bytes) (sym (append-nil front))
-    ∙ (reading_from-append form Start progress 0 front [] ran ∙ ap (λ n. answer n (done form progress)) (sym here)) in
-    subst (λ (bytes : List ℕ). Answers form bytes (answer place (done form progress))) (sym (append-nil front))
-    (at_end form progress front place (done form progress) has there read where_ (subst (λ (bytes : List ℕ). 0 < length bytes) (append-nil front) some)
+    ∙ (reading_from-append form Start progress 0 front [] ran ∙ ap (λ n. answer n (amount_done form progress)) (sym here)) in
+    subst (λ (bytes : List ℕ). Answers form bytes (answer place (amount_done form progress))) (sym (append-nil front))
+    (at_end form progress front place (amount_done form progress) has there read where_ (subst (λ (bytes : List ℕ). 0 < length bytes) (append-nil front) some)
     (done_is_worth form progress front has there))
 sound form progress front (b ∷ rest) place has there ran where_ some =
     at_next form progress front b rest place (next form progress b) has there ran refl where_

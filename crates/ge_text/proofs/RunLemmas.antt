@@ -7,7 +7,7 @@ use Rattle.ge_model_text.specs.declared.Progress.{Progress}
 use Rattle.ge_model_text.specs.declared.Progress.TheVariants.{Start, Whole, Minutes, Seconds, Part}
 use Rattle.ge_model_text.specs.declared.ValueFault.TheVariants.{Digit}
 use Rattle.ge_model_text.specs.Value.{is_digit, AreDigits, IsNumber, number, unit_at, millionths_from}
-use Rattle.ge_model_text.specs.Reading.{cut, appended, next, if_occurs, reading_from, occurs}
+use Rattle.ge_model_text.specs.Reading.{amount_cut, appended, next, if_occurs, reading_from, occurs}
 use Rattle.ge_text.proofs.NumberLemmas.{cut_after, cut_after-cut, part_uncut, digit_counts}
 
 -- where the machine is after these bytes
@@ -87,7 +87,7 @@ run_seconds hours minutes n (b ∷ rest) are =
     let parts = and_parts (is_digit b) _ are in
     run-one Time (Seconds hours minutes n) (Seconds hours minutes (appended n b)) b rest (seconds_digit hours minutes n b parts.0) ∙ run_seconds hours minutes (appended n b) rest parts.1
 
-pub run_start : (form : Form) (digits : List ℕ) → IsNumber digits → run form Start digits ≡ Some (Whole (cut (number digits)))
+pub run_start : (form : Form) (digits : List ℕ) → IsNumber digits → run form Start digits ≡ Some (Whole (amount_cut (number digits)))
 run_start form [] is = absurd (let some : 0 < 0 = is.some in omega arith)
 run_start form (b ∷ rest) is =
     let parts = and_parts (is_digit b) _ is.digits in
@@ -96,17 +96,17 @@ run_start form (b ∷ rest) is =
 
 -- a clock
 
-run_hours : (hours rest : List ℕ) → AreDigits hours → run Time Start (hours ++ 58 ∷ rest) ≡ run Time (Minutes (cut (number hours)) 0) rest
+run_hours : (hours rest : List ℕ) → AreDigits hours → run Time Start (hours ++ 58 ∷ rest) ≡ run Time (Minutes (amount_cut (number hours)) 0) rest
 run_hours [] rest are = run-one Time Start (Minutes 0 0) 58 rest refl
 run_hours (b ∷ more) rest are =
-    run-append Time Start (Whole (cut (number (b ∷ more)))) (b ∷ more) (58 ∷ rest) (run_start Time (b ∷ more) (record { digits = are; some = omega arith }))
-    ∙ run-one Time (Whole (cut (number (b ∷ more)))) (Minutes (cut (number (b ∷ more))) 0) 58 rest refl
+    run-append Time Start (Whole (amount_cut (number (b ∷ more)))) (b ∷ more) (58 ∷ rest) (run_start Time (b ∷ more) (record { digits = are; some = omega arith }))
+    ∙ run-one Time (Whole (amount_cut (number (b ∷ more)))) (Minutes (amount_cut (number (b ∷ more))) 0) 58 rest refl
 
 pub run_clock : (hours minutes rest : List ℕ) → AreDigits hours → AreDigits minutes → AreDigits rest
-    → run Time Start (hours ++ 58 ∷ (minutes ++ 58 ∷ rest)) ≡ Some (Seconds (cut (number hours)) (cut (number minutes)) (cut (number rest)))
+    → run Time Start (hours ++ 58 ∷ (minutes ++ 58 ∷ rest)) ≡ Some (Seconds (amount_cut (number hours)) (amount_cut (number minutes)) (amount_cut (number rest)))
 run_clock hours minutes rest first second third =
-    let h : ℕ = cut (number hours) in
-    let m : ℕ = cut (number minutes) in
+    let h : ℕ = amount_cut (number hours) in
+    let m : ℕ = amount_cut (number minutes) in
     run_hours hours (minutes ++ 58 ∷ rest) first
     ∙ (run-append Time (Minutes h 0) (Minutes h m) minutes (58 ∷ rest) (run_minutes h 0 minutes second ∙ ap (λ n. Some (Minutes h n)) (cut_after-cut 0 minutes))
     ∙ (run-one Time (Minutes h m) (Seconds h m 0) 58 rest refl
@@ -121,7 +121,7 @@ HasFractions form = (whole millionths count : ℕ) → occurs (Part whole millio
 part_digit : (form : Form) (whole millionths count b : ℕ) → HasFractions form → is_digit b ≡ true → millionths ≤ 900000 * count → count < 6
     → next form (Part whole millionths count) b ≡ Some (Part whole (millionths + (b - 48) * unit_at count) (count + 1))
 part_digit form whole millionths count b has digit low few =
-    let after : ℕ = cut (millionths + (b - 48) * unit_at count) in
+    let after : ℕ = amount_cut (millionths + (b - 48) * unit_at count) in
     ap (λ o. if_occurs form o) (cond-true (is_digit b) _ _ digit ∙ cond-true (nat_lt count 6) (Some (Part whole after (count + 1))) None (lt-ltb count 6 few))
     ∙ (cond-true (occurs (Part whole after (count + 1)) form) (Some (Part whole after (count + 1))) None (has whole after (count + 1))
     ∙ ap (λ n. Some (Part whole n (count + 1))) (part_uncut millionths count b low (omega arith) digit))

@@ -6,30 +6,30 @@ use Rattle.ge_model_text.specs.declared.Form.{Form}
 use Rattle.ge_model_text.specs.declared.Form.TheVariants.{Int, Time, Memory, Fixed}
 use Rattle.ge_model_text.specs.declared.Progress.{Progress}
 use Rattle.ge_model_text.specs.declared.Progress.TheVariants.{Start, Whole, Minutes, Seconds, Part, Multiple, Letters}
-use Rattle.ge_model_text.specs.Value.{IsFixed, WithoutFraction, WithFraction, InSeconds, ByTheClock, WithoutEnd, InBytes, InMultiples, WithoutLimit, IsWorth, number, millionths_from, scaled, infinity, endless}
-use Rattle.ge_model_text.specs.Reading.{cut, occurs, whole_amount, part_amount, done, Begins}
+use Rattle.ge_model_text.specs.Value.{IsFixed, WithoutFraction, WithFraction, InSeconds, ByTheClock, WithoutEnd, InBytes, InMultiples, WithoutLimit, IsWorth, number, millionths_from, scaled, infinity_word, endless}
+use Rattle.ge_model_text.specs.Reading.{amount_cut, occurs, whole_amount, part_amount, amount_done, Begins}
 use Rattle.ge_text.proofs.NumberLemmas.{AreDigits-append}
 use Rattle.ge_text.proofs.ReadLemmas.{HasRead, HasWhole, HasMinutes, HasSeconds, HasPart, HasMultiple, HasLetters, part_fixed}
 
 -- the text is worth an amount, and this is the amount or 2^48
 abbrev pub Worth : Form → List ℕ → ℕ → Type 0
-Worth form text value = (amount : ℕ) × IsWorth form text amount × (value ≡ cut amount)
+Worth form text value = (amount : ℕ) × IsWorth form text amount × (value ≡ amount_cut amount)
 
 worth_whole : (form : Form) (text : List ℕ) (n : ℕ) → HasWhole text n → Worth form text (whole_amount form n)
 worth_whole Int text n has = (number text, record { digits = has.digits; value = refl }, has.value)
 worth_whole Time text n has = (number text, InSeconds (record { digits = has.digits; value = refl }), has.value)
 worth_whole Memory text n has =
-    let value : n ≡ cut (number text) = has.value in
+    let value : n ≡ amount_cut (number text) = has.value in
     (scaled (1000000 * number text) 1, InBytes (1000000 * number text) (WithoutFraction has.digits refl) refl, omega arith)
 worth_whole Fixed text n has =
-    let value : n ≡ cut (number text) = has.value in
+    let value : n ≡ amount_cut (number text) = has.value in
     (1000000 * number text, WithoutFraction has.digits refl, omega arith)
 
-worth_seconds : (text : List ℕ) (hours minutes seconds : ℕ) → HasSeconds text hours minutes seconds → Worth Time text (cut (3600 * hours + 60 * minutes + seconds))
+worth_seconds : (text : List ℕ) (hours minutes seconds : ℕ) → HasSeconds text hours minutes seconds → Worth Time text (amount_cut (3600 * hours + 60 * minutes + seconds))
 worth_seconds text hours minutes seconds has =
-    let first : hours ≡ cut (number has.first) = has.first_value in
-    let second : minutes ≡ cut (number has.second) = has.second_value in
-    let third : seconds ≡ cut (number has.third) = has.third_value in (
+    let first : hours ≡ amount_cut (number has.first) = has.first_value in
+    let second : minutes ≡ amount_cut (number has.second) = has.second_value in
+    let third : seconds ≡ amount_cut (number has.third) = has.third_value in (
       3600 * number has.first + 60 * number has.second + number has.third,
       ByTheClock (record {
         hours = has.first;
@@ -62,7 +62,7 @@ worth_multiple Time text n has there = absurd (cc)
 worth_multiple Memory text n has there = (has.bytes, InMultiples has.spelled, has.value)
 worth_multiple Fixed text n has there = absurd (cc)
 
-worth_infinity : (form : Form) (text : List ℕ) → text ≡ infinity → occurs (Letters 8) form ≡ true → Worth form text endless
+worth_infinity : (form : Form) (text : List ℕ) → text ≡ infinity_word → occurs (Letters 8) form ≡ true → Worth form text endless
 worth_infinity Int text spelled there = absurd (cc)
 worth_infinity Time text spelled there = (endless, WithoutEnd spelled refl, refl)
 worth_infinity Memory text spelled there = (endless, WithoutLimit spelled refl, refl)
@@ -79,18 +79,18 @@ worth_letters : (form : Form) (text : List ℕ) (count : ℕ) (all : Bool) → H
 worth_letters form text count false has there is = tt
 worth_letters form text count true has there is =
     let eight : count ≡ 8 = eqb-true count 8 is in
-    let spelled : text ≡ take count infinity = has.spelled in
-    worth_infinity form text (spelled ∙ ap (λ n. take n infinity) eight) (occurs_letters form count there)
+    let spelled : text ≡ take count infinity_word = has.spelled in
+    worth_infinity form text (spelled ∙ ap (λ n. take n infinity_word) eight) (occurs_letters form count there)
 
 occurs_seconds : (form : Form) (text : List ℕ) (hours minutes seconds : ℕ) → HasSeconds text hours minutes seconds → occurs (Seconds hours minutes seconds) form ≡ true
-    → Worth form text (cut (3600 * hours + 60 * minutes + seconds))
+    → Worth form text (amount_cut (3600 * hours + 60 * minutes + seconds))
 occurs_seconds Int text hours minutes seconds has there = absurd (cc)
 occurs_seconds Time text hours minutes seconds has there = worth_seconds text hours minutes seconds has
 occurs_seconds Memory text hours minutes seconds has there = absurd (cc)
 occurs_seconds Fixed text hours minutes seconds has there = absurd (cc)
 
 -- where the machine may end, the text is worth what it says
-pub done_is_worth : (form : Form) (progress : Progress) (text : List ℕ) → HasRead progress text → occurs progress form ≡ true → IfSome (done form progress) (Worth form text)
+pub done_is_worth : (form : Form) (progress : Progress) (text : List ℕ) → HasRead progress text → occurs progress form ≡ true → IfSome (amount_done form progress) (Worth form text)
 done_is_worth form Start text has there = tt
 done_is_worth form (Whole n) text has there = worth_whole form text n has
 done_is_worth form (Minutes hours minutes) text has there = tt
@@ -155,22 +155,22 @@ part_begins Memory text whole millionths count true has there is =
     (48 ∷ [], scaled fixed.0 1, InBytes fixed.0 fixed.1 refl)
 part_begins Memory text whole millionths count false has there is =
     let fixed = part_fixed text whole millionths count has is in
-    ends_here Memory text (cut (scaled fixed.0 1)) (scaled fixed.0 1, InBytes fixed.0 fixed.1 refl, refl)
+    ends_here Memory text (amount_cut (scaled fixed.0 1)) (scaled fixed.0 1, InBytes fixed.0 fixed.1 refl, refl)
 part_begins Fixed text whole millionths count true has there is =
     let fixed = point_zero text whole millionths count has (eqb-true count 0 is) in
     (48 ∷ [], fixed.0, fixed.1)
 part_begins Fixed text whole millionths count false has there is =
     let fixed = part_fixed text whole millionths count has is in
-    ends_here Fixed text (cut fixed.0) (fixed.0, fixed.1, refl)
+    ends_here Fixed text (amount_cut fixed.0) (fixed.0, fixed.1, refl)
 
 letters_begin : (form : Form) (text : List ℕ) (count : ℕ) → HasLetters text count → occurs (Letters count) form ≡ true → Begins form text
 letters_begin Int text count has there = absurd (cc)
 letters_begin Time text count has there =
-    let spelled : text ≡ take count infinity = has.spelled in
-    (drop count infinity, endless, WithoutEnd (rw spelled (take-append-drop count infinity)) refl)
+    let spelled : text ≡ take count infinity_word = has.spelled in
+    (drop count infinity_word, endless, WithoutEnd (rw spelled (take-append-drop count infinity_word)) refl)
 letters_begin Memory text count has there =
-    let spelled : text ≡ take count infinity = has.spelled in
-    (drop count infinity, endless, WithoutLimit (rw spelled (take-append-drop count infinity)) refl)
+    let spelled : text ≡ take count infinity_word = has.spelled in
+    (drop count infinity_word, endless, WithoutLimit (rw spelled (take-append-drop count infinity_word)) refl)
 letters_begin Fixed text count has there = absurd (cc)
 
 -- what was read begins a text of the form
@@ -179,7 +179,7 @@ read_begins form Start text has there = rw has (zero_begins form)
 read_begins form (Whole n) text has there = ends_here form text (whole_amount form n) (worth_whole form text n has)
 read_begins form (Minutes hours minutes) text has there = minutes_begin form text hours minutes has there
 read_begins form (Seconds hours minutes seconds) text has there =
-    ends_here form text (cut (3600 * hours + 60 * minutes + seconds)) (occurs_seconds form text hours minutes seconds has there)
+    ends_here form text (amount_cut (3600 * hours + 60 * minutes + seconds)) (occurs_seconds form text hours minutes seconds has there)
 read_begins form (Part whole millionths count) text has there = part_begins form text whole millionths count (count == 0) has there refl
 read_begins form (Multiple n) text has there = ends_here form text n (worth_multiple form text n has there)
 read_begins form (Letters count) text has there = letters_begin form text count has there

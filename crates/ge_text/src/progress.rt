@@ -2,7 +2,7 @@
 
 ghost use Rattle.std.specs.Prelude.{◌≡◌, ◌+◌, ◌*◌, ◌-◌, ◌≤◌, ◌<◌, ◌^◌};
 ghost use Rattle.ge_model_text.specs.Value.{is_digit, factor, unit_at};
-ghost use Rattle.ge_model_text.specs.Reading.{cut, appended, multiple, after_whole, after_part, step, occurs, next, whole_amount, part_amount, done};
+ghost use Rattle.ge_model_text.specs.Reading.{amount_cut, appended, multiple, after_whole, after_part, step, occurs, next, whole_amount, part_amount, amount_done};
 
 use ge_limits::AMOUNTS;
 use ge_model_text::{Form, Progress};
@@ -65,7 +65,7 @@ fn in_millionths(whole: u64, millionths: u64) -> u128
 
 /// An amount, cut at the first that is too large.
 fn cut_amount(n: u128) -> u64
-    ensures { result ≡ cut n }
+    ensures { result ≡ amount_cut n }
 {
     n.min(u128::from(AMOUNTS)) as u64
 }
@@ -219,14 +219,14 @@ fn amount_of_part(form: Form, whole: u64, millionths: u64) -> u64
 }
 
 fn amount_of_clock(hours: u64, minutes: u64, seconds: u64) -> u64
-    ensures { result ≡ cut (3600 * hours + 60 * minutes + seconds) }
+    ensures { result ≡ amount_cut (3600 * hours + 60 * minutes + seconds) }
 {
     cut_amount(u128::from(hours) * 3600 + u128::from(minutes) * 60 + u128::from(seconds))
 }
 
 /// The amount of what was read, where it is a whole text of the form.
 pub(crate) fn finished(form: Form, progress: Progress) -> Option<u64>
-    ensures { result ≡ done form progress }
+    ensures { result ≡ amount_done form progress }
 {
     match progress {
         Progress::Start | Progress::Minutes(_, _) => None,

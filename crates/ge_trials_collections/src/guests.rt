@@ -14,9 +14,17 @@ pub(crate) struct Guest {
 impl Row for Guest {
     type Mark = u32;
 
+    type Facts = u64;
+
+    type Label = u32;
+
     ghost weights = { λ guest. (guest.nights, 1) };
 
     ghost marks = { λ guest. guest.room ∷ [] };
+
+    ghost short = { λ guest. guest.nights };
+
+    ghost labels = { λ guest. (guest.room, guest.room, 0) };
 
     fn weights(&self) -> (u128, u128) {
         (u128::from(self.nights), 1)
@@ -28,6 +36,18 @@ impl Row for Guest {
 
     fn marks(&self, alloc: Global) -> Result<Vec<u32>, AllocError> {
         Vec::from_slice(alloc, &[self.room])
+    }
+
+    fn keeps_short() -> bool {
+        true
+    }
+
+    fn short(&self) -> u64 {
+        self.nights
+    }
+
+    fn labels(&self, _alloc: Global) -> Result<(u32, u32, u32), AllocError> {
+        Ok((self.room, self.room, 0))
     }
 
     fn orderly(&self) {}
@@ -74,6 +94,10 @@ impl TryEdit<Guest> for Stay {
 
     fn gained(&self, alloc: Global, _row: &Guest) -> Result<Vec<u32>, AllocError> {
         Ok(Vec::new(alloc))
+    }
+
+    fn relabels(&self, _row: &Guest) -> bool {
+        false
     }
 
     fn try_edit(&self, _alloc: Global, row: &mut Guest) -> Result<(), AllocError> {

@@ -53,3 +53,38 @@ fn changes(rt: HostRuntime) -> Result<(), Fail> {
     assert!(rt; !house.is_borne(&7));
     Ok(())
 }
+
+// Of a guest by the short rows: for how many nights, and the number of the room's label.
+fn shown(house: &Table<u32, Guest>, number: u32) -> Option<(u64, u32)> {
+    let short = house.shorts()?.rows.get(&number)?;
+    Some((short.facts, short.first))
+}
+
+fn nights(house: &Table<u32, Guest>, number: u32) -> Option<u64> {
+    match shown(house, number) {
+        Some((nights, _room)) => Some(nights),
+        None => None,
+    }
+}
+
+// Whether two guests are shown with one room.
+fn share(house: &Table<u32, Guest>, one: u32, other: u32) -> bool {
+    match (shown(house, one), shown(house, other)) {
+        (Some(one), Some(other)) => one.1 == other.1,
+        _ => false,
+    }
+}
+
+#[test]
+fn short_rows(rt: HostRuntime) -> Result<(), Fail> {
+    let mut house = house(rt.alloc())?;
+    assert!(rt; share(&house, 20, 30));
+    assert!(rt; !share(&house, 10, 30));
+    assert!(rt; house.change(&20, &Move { to: 8 }));
+    assert!(rt; share(&house, 20, 10));
+    assert!(rt; house.try_change(rt.alloc(), &20, &Stay { nights: 9 })?);
+    assert!(rt; nights(&house, 20) == Some(9));
+    assert!(rt; house.remove(&20).is_some());
+    assert!(rt; shown(&house, 20).is_none());
+    Ok(())
+}

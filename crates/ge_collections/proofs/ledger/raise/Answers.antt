@@ -4,13 +4,12 @@ use Rattle.ge_collections.proofs.ledger.raise.Goals as goal
 
 pub returns-in-Some : goal.returns-in-Some
 returns-in-Some g c = λ ok.
-    raised g.met.K.Ord.total g.met.M.Ord.total c.args.bearers.now.entries _ c.args.mark.now c.args.key.now (Some c.in-Some.keys.now) c.raise_count.new.keys
-    (sym c.in-Some.ensures.value) ((c.get_mut.follows.holds c.raise_count.new.keys).3 (is_there _ _ (sym c.in-Some.ensures.value))).0
-    (c.raise_count.ensures ok)
+    raised g.met.K.Ord.total g.met.M.Ord.total c.args.bearers.now.entries _ c.args.mark.now c.args.key.now (Some c.in-Some.keys.now) c.raise_keys.new.keys
+    (sym c.in-Some.ensures.value) ((c.get_mut.follows.holds c.raise_keys.new.keys).3 (is_there _ _ (sym c.in-Some.ensures.value))).0
+    (c.raise_keys.ensures ok)
 
 pub returns : goal.returns
 returns g c = λ ok.
-    raised_new g.met.K.Ord.total g.met.M.Ord.total c.args.bearers.now _ c.insert.new.self c.args.mark.now c.in-Ok.mark c.args.key.now c.new-keys.result c.raise_count-2.new.keys
-    c.get_mut.follows.holds-at-none c.in-Ok.ensures c.new-keys.ensures.empty c.in_default.ensures.value
+    raised_new g.met.K.Ord.total g.met.M.Ord.total c.args.bearers.now _ c.insert.new.self c.args.mark.now c.in-Ok.mark c.args.key.now c.in-Ok-twin.key
+    c.get_mut.follows.holds-at-none c.in-Ok.ensures c.in-Ok-twin.ensures c.in_default.ensures.value
     (of_ok _ c.insert.result (sym c.is_ok.ensures.value ∙ ok) c.insert.ensures.updates).0
-    (c.raise_count-2.ensures c.if-not-raise_count.false)
