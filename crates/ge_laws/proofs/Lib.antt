@@ -7,3 +7,4 @@ mod GrowingLines
 mod ToldFaults
 mod ToldCommands
 mod ToldPlans
+mod ToldTraces

@@ -13,8 +13,8 @@ use Rattle.ge_model_rows.specs.EntryRows.{ObjectKind}
 use Rattle.ge_model_rows.specs.EventRows.{Event, Planned}
 use Rattle.ge_model_rows.specs.JobRows.{Grant, Advance}
 use Rattle.ge_model_script.specs.Lines.{is_too_long}
-use Rattle.ge_model_plan.specs.Plan.{is_cut}
-use Rattle.ge_model_plan.specs.Refusals.{refused, unless_refused}
+use Rattle.ge_model_core.specs.Forms.{is_cut}
+use Rattle.ge_model_core.specs.Refusals.{refused, unless_refused}
 use Rattle.ge_model_value.specs.Faults.{first_fault, when}
 use Rattle.ge_model_value.specs.Pieces.{each_number_once}
 use Rattle.ge_model_site.specs.Access.{is_operator}
@@ -26,14 +26,14 @@ use Rattle.ge_model_report.specs.Accounting.{account_of}
 use Rattle.ge_model_report.specs.Orders.{orders_of, task_lines}
 use Rattle.ge_model_grammar.specs.declared.Body.{Body}
 use Rattle.ge_model_grammar.specs.Bodies.{body_of}
-use Rattle.ge_model_core.specs.Answers.{unless_faulty, changed, shown, done}
-use Rattle.ge_model_core.specs.Submitting.{submit_plan, submitter, size_faults, tasks_of, submitted, job_of}
+use Rattle.ge_model_core.specs.Answers.{unless_faulty, changed, shown, done_lines}
+use Rattle.ge_model_core.specs.Submitting.{submit_plan, submitter, size_faults, submitted_tasks, submission_answer, submitted_job}
 use Rattle.ge_model_core.specs.JobOptions.{option_faults}
 use Rattle.ge_model_core.specs.JobAdvances.{join_faults}
 use Rattle.ge_model_core.specs.Targets.{target_faults, named_jobs}
 use Rattle.ge_model_core.specs.Altering.{alter_plan, patches_of, alter_faults, closes_a_cycle, altered}
 use Rattle.ge_model_core.specs.Deleting.{delete_plan, clear_plan, removed_line, cleared_line}
-use Rattle.ge_model_core.specs.Holding.{hold_plan, release_plan, hold_plan_faults, held}
+use Rattle.ge_model_core.specs.Holding.{hold_plan, release_plan, hold_plan_faults, hold_answer}
 use Rattle.ge_model_core.specs.Configuring.{put, add_plan, body_plan, body_plan_of, remove_plan, remove_faults, manager_faults, enlisted, enlist_faults, print_plan, print_plan_of}
 use Rattle.ge_model_core.specs.Showing.{show_plan, account_plan}
 use Rattle.ge_model_core.specs.Reports.{load_plan, host_faults, report_faults, report_of, end_plan, serial_faults, end_faults, orders_plan, task_plan, stop_plan}
@@ -90,7 +90,7 @@ asking : (m : ℕ) (lines : List (List ℕ)) → Keeps m false false (shown line
 asking m lines = record { entry = refl; at = tt; stop = refl }
 
 put_keeps : (c : Cluster) (e : Event) (read : Item × List Refusal) → Keeps e.moment true false (put c e read)
-put_keeps c e read = changing e (manager_faults c e ++ read.1) (changed e (Put read.0) done) (record { entry = refl; at = refl; stop = refl })
+put_keeps c e read = changing e (manager_faults c e ++ read.1) (changed e (Put read.0) done_lines) (record { entry = refl; at = refl; stop = refl })
 
 body_keeps : (c : Cluster) (e : Event) (sort : ObjectKind) (adding : Bool) (body : Option Body) → Keeps e.moment true false (body_plan_of c e sort adding body)
 body_keeps c e sort adding None = refuses e.moment true false Syntax
@@ -135,16 +135,16 @@ show_booked_keeps c m (Some number) = turned m false false (is_some (at_number c
 command_keeps : (c : Cluster) (e : Event) (asked : Command) → Keeps e.moment (not (is_query asked) && not (is_stop asked)) (is_stop asked) (command_plan c e asked)
 unfolding submit_plan alter_plan delete_plan clear_plan hold_plan release_plan remove_plan print_plan load_plan end_plan orders_plan task_plan stop_plan sched_plan book_plan unbook_plan show_booked_plan
 command_keeps c e (Command.Submit options words script) =
-    changing e (option_faults c e options.items (submitter e options.items) ++ join_faults c e options.items ++ size_faults c (tasks_of options.items) words script) (submitted e (job_of c e options.items words script))
+    changing e (option_faults c e options.items (submitter e options.items) ++ join_faults c e options.items ++ size_faults c (submitted_tasks options.items) words script) (submission_answer e (submitted_job c e options.items words script))
     (record { entry = refl; at = refl; stop = refl })
 command_keeps c e (Command.Alter options numbers) =
     let patches = patches_of c options.items numbers in changing e (flat_map (alter_faults c e options.items) numbers ++ when (closes_a_cycle c options.items patches) Cycle) (altered e patches) (record { entry = refl; at = refl; stop = refl })
 command_keeps c e (Command.Delete force picks) =
     changing e (flat_map (target_faults c e) picks ++ when (force && not (is_operator c e.user)) NotPermitted) (changed e (Delete picks force) (removed_line force (named_jobs c picks) ∷ [])) (record { entry = refl; at = refl; stop = refl })
 command_keeps c e (Command.Hold bits numbers) =
-    let once = each_number_once numbers in changing e (hold_plan_faults c e bits numbers) (held e (Hold once bits) once) (record { entry = refl; at = refl; stop = refl })
+    let once = each_number_once numbers in changing e (hold_plan_faults c e bits numbers) (hold_answer e (Hold once bits) once) (record { entry = refl; at = refl; stop = refl })
 command_keeps c e (Command.Release bits numbers) =
-    let once = each_number_once numbers in changing e (hold_plan_faults c e bits numbers) (held e (Release once bits) once) (record { entry = refl; at = refl; stop = refl })
+    let once = each_number_once numbers in changing e (hold_plan_faults c e bits numbers) (hold_answer e (Release once bits) once) (record { entry = refl; at = refl; stop = refl })
 command_keeps c e (Command.Clear picks) =
     changing e (flat_map (target_faults c e) picks) (changed e (Clear picks) (cleared_line (named_jobs c picks) ∷ [])) (record { entry = refl; at = refl; stop = refl })
 command_keeps c e (Command.Show what) = show_keeps c e what
@@ -152,12 +152,12 @@ command_keeps c e (Command.Account what) = account_keeps c e.moment what
 command_keeps c e (Command.Add sort text) = add_keeps c e sort text
 command_keeps c e (Command.Modify sort text) = text_keeps c e sort false text
 command_keeps c e (Command.Remove key) =
-    changing e (manager_faults c e ++ remove_faults c key.kind key.name) (changed e (Drop key) done) (record { entry = refl; at = refl; stop = refl })
+    changing e (manager_faults c e ++ remove_faults c key.kind key.name) (changed e (Drop key) done_lines) (record { entry = refl; at = refl; stop = refl })
 command_keeps c e (Command.Print key) = print_keeps c e.moment (item_at c key.kind key.name)
 command_keeps c e (Command.Load host pairs) =
-    changing e (manager_faults c e ++ host_faults c host ++ flat_map (report_faults c) pairs) (changed e (Load host (report_of c pairs)) done) (record { entry = refl; at = refl; stop = refl })
+    changing e (manager_faults c e ++ host_faults c host ++ flat_map (report_faults c) pairs) (changed e (Load host (report_of c pairs)) done_lines) (record { entry = refl; at = refl; stop = refl })
 command_keeps c e (Command.End serial exit cpu mem io) =
-    changing e (manager_faults c e ++ serial_faults c serial ++ end_faults exit cpu mem io) (changed e (End serial exit cpu mem io) done) (record { entry = refl; at = refl; stop = refl })
+    changing e (manager_faults c e ++ serial_faults c serial ++ end_faults exit cpu mem io) (changed e (End serial exit cpu mem io) done_lines) (record { entry = refl; at = refl; stop = refl })
 command_keeps c e Command.Sched =
     changing e (manager_faults c e) (decided e (decisions_at c e.moment)) (record { entry = refl; at = refl; stop = refl })
 command_keeps c e (Command.Orders host) =
@@ -165,7 +165,7 @@ command_keeps c e (Command.Orders host) =
 command_keeps c e (Command.JobOf serial) =
     answered e.moment false false (manager_faults c e ++ when (is_none (running_with c.jobs serial)) NoSuchObject) (shown (task_lines c serial)) (asking e.moment (task_lines c serial))
 command_keeps c e Command.Stop =
-    answered e.moment false true (manager_faults c e) (record (shown done) { stop = true }) (record { entry = refl; at = tt; stop = refl })
+    answered e.moment false true (manager_faults c e) (record (shown done_lines) { stop = true }) (record { entry = refl; at = tt; stop = refl })
 command_keeps c e (Command.Book options) =
     let asked = advance_asked c e options.items in changing e (book_faults c e options.items) (booked c e asked (advance_grants c e.moment asked)) (booked_keeps c e asked (advance_grants c e.moment asked))
 command_keeps c e (Command.Unbook numbers) =

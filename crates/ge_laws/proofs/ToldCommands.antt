@@ -12,8 +12,8 @@ use Rattle.ge_model_rows.specs.PeopleRows.{ProjectRow}
 use Rattle.ge_model_rows.specs.ValueRows.{ComplexDef}
 use Rattle.ge_model_value.specs.Pieces.{pieces_at, before_byte}
 use Rattle.ge_model_value.specs.Faults.{when}
-use Rattle.ge_model_config.specs.Cited.{Read, is_named}
-use Rattle.ge_model_config.specs.Requests.{asked_text, asked_of, asked_read, with_asked, all_asked, range_read, pe_read, in_place, request_of, queues_of}
+use Rattle.ge_model_config.specs.Cited.{Read, has_name}
+use Rattle.ge_model_config.specs.Requests.{asked_text, asked_item, asked_read, with_asked, all_asked, range_read, pe_read, in_place, request_of, queues_of}
 use Rattle.ge_model_value.specs.Complexes.{complex_named}
 use Rattle.ge_model_grammar.specs.Options.{Given, option_words, has_option, slot_range_of}
 use Rattle.ge_model_core.specs.Altering.{alter_faults_of}
@@ -29,7 +29,7 @@ use Rattle.ge_laws.proofs.ToldFaults.{AreTold, both, none, bad, absent, there, o
 
 -- ---- requests
 
-asked_told : (text : List ℕ) (complex : Option (List ℕ × ComplexDef)) → AreTold (asked_of text complex).1
+asked_told : (text : List ℕ) (complex : Option (List ℕ × ComplexDef)) → AreTold (asked_item text complex).1
 asked_told text None = one NoSuchObject tt
 asked_told text (Some complex) = search (both, bad, absent, there, over, forbidden, used, round, stale, unasked, none)
 
@@ -44,7 +44,7 @@ range_told name None = one BadValue tt
 range_told name (Some range) = bad _
 
 pe_told : (c : Cluster) (words : List (List ℕ)) → AreTold (pe_read c words).1
-pe_told c (name ∷ range ∷ more) = both (when (not (is_named c.pes name)) NoSuchObject) (range_read name (slot_range_of range)).1 (absent _) (range_told name (slot_range_of range))
+pe_told c (name ∷ range ∷ more) = both (when (not (has_name c.pes name)) NoSuchObject) (range_read name (slot_range_of range)).1 (absent _) (range_told name (slot_range_of range))
 pe_told c _ = none
 
 placed_told : {T : Type 0} (options : Given) (name : List ℕ) (older : T) (read : List (List ℕ) → Read T) → ((words : List (List ℕ)) → AreTold (read words).1) → AreTold (in_place options name older read).1

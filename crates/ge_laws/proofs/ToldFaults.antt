@@ -11,16 +11,16 @@ use Rattle.ge_model_value.specs.Faults.{when}
 use Rattle.ge_model_config.specs.Named.{name_faults, absent_faults}
 use Rattle.std.specs.Prelude.{codes}
 use Rattle.ge_collections.specs.Keyed.{text_eq}
-use Rattle.ge_model_config.specs.Cited.{Read, amount_within, cited, is_host_or_group, is_named, names_read, number_read}
+use Rattle.ge_model_config.specs.Cited.{Read, amount_within, cited, is_host_or_group, has_name, names_read, number_read}
 use Rattle.ge_model_config.specs.Complexes.{complexes_item, row_faults, use_faults}
 use Rattle.ge_model_config.specs.Objects.{allocation_read, assumed_read, group_item, host_item, pe_item, project_item, set_item, user_item}
 use Rattle.ge_model_config.specs.Overrides.{attr_read, attr_with, filled, override_read, overrides_of, plain_part}
-use Rattle.ge_model_config.specs.Pairs.{any_fits, item_read, number_fits, pair_read, value_for, values_read, with_item}
-use Rattle.ge_model_config.specs.Queues.{limit_kind, limits_read, queue_item, queue_read, with_limit as queue_limit}
-use Rattle.ge_model_config.specs.Quotas.{consumable_fits, enabled_of, quota_item, rule_read, with_limit as rule_limit}
+use Rattle.ge_model_config.specs.Pairs.{any_fits, item_read, number_fits, pair_read, value_for, values_read, with_pair}
+use Rattle.ge_model_config.specs.Queues.{limit_kind, limits_read, queue_item, queue_read, with_queue_limit as queue_limit}
+use Rattle.ge_model_config.specs.Quotas.{consumable_fits, enabled_of, quota_item, rule_read, with_rule_limit as rule_limit}
 use Rattle.ge_model_config.specs.Reading.{item_of}
-use Rattle.ge_model_config.specs.Settings.{formula_faults, formula_read, is_weight, sched_item, setting, sort_read, weight_read, weights_read, with_weight}
-use Rattle.ge_model_config.specs.Shares.{below, depth_faults, goes_round, is_deep, is_project_line, line_faults, node_faults, scopes_differ, shares_item, tree_faults}
+use Rattle.ge_model_config.specs.Settings.{formula_faults, formula_read, is_weight, sched_item, setting, sort_read, weight_read, weights_read, with_weight_item}
+use Rattle.ge_model_config.specs.Shares.{nodes_below, depth_faults, goes_round, is_deep, is_project_line, line_faults, node_faults, scopes_differ, shares_item, tree_faults}
 use Rattle.ge_model_grammar.specs.declared.Body.{Body}
 use Rattle.ge_model_grammar.specs.declared.Body.TheVariants.{Attributes, RuleSet, Nodes, ComplexRows}
 use Rattle.ge_model_grammar.specs.declared.ComplexLine.{ComplexLine}
@@ -167,7 +167,7 @@ item_told : (c : Cluster) (fits : List ℕ → ComplexDef → Bool) (item : List
 item_told c fits item = pick (has_byte 61 item) (pair_read c fits (before_byte 61 item, behind_byte 61 item)) (None, BadValue ∷ []) (pair_told c fits (before_byte 61 item, behind_byte 61 item)) (one BadValue tt)
 
 values_told : (c : Cluster) (fits : List ℕ → ComplexDef → Bool) (text : List ℕ) → AreTold (values_read c fits text).1
-values_told c fits text = folded (with_item c fits) (λ so_far item told. both so_far.1 (item_read c fits item).1 told (item_told c fits item)) (list_items text) ([], []) none
+values_told c fits text = folded (with_pair c fits) (λ so_far item told. both so_far.1 (item_read c fits item).1 told (item_told c fits item)) (list_items text) ([], []) none
 
 -- ---- objects
 
@@ -212,9 +212,9 @@ queue_told : (c : Cluster) (values : List (List ℕ × List ℕ)) → AreTold (q
 unfolding queue_read
 queue_told c values =
     let number = λ (name : List ℕ). attr_told c values name (number_read Kind.Int 0 infinity) (number_told Kind.Int 0 infinity) in
-    let sets = λ (name : List ℕ). attr_told c values name (names_read (is_named c.sets)) (names_told (is_named c.sets)) in
-    let projects = λ (name : List ℕ). attr_told c values name (names_read (is_named c.projects)) (names_told (is_named c.projects)) in
-    let pes = attr_told c values (codes "pe_list") (names_read (is_named c.pes)) (names_told (is_named c.pes)) in
+    let sets = λ (name : List ℕ). attr_told c values name (names_read (has_name c.sets)) (names_told (has_name c.sets)) in
+    let projects = λ (name : List ℕ). attr_told c values name (names_read (has_name c.projects)) (names_told (has_name c.projects)) in
+    let pes = attr_told c values (codes "pe_list") (names_read (has_name c.pes)) (names_told (has_name c.pes)) in
     let thresholds = attr_told c values (codes "load_thresholds") (values_read c number_fits) (values_told c number_fits) in
     let amounts = attr_told c values (codes "complex_values") (values_read c any_fits) (values_told c any_fits) in
     search (both, bad, absent, there, over, forbidden, used, round, stale, unasked, none, number, sets, projects, pes, thresholds, amounts, limits_told) depth 30 fits 20000
@@ -261,7 +261,7 @@ formula_told (Some complex) = bad _
 
 weights_told : (text : List ℕ) → AreTold (weights_read text).1
 weights_told text =
-    folded with_weight (λ so_far item told. both (so_far.1 ++ when (not (is_weight item)) BadValue) (weight_read item).1 (both so_far.1 (when (not (is_weight item)) BadValue) told (bad _))
+    folded with_weight_item (λ so_far item told. both (so_far.1 ++ when (not (is_weight item)) BadValue) (weight_read item).1 (both so_far.1 (when (not (is_weight item)) BadValue) told (bad _))
     (number_told Kind.Double 0 infinity (behind_byte 61 item))) (list_items text) ([], []) none
 
 sched_told : (c : Cluster) (values : List (List ℕ × List ℕ)) → AreTold (sched_item c values).1
@@ -273,14 +273,14 @@ sched_told c values =
     let weights = setting_told c values (codes "usage_weight_list") weights_read weights_told in
     search (both, bad, absent, there, over, forbidden, used, round, stale, unasked, none, number, sort, formula, weights) depth 30 fits 20000
 
-project_line_told : (c : Cluster) (lines : NodeLines) → AreTold (if is_project_line lines then cited (is_named c.projects) (lines.name ∷ []) else [])
-project_line_told c lines = either (is_project_line lines) (cited (is_named c.projects) (lines.name ∷ [])) [] (absent _) none
+project_line_told : (c : Cluster) (lines : NodeLines) → AreTold (if is_project_line lines then cited (has_name c.projects) (lines.name ∷ []) else [])
+project_line_told c lines = either (is_project_line lines) (cited (has_name c.projects) (lines.name ∷ [])) [] (absent _) none
 
 line_told : (c : Cluster) (lines : NodeLines) → AreTold (line_faults c lines)
 line_told c lines = search (both, bad, absent, there, over, forbidden, used, round, stale, unasked, none, number_told, project_line_told) depth 12
 
 depth_told : (table : List (ℕ × ShareNode)) → AreTold (depth_faults table)
-depth_told table = by (goes_round table (below table 0))
+depth_told table = by (goes_round table (nodes_below table 0))
   where
     by : (b : Bool) → AreTold (elim b as (λ x. List Refusal) [ true ↦ Cycle ∷ [] | false ↦ when (is_deep table) Limit ])
     by true = one Cycle tt

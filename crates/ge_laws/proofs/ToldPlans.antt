@@ -12,8 +12,8 @@ use Rattle.ge_model_rows.specs.EntryRows.{ObjectKind, Pick}
 use Rattle.ge_model_rows.specs.EventRows.{Event, Planned}
 use Rattle.ge_model_rows.specs.JobRows.{Grant, Advance}
 use Rattle.ge_model_script.specs.Lines.{is_too_long}
-use Rattle.ge_model_plan.specs.Plan.{is_cut}
-use Rattle.ge_model_plan.specs.Refusals.{refused, unless_refused}
+use Rattle.ge_model_core.specs.Forms.{is_cut}
+use Rattle.ge_model_core.specs.Refusals.{refused, unless_refused}
 use Rattle.ge_model_value.specs.Faults.{first_fault, earlier_fault, turn_of, when}
 use Rattle.ge_model_value.specs.Pieces.{each_number_once}
 use Rattle.ge_model_site.specs.Access.{is_operator}
@@ -26,14 +26,14 @@ use Rattle.ge_model_report.specs.Orders.{orders_of, task_lines}
 use Rattle.ge_model_grammar.specs.declared.Body.{Body}
 use Rattle.ge_model_grammar.specs.Bodies.{body_of}
 use Rattle.ge_model_grammar.specs.Options.{Given}
-use Rattle.ge_model_core.specs.Answers.{unless_faulty, changed, shown, done}
-use Rattle.ge_model_core.specs.Submitting.{submit_plan, submitter, size_faults, tasks_of, submitted, job_of}
+use Rattle.ge_model_core.specs.Answers.{unless_faulty, changed, shown, done_lines}
+use Rattle.ge_model_core.specs.Submitting.{submit_plan, submitter, size_faults, submitted_tasks, submission_answer, submitted_job}
 use Rattle.ge_model_core.specs.JobOptions.{option_faults}
 use Rattle.ge_model_core.specs.JobAdvances.{join_faults}
 use Rattle.ge_model_core.specs.Targets.{target_faults, named_jobs}
 use Rattle.ge_model_core.specs.Altering.{alter_plan, patches_of, alter_faults, closes_a_cycle, altered}
 use Rattle.ge_model_core.specs.Deleting.{delete_plan, clear_plan, removed_line, cleared_line}
-use Rattle.ge_model_core.specs.Holding.{hold_plan, release_plan, hold_plan_faults, held}
+use Rattle.ge_model_core.specs.Holding.{hold_plan, release_plan, hold_plan_faults, hold_answer}
 use Rattle.ge_model_core.specs.Configuring.{put, add_plan, body_plan, body_plan_of, remove_plan, remove_faults, manager_faults, enlisted, enlist_faults, print_plan, print_plan_of}
 use Rattle.ge_model_core.specs.Showing.{show_plan, account_plan}
 use Rattle.ge_model_core.specs.Reports.{load_plan, host_faults, report_faults, report_of, end_plan, serial_faults, end_faults, orders_plan, task_plan, stop_plan}
@@ -98,7 +98,7 @@ checked : (faults : List Refusal) (p : Planned) → AreTold faults → p.reply.c
 checked faults p told is = answered faults p told (accepted p is)
 
 put_told : (c : Cluster) (e : Event) (read : Item × List Refusal) → AreTold read.1 → Answers (put c e read)
-put_told c e read told = checked (manager_faults c e ++ read.1) (changed e (Put read.0) done) (both (manager_faults c e) read.1 (forbidden _) told) refl
+put_told c e read told = checked (manager_faults c e ++ read.1) (changed e (Put read.0) done_lines) (both (manager_faults c e) read.1 (forbidden _) told) refl
 
 body_told : (c : Cluster) (e : Event) (sort : ObjectKind) (adding : Bool) (body : Option Body) → Answers (body_plan_of c e sort adding body)
 body_told c e sort adding None = refuses Syntax tt
@@ -141,9 +141,9 @@ show_booked_told c m (Some number) = turned (is_some (at_number c.advances numbe
 -- ---- all plans
 
 submit_told : (c : Cluster) (e : Event) (options : Given) (words : List (List ℕ)) (script : List ℕ)
-    → AreTold (option_faults c e options (submitter e options) ++ join_faults c e options ++ size_faults c (tasks_of options) words script)
+    → AreTold (option_faults c e options (submitter e options) ++ join_faults c e options ++ size_faults c (submitted_tasks options) words script)
 submit_told c e options words script =
-    both (option_faults c e options (submitter e options) ++ join_faults c e options) (size_faults c (tasks_of options) words script)
+    both (option_faults c e options (submitter e options) ++ join_faults c e options) (size_faults c (submitted_tasks options) words script)
     (both (option_faults c e options (submitter e options)) (join_faults c e options) (option_told c e options (submitter e options)) (join_told c e options)) (over _)
 
 targets_told : (c : Cluster) (e : Event) (picks : List Pick) → AreTold (flat_map (target_faults c e) picks)
@@ -152,7 +152,7 @@ targets_told c e picks = each (target_faults c e) (λ pick. target_told c e pick
 command_told : (c : Cluster) (e : Event) (asked : Command) → Answers (command_plan c e asked)
 unfolding submit_plan alter_plan delete_plan clear_plan hold_plan release_plan remove_plan print_plan load_plan end_plan orders_plan task_plan stop_plan sched_plan book_plan unbook_plan show_booked_plan
 command_told c e (Command.Submit options words script) =
-    checked (option_faults c e options.items (submitter e options.items) ++ join_faults c e options.items ++ size_faults c (tasks_of options.items) words script) (submitted e (job_of c e options.items words script))
+    checked (option_faults c e options.items (submitter e options.items) ++ join_faults c e options.items ++ size_faults c (submitted_tasks options.items) words script) (submission_answer e (submitted_job c e options.items words script))
     (submit_told c e options.items words script) refl
 command_told c e (Command.Alter options numbers) =
     let patches = patches_of c options.items numbers in
@@ -163,9 +163,9 @@ command_told c e (Command.Delete force picks) =
     checked (flat_map (target_faults c e) picks ++ when (force && not (is_operator c e.user)) NotPermitted) (changed e (Delete picks force) (removed_line force (named_jobs c picks) ∷ []))
     (both (flat_map (target_faults c e) picks) (when (force && not (is_operator c e.user)) NotPermitted) (targets_told c e picks) (forbidden _)) refl
 command_told c e (Command.Hold bits numbers) =
-    let once = each_number_once numbers in checked (hold_plan_faults c e bits numbers) (held e (Hold once bits) once) (hold_told c e bits numbers) refl
+    let once = each_number_once numbers in checked (hold_plan_faults c e bits numbers) (hold_answer e (Hold once bits) once) (hold_told c e bits numbers) refl
 command_told c e (Command.Release bits numbers) =
-    let once = each_number_once numbers in checked (hold_plan_faults c e bits numbers) (held e (Release once bits) once) (hold_told c e bits numbers) refl
+    let once = each_number_once numbers in checked (hold_plan_faults c e bits numbers) (hold_answer e (Release once bits) once) (hold_told c e bits numbers) refl
 command_told c e (Command.Clear picks) =
     checked (flat_map (target_faults c e) picks) (changed e (Clear picks) (cleared_line (named_jobs c picks) ∷ [])) (targets_told c e picks) refl
 command_told c e (Command.Show what) = show_told c e what
@@ -173,14 +173,14 @@ command_told c e (Command.Account what) = account_told c what
 command_told c e (Command.Add sort text) = add_told c e sort text
 command_told c e (Command.Modify sort text) = text_told c e sort false text
 command_told c e (Command.Remove key) =
-    checked (manager_faults c e ++ remove_faults c key.kind key.name) (changed e (Drop key) done) (both (manager_faults c e) (remove_faults c key.kind key.name) (forbidden _) (remove_told c e key.kind key.name)) refl
+    checked (manager_faults c e ++ remove_faults c key.kind key.name) (changed e (Drop key) done_lines) (both (manager_faults c e) (remove_faults c key.kind key.name) (forbidden _) (remove_told c e key.kind key.name)) refl
 command_told c e (Command.Print key) = print_told c (item_at c key.kind key.name)
 command_told c e (Command.Load host pairs) =
     let faults = flat_map (report_faults c) pairs in
-    checked (manager_faults c e ++ host_faults c host ++ faults) (changed e (Load host (report_of c pairs)) done)
+    checked (manager_faults c e ++ host_faults c host ++ faults) (changed e (Load host (report_of c pairs)) done_lines)
     (both (manager_faults c e ++ host_faults c host) faults (search (both, forbidden, absent, bad)) (each (report_faults c) (report_told c e) pairs)) refl
 command_told c e (Command.End serial exit cpu mem io) =
-    checked (manager_faults c e ++ serial_faults c serial ++ end_faults exit cpu mem io) (changed e (End serial exit cpu mem io) done)
+    checked (manager_faults c e ++ serial_faults c serial ++ end_faults exit cpu mem io) (changed e (End serial exit cpu mem io) done_lines)
     (both (manager_faults c e ++ serial_faults c serial) (end_faults exit cpu mem io) (both (manager_faults c e) (serial_faults c serial) (forbidden _) (serial_told c e serial)) (bad _)) refl
 command_told c e Command.Sched =
     checked (manager_faults c e) (decided e (decisions_at c e.moment)) (forbidden _) refl
@@ -189,7 +189,7 @@ command_told c e (Command.Orders host) =
 command_told c e (Command.JobOf serial) =
     checked (manager_faults c e ++ when (is_none (running_with c.jobs serial)) NoSuchObject) (shown (task_lines c serial)) (search (both, forbidden, absent)) refl
 command_told c e Command.Stop =
-    checked (manager_faults c e) (record (shown done) { stop = true }) (forbidden _) refl
+    checked (manager_faults c e) (record (shown done_lines) { stop = true }) (forbidden _) refl
 command_told c e (Command.Book options) =
     let asked = advance_asked c e options.items in
     answered (book_faults c e options.items) (booked c e asked (advance_grants c e.moment asked)) (book_told c e options.items) (booked_told c e asked (advance_grants c e.moment asked))

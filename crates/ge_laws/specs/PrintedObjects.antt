@@ -17,7 +17,7 @@ use Rattle.ge_model_config.specs.Printing.{printed as printed_lines, values_text
 use Rattle.ge_model_config.specs.Reading.{item_of}
 use Rattle.ge_model_config.specs.Settings.{formula_faults}
 use Rattle.ge_model_jobs.specs.Configuring.{with_item}
-use Rattle.ge_model_core.specs.Answers.{changed, done, shown, unless_faulty}
+use Rattle.ge_model_core.specs.Answers.{changed, done_lines, shown, unless_faulty}
 use Rattle.ge_model_core.specs.Configuring.{manager_faults, modify_plan, print_plan}
 use Rattle.ge_model_core.specs.Plan.{plan_of}
 use Rattle.ge_model_core.specs.Trace.{cluster_after}
@@ -70,5 +70,5 @@ name_of _ = []
 pub record IsShownAgain (moment : ℕ) (c : Cluster) (kind : ObjectKind) (thing : Item) (ended : Bool) : Type 0 where
   pub printed : print_plan (with_item moment c thing) (record { kind = kind; name = name_of thing }) ≡ shown (printed_lines (with_item moment c thing) thing)
   pub accepted : (e : Event) → modify_plan (with_item moment c thing) e kind (printed_text ended (with_item moment c thing) thing)
-      ≡ unless_faulty (manager_faults (with_item moment c thing) e) (changed e (Put thing) done)
+      ≡ unless_faulty (manager_faults (with_item moment c thing) e) (changed e (Put thing) done_lines)
   pub same : (later : ℕ) → with_item later (with_item moment c thing) thing ≡ with_item moment c thing

@@ -23,13 +23,14 @@ pub use order::{
 };
 pub use plans::{
     accepted_changes_have_entries, accounting_lines_only_grow, only_an_accepted_stop_stops,
-    plans_never_want_memory,
+    plans_never_want_memory, replies_tell_want_of_memory,
 };
 pub use printed::{printed_objects_read_back, shown_objects_are_taken_again, tables_have_names};
 pub use rules::{
     cycles_are_found_by_enough_steps, demands_are_those_of_the_rule,
-    held_tasks_are_held_one_by_one, share_tickets_are_those_of_the_rule,
-    texts_are_commands_or_refused,
+    held_tasks_are_held_one_by_one, joined_picks_are_those_written, orders_are_gathered_by_serial,
+    overrides_are_looked_up, refusals_of_parts_answer_together, serials_are_the_first_met,
+    share_tickets_are_those_of_the_rule, texts_are_commands_or_refused,
 };
 pub use runs::{
     advances_keep_limits, placements_follow_their_rule, reservations_are_at_the_first_moment,

@@ -1,13 +1,15 @@
 //! Plans: what an event is answered with, and what it changes.
-ghost use Rattle.std.specs.Prelude.{◌≡◌, ◌≢◌, ℕ, ◌&&◌, Bool, IfSome, List, is_some};
+ghost use Rattle.std.specs.Prelude.{◌≡◌, ◌≢◌, ℕ, ◌&&◌, Bool, true, IfSome, List, is_some, flat_map};
+ghost use Rattle.std.specs.List.{list_all};
 ghost use Rattle.ge_rows.specs.declared.cluster.Cluster.{Cluster};
 ghost use Rattle.ge_rows.specs.declared.entries.Entry.{Entry};
 ghost use Rattle.ge_rows.specs.declared.events.Event.{Event};
 ghost use Rattle.ge_model_jobs.specs.Applying.{after_entry};
 ghost use Rattle.ge_model_core.specs.Plan.{event_command, plan_of};
-ghost use Rattle.ge_model_core.specs.Trace.{cluster_after};
+ghost use Rattle.ge_model_core.specs.Render.{rendered};
+ghost use Rattle.ge_model_core.specs.Trace.{cluster_after, output};
 ghost use Rattle.ge_laws.specs.PlannedEvents.{asks_for_change, asks_for_stop};
-ghost use Rattle.ge_laws.specs.PlannedEvents.{is_accepted, IsFrontOf};
+ghost use Rattle.ge_laws.specs.PlannedEvents.{is_accepted, IsFrontOf, replies_of, tells_memory};
 
 /// An event has an entry exactly where it is accepted and its command changes the cluster, which is each command but
 /// the queries and `qconf -km`. The entry's moment is the event's.
@@ -36,4 +38,14 @@ pub fn accounting_lines_only_grow()
 /// found no memory and changed nothing, and no other does.
 pub fn plans_never_want_memory()
     ensures { (c : Cluster) (e : Event) → (plan_of c e).reply.code ≢ 99 }
+{}
+
+/// What is written for events is their replies, one after the other; and the replies with the code 99 are those whose
+/// events found no memory: whoever reads the replies knows which events changed nothing for want of it.
+pub fn replies_tell_want_of_memory()
+    ensures written { (c : Cluster) (events : List Event) (marks : List Bool)
+        → output plan_of c events marks
+        ≡ flat_map (λ reply. rendered reply.1) (replies_of c events marks) }
+    ensures told { (c : Cluster) (events : List Event) (marks : List Bool)
+        → list_all tells_memory (replies_of c events marks) ≡ true }
 {}

@@ -9,15 +9,7 @@ ghost use Rattle.ge_rows.specs.declared.events.Event.{Event};
 ghost use Rattle.ge_rows.specs.declared.settings.Sched.{Sched};
 ghost use Rattle.ge_rows.specs.declared.values.ComplexDef.{ComplexDef};
 ghost use Rattle.ge_rows.specs.declared.values.Value.{Value};
-ghost use Rattle.ge_laws.specs.PrintedObjects.{
-  EndsPlainly,
-  IsListed,
-  IsNamed,
-  IsReadAs,
-  IsShownAgain,
-  printed_text,
-  reached,
-};
+ghost use Rattle.ge_laws.specs.PrintedObjects.{EndsPlainly, IsListed, IsNamed, IsReadAs, IsShownAgain, printed_text, reached};
 
 /// Wherever events lead from the opening cluster, tables have names alone, and the default load formula is one.
 pub fn tables_have_names()

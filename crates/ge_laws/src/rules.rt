@@ -1,7 +1,22 @@
 //! Forms that a program can keep, and the rules in their own words: where a definition is written so that a fast
 //! program can meet it, it gives just what the rule says.
-ghost use Rattle.std.specs.Prelude.{◌≡◌, ◌≤◌, ◌-◌, ◌^◌, ◌&&◌, ℕ, List, length, not, true, false};
-ghost use Rattle.std.specs.Prelude.{Err, []};
+ghost use Rattle.std.specs.Prelude.{◌≡◌, ◌≤◌, ◌-◌, ◌^◌, ◌&&◌, ◌++◌, ℕ, Bool, List, length, not, true, false};
+ghost use Rattle.std.specs.Prelude.{Err, [], Option, unwrap_or, fold};
+ghost use Rattle.std.specs.List.{list_any};
+ghost use Rattle.std.specs.Map.{lookup, values_of};
+ghost use Rattle.std.specs.Option.{option_or};
+ghost use Rattle.ge_base.specs.declared.refusal.Refusal.{Refusal};
+ghost use Rattle.ge_collections.specs.Keyed.{at_number, text_eq};
+ghost use Rattle.ge_rows.specs.declared.entries.Pick.{Pick};
+ghost use Rattle.ge_rows.specs.declared.queues.Attr.{Attr};
+ghost use Rattle.ge_rows.specs.declared.tasks.TaskSpan.{TaskSpan};
+ghost use Rattle.ge_model_value.specs.Faults.{first_fault, sooner};
+ghost use Rattle.ge_model_site.specs.Groups.{is_group, group_has};
+ghost use Rattle.ge_model_site.specs.Queues.{attr_at};
+ghost use Rattle.ge_model_jobs.specs.Ending.{without_picked};
+ghost use Rattle.ge_model_jobs.specs.Picks.{joined_picks, both_named, picks_task, is_joined_name, IsPick, ArePicks};
+ghost use Rattle.ge_model_jobs.specs.Serials.{running_with, met_with};
+ghost use Rattle.ge_model_report.specs.Orders.{orders_of, with_texts_of};
 ghost use Rattle.ge_base.specs.declared.refusal.Refusal.TheVariants.{TooLong};
 ghost use Rattle.ge_rows.specs.declared.cluster.Cluster.{Cluster};
 ghost use Rattle.ge_rows.specs.declared.entries.Patch.{Patch};
@@ -61,4 +76,44 @@ pub fn texts_are_commands_or_refused()
         → parsed text ≡ Err TooLong }
     ensures short { (text : List ℕ) → has_long_line (lines_of text) ≡ false
         → parsed text ≡ in_grammar (command_of text) }
+{}
+
+/// Refusals of two parts answer as the sooner of what answers to each part, so a reader keeps one refusal alone.
+pub fn refusals_of_parts_answer_together()
+    ensures { (first second : List Refusal)
+        → first_fault (first ++ second) ≡ sooner (first_fault first) (first_fault second) }
+{}
+
+/// Picks that are joined job by job name a task where one of them as written does; and a job that loses the tasks of two
+/// picks, one after the other, is the job that loses those of both together (`qdel`).
+pub fn joined_picks_are_those_written()
+    ensures names { (number task : ℕ) (picks : List Pick) → ArePicks picks
+        → is_joined_name (at_number (joined_picks picks) number) task
+        ≡ list_any (picks_task number task) picks }
+    ensures twice { (force : Bool) (first tasks : Option (List TaskSpan)) (job : Job)
+        → IsPick first → IsPick tasks → IsOrderly job
+        → without_picked force tasks (without_picked force first job)
+        ≡ without_picked force (both_named first tasks) job }
+{}
+
+/// The running task of a serial is the first that a walk over all jobs and their running tasks meets.
+pub fn serials_are_the_first_met()
+    ensures { (jobs : List (ℕ × Job)) (serial : ℕ)
+        → running_with jobs serial ≡ met_with jobs serial }
+{}
+
+/// The orders of a host are the texts that a table by serial, job and task gathers one by one.
+pub fn orders_are_gathered_by_serial()
+    ensures { (c : Cluster) (host : List ℕ)
+        → orders_of c host ≡ values_of (fold (with_texts_of host) [] c.jobs) }
+{}
+
+/// An attribute at a host is what is looked up under the host, else under a group that has it, else the plain value
+/// (`queue_conf`).
+pub fn overrides_are_looked_up<T>()
+    ensures { (attr : Attr T) (groups : Groups) (host : List ℕ)
+        → attr_at attr groups host
+        ≡ unwrap_or (option_or (lookup (text_eq host) attr.overrides)
+        (lookup (λ name. is_group name && group_has groups name host) attr.overrides))
+        attr.plain }
 {}

@@ -10,8 +10,8 @@ use Rattle.ge_model_command.specs.Commands.{begins_with_dash, name_option, submi
 use Rattle.ge_model_command.specs.Commands as built
 use Rattle.ge_model_grammar.specs.Lines.{begins_with}
 use Rattle.ge_model_grammar.specs.Options.{Given}
-use Rattle.ge_model_grammar.specs.Shapes.{qsub_shapes, read_options, options_from, words_behind, merged}
-use Rattle.ge_model_grammar.specs.Commands.{command_in, submission, submit_of, script_options, show_of}
+use Rattle.ge_model_grammar.specs.Shapes.{qsub_shapes, read_options, options_from, words_behind, merged_options}
+use Rattle.ge_model_grammar.specs.Commands.{command_in, submission, submit_command, script_options, show_command}
 
 -- what a test lets through
 pub let_through : {A : Type 0} (test : Bool) (found : Option A) (x : A) → cond test found None ≡ Some x → (test ≡ true) × (found ≡ Some x)
@@ -63,14 +63,14 @@ unfolding script_options
 no_script = refl
 
 -- a name that is given is the one option that counts
-name_counts : (name : List ℕ) → merged ((codes "-N", name ∷ []) ∷ []) ≡ (codes "-N", name ∷ []) ∷ []
-unfolding merged
+name_counts : (name : List ℕ) → merged_options ((codes "-N", name ∷ []) ∷ []) ≡ (codes "-N", name ∷ []) ∷ []
+unfolding merged_options
 name_counts name = refl
 
 -- qsub with a name and a command submits them
 submitted : (name word : List ℕ) (words : List (List ℕ)) → is_job_name name ≡ true → begins_with_dash word ≡ false
-    → submit_of (codes "-N" ∷ name ∷ word ∷ words) [] ≡ Some (Submit (name_option name) (word ∷ words) [])
-unfolding submit_of
+    → submit_command (codes "-N" ∷ name ∷ word ∷ words) [] ≡ Some (Submit (name_option name) (word ∷ words) [])
+unfolding submit_command
 submitted name word words named plain =
     ap {B = Option Command} (λ (script : Option Given). elim script as (λ o. Option Command) [
       | None ↦ None
@@ -80,7 +80,7 @@ submitted name word words named plain =
     ∙ ap {B = Option Command} (λ items. Some (Submit (record { items = items }) (word ∷ words) [])) (name_counts name))
 
 -- what the program reads behind qsub is in the grammar
-submission_same : (words : List (List ℕ)) (command : Command) → submission_of words ≡ Some command → submit_of words [] ≡ Some command
+submission_same : (words : List (List ℕ)) (command : Command) → submission_of words ≡ Some command → submit_command words [] ≡ Some command
 submission_same [] command same = absurd (cc)
 submission_same (option ∷ []) command same = absurd (cc)
 submission_same (option ∷ name ∷ []) command same = absurd (cc)
@@ -89,7 +89,7 @@ submission_same (option ∷ name ∷ word ∷ words) command same =
     let outer = and_parts (bytes_eq option (codes "-N") && is_job_name name) (not (begins_with_dash word)) passed.0 in
     let inner = and_parts (bytes_eq option (codes "-N")) (is_job_name name) outer.0 in
     let named : option ≡ codes "-N" = (bytes_eq-Decides option (codes "-N")).0 inner.0 in
-    subst (λ (text : List ℕ). submit_of (text ∷ name ∷ word ∷ words) [] ≡ Some command) (sym named)
+    subst (λ (text : List ℕ). submit_command (text ∷ name ∷ word ∷ words) [] ≡ Some command) (sym named)
     (submitted name word words inner.1 (not-true (begins_with_dash word) outer.1) ∙ passed.1)
 
 -- sched alone runs the scheduler
@@ -99,7 +99,7 @@ sched_same (word ∷ words) command same = absurd (cc)
 
 -- qstat alone lists all jobs
 show_same : (words : List (List ℕ)) (command : Command) → alone all_jobs words ≡ Some command → command_in (codes "qstat" ∷ words) [] ≡ Some command
-unfolding show_of
+unfolding show_command
 show_same [] command same = same
 show_same (word ∷ words) command same = absurd (cc)
 

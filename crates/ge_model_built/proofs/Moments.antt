@@ -6,7 +6,7 @@ use Rattle.std.proofs.lemmas.Bool.{ltb-true}
 use Rattle.ge_model_rows.specs.EventRows.{Event, TooLong}
 use Rattle.ge_model_script.specs.Lines.{bare, is_too_long, lines_of, requests_of}
 use Rattle.ge_model_script.specs.Names.{is_name}
-use Rattle.ge_model_script.specs.Header.{is_decimal, decimal_value, moment_of, fields_of, field, after_field, header_of}
+use Rattle.ge_model_script.specs.Header.{is_decimal, decimal_value, moment_of, fields_of, header_field, after_field, header_parts}
 use Rattle.ge_model_script.specs.Events.{unread, with_header, event_in, event_of, events_of}
 
 -- a moment is below 2^40
@@ -32,12 +32,12 @@ fields_soon (Some moment) user group soon = by (is_name user && is_name group)
     by true = soon
     by false = tt
 
-header_soon : (text : List ℕ) → IfSome (header_of text) HasMoment
+header_soon : (text : List ℕ) → IfSome (header_parts text) HasMoment
 header_soon [] = tt
 header_soon (b ∷ text) = by (b == 64)
   where
-    by : (at : Bool) → IfSome (cond at (fields_of (moment_of (field text)) (field (after_field text)) (after_field (after_field text))) None) HasMoment
-    by true = fields_soon (moment_of (field text)) (field (after_field text)) (after_field (after_field text)) (moments_soon (field text))
+    by : (at : Bool) → IfSome (cond at (fields_of (moment_of (header_field text)) (header_field (after_field text)) (after_field (after_field text))) None) HasMoment
+    by true = fields_soon (moment_of (header_field text)) (header_field (after_field text)) (after_field (after_field text)) (moments_soon (header_field text))
     by false = tt
 
 with_header_soon : (header : Option (ℕ × List ℕ × List ℕ)) (texts : List (List ℕ)) → IfSome header HasMoment → IsSoon (with_header header texts).moment
@@ -46,7 +46,7 @@ with_header_soon (Some (moment, user, group)) texts soon = soon
 
 event_soon : (lines : List (List ℕ)) → IsSoon (event_in lines).moment
 event_soon [] = omega arith
-event_soon (header ∷ texts) = with_header_soon (header_of (bare header)) texts (header_soon (bare header))
+event_soon (header ∷ texts) = with_header_soon (header_parts (bare header)) texts (header_soon (bare header))
 
 request_soon : (request : List ℕ) → IsSoon (event_of request).moment
 request_soon request = by (is_too_long request)

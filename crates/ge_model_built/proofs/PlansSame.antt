@@ -9,7 +9,8 @@ use Rattle.ge_model_rows.specs.EntryRows.{Entry}
 use Rattle.ge_model_rows.specs.EventRows.{Event, Form, Planned}
 use Rattle.ge_model_bookings.specs.Bookings.{forever}
 use Rattle.ge_model_script.specs.Lines.{is_too_long}
-use Rattle.ge_model_plan.specs.Refusals.{refused}
+use Rattle.ge_model_core.specs.Forms.{is_cut}
+use Rattle.ge_model_core.specs.Refusals.{refused}
 use Rattle.ge_model_listing.specs.Listing as first_listing
 use Rattle.ge_model_plan.specs.Plan as first
 use Rattle.ge_model_plan.specs.Trace as first_trace
@@ -74,13 +75,13 @@ module _ (c : Cluster) (e : Event) (is : IsEarly c) where
   pub plan_same : e.moment < forever → first.plan_of c e ≡ built_plan_of c e
   unfolding first.plan_of built_plan_of
   plan_same before =
-      ap (λ planned. cond (first.is_cut e.form || is_too_long e.text) (refused TooLong) planned)
+      ap (λ planned. cond (is_cut e.form || is_too_long e.text) (refused TooLong) planned)
       (timely_same before (first.event_command e.form e.text) (event_built e.form) ∙ ap (whole.timely_plan c e) (sym (event_command_same e.form e.text)))
 
   -- and leaves the cluster early
   pub plan_stays : StaysEarly c (first.plan_of c e)
   unfolding first.plan_of
-  plan_stays = by (first.is_cut e.form || is_too_long e.text)
+  plan_stays = by (is_cut e.form || is_too_long e.text)
     where
       by : (long : Bool) → StaysEarly c (cond long (refused TooLong) (first.timely_plan c e (first.event_command e.form e.text)))
       by true = record { same = refl; early = is }

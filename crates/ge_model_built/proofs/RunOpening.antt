@@ -11,7 +11,7 @@ use Rattle.ge_model_run.specs.Placing as first
 use Rattle.ge_model_place.specs.InstanceOrder.{instance_order}
 use Rattle.ge_model_place.specs.Limits.{Counted, counted_at, demands_of}
 use Rattle.ge_model_place.specs.Opening.{is_open, reaches_threshold}
-use Rattle.ge_model_place.specs.Windows.{duration_of, end_from}
+use Rattle.ge_model_place.specs.Windows.{duration_of, window_end_from}
 use Rattle.ge_model_built.specs.Early.{Counts, Brief, the_instance, the_grants, early_job, early_jobs, early}
 
 -- no host groups
@@ -98,7 +98,7 @@ module _ (n : Counts) (briefs : List Brief) where
   early-first_duration_of b = refl
 
   -- its window never ends
-  pub early-end_from : (b : Brief) (from : ℕ) → end_from (early n briefs) (early_job b) from ≡ forever
+  pub early-end_from : (b : Brief) (from : ℕ) → window_end_from (early n briefs) (early_job b) from ≡ forever
   unfolding early opening
   early-end_from b from = refl
 

@@ -13,7 +13,7 @@ use Rattle.ge_model_run.specs.Running as run
 use Rattle.ge_model_place.specs.Running as placing
 use Rattle.ge_model_order.specs.Priority.{prios_at, order_of}
 use Rattle.ge_model_plan.specs.Access.{is_manager}
-use Rattle.ge_model_plan.specs.Refusals.{first_refusal, unless_refused}
+use Rattle.ge_model_core.specs.Refusals.{first_refusal, unless_refused}
 use Rattle.ge_model_value.specs.Faults.{first_fault, when}
 use Rattle.ge_model_plan.specs.Sched as first
 use Rattle.ge_model_plan.specs.Trace as trace

@@ -15,7 +15,7 @@ use Rattle.ge_model_cluster.specs.Applying as first_applying
 use Rattle.ge_model_jobs.specs.Altering as whole_altering
 use Rattle.ge_model_jobs.specs.Applying as whole_applying
 use Rattle.ge_model_plan.proofs.SoundnessLists.{all_weaker, all_append, put_last}
-use Rattle.ge_model_plan.specs.Refusals.{first_refusal, unless_refused}
+use Rattle.ge_model_core.specs.Refusals.{first_refusal, unless_refused}
 use Rattle.ge_model_plan.specs.Submit as first
 use Rattle.ge_model_built.specs.Early.{Brief, Counts, IsEarly, early, early_job, early_row, early_jobs, AreRising}
 use Rattle.ge_model_built.proofs.SubmitSame.{named, submitted_brief, first_job}

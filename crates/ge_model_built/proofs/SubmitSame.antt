@@ -5,7 +5,7 @@ use Rattle.ge_base.specs.declared.refusal.Refusal.TheVariants.{Limit}
 use Rattle.ge_model_rows.specs.ClusterRows.{Cluster, opening_cluster}
 use Rattle.ge_model_rows.specs.EntryRows.{Submit}
 use Rattle.ge_model_rows.specs.EventRows.{Event}
-use Rattle.ge_model_plan.specs.Refusals.{first_refusal, unless_refused}
+use Rattle.ge_model_core.specs.Refusals.{first_refusal, unless_refused}
 use Rattle.ge_model_plan.specs.Submit as first
 use Rattle.ge_model_value.specs.Complexes.{opening}
 use Rattle.ge_model_value.specs.Faults.{when, first_fault}
@@ -49,8 +49,8 @@ first_job n briefs e name words = refl
 
 -- the job of the whole model
 pub whole_job : (n : Counts) (briefs : List Brief) (e : Event) (name : List ℕ) (words : List (List ℕ))
-    → whole.job_of (early n briefs) e (named name) words [] ≡ early_job (submitted_brief n.next_job e name words)
-unfolding whole.job_of early
+    → whole.submitted_job (early n briefs) e (named name) words [] ≡ early_job (submitted_brief n.next_job e name words)
+unfolding whole.submitted_job early
 whole_job n briefs e name words = refl
 
 -- options with -N alone have no faults
@@ -60,7 +60,7 @@ no_option_faults c e name = refl
 
 -- the bounds on what a cluster holds, in the whole model
 faults_of_size : (n : Counts) (briefs : List Brief) (e : Event) (name : List ℕ) (words : List (List ℕ))
-    → whole.size_faults (early n briefs) (whole.tasks_of (named name)) words []
+    → whole.size_faults (early n briefs) (whole.submitted_tasks (named name)) words []
     ≡ when ((nat_le 100000 (length (early_jobs briefs)) || nat_lt 4294967294 n.next_job || nat_lt 1024 (length words))
     || nat_lt 268435456 (sum_by whole.script_length (early_jobs briefs) + 0)
     || nat_lt 1000000 (sum_by whole.live_count (early_jobs briefs) + 0 + 1)) Limit
@@ -69,21 +69,21 @@ faults_of_size n briefs e name words = refl
 
 -- the first refusal of the whole model is the one of the first path
 faults_same : (n : Counts) (briefs : List Brief) (e : Event) (name : List ℕ) (words : List (List ℕ))
-    → first_fault (option_faults (early n briefs) e (named name) (whole.submitter e (named name)) ++ join_faults (early n briefs) e (named name) ++ whole.size_faults (early n briefs) (whole.tasks_of (named name)) words [])
+    → first_fault (option_faults (early n briefs) e (named name) (whole.submitter e (named name)) ++ join_faults (early n briefs) e (named name) ++ whole.size_faults (early n briefs) (whole.submitted_tasks (named name)) words [])
     ≡ first.submit_refusal (early n briefs) words
 unfolding early
 faults_same n briefs e name words =
-    ap (λ faults. first_fault (faults ++ join_faults (early n briefs) e (named name) ++ whole.size_faults (early n briefs) (whole.tasks_of (named name)) words [])) (no_option_faults (early n briefs) e name)
+    ap (λ faults. first_fault (faults ++ join_faults (early n briefs) e (named name) ++ whole.size_faults (early n briefs) (whole.submitted_tasks (named name)) words [])) (no_option_faults (early n briefs) e name)
     ∙ ap first_fault (faults_of_size n briefs e name words)
     ∙ refusals_same (nat_le 100000 (length (early_jobs briefs))) (nat_lt 4294967294 n.next_job) (nat_lt 1024 (length words)) _ _ (scripts_within briefs) (tasks_within briefs)
 
 -- what both answer where they accept
 accepted_same : (n : Counts) (briefs : List Brief) (e : Event) (name : List ℕ) (words : List (List ℕ))
-    → whole.submitted e (whole.job_of (early n briefs) e (named name) words [])
+    → whole.submission_answer e (whole.submitted_job (early n briefs) e (named name) words [])
     ≡ changed e (Submit (first.job_of (early n briefs) e (named name) words)) (first.submitted_line n.next_job name ∷ [])
 accepted_same n briefs e name words =
     let b : Brief = submitted_brief n.next_job e name words in
-    ap (whole.submitted e) (whole_job n briefs e name words)
+    ap (whole.submission_answer e) (whole_job n briefs e name words)
     ∙ ap (λ line. changed e (Submit (early_job b)) (line ∷ [])) (line_same b)
     ∙ ap (λ job. changed e (Submit job) (first.submitted_line n.next_job name ∷ [])) (sym (first_job n briefs e name words))
 
@@ -92,7 +92,7 @@ pub submits_same : (n : Counts) (briefs : List Brief) (e : Event) (name : List �
     → first.submit_plan (early n briefs) e (record { items = named name }) words ≡ whole.submit_plan (early n briefs) e (named name) words []
 unfolding first.submit_plan whole.submit_plan early
 submits_same n briefs e name words = sym (
-    ap (λ faults. unless_refused faults (whole.submitted e (whole.job_of (early n briefs) e (named name) words []))) (faults_same n briefs e name words)
+    ap (λ faults. unless_refused faults (whole.submission_answer e (whole.submitted_job (early n briefs) e (named name) words []))) (faults_same n briefs e name words)
     ∙ ap (unless_refused (first.submit_refusal (early n briefs) words)) (accepted_same n briefs e name words))
 
 -- the same, of a cluster that is early

@@ -5,7 +5,7 @@ use Rattle.ge_model_rows.specs.ClusterRows.{Cluster, opening_cluster}
 use Rattle.ge_model_rows.specs.EventRows.{Event, Planned}
 use Rattle.ge_outside.specs.Streams.{Gains, GainsPrefix}
 use Rattle.ge_model_script.specs.Events.{events_of}
-use Rattle.ge_model_plan.specs.Render.{rendered}
+use Rattle.ge_model_core.specs.Render.{rendered}
 use Rattle.ge_model_plan.specs.Trace as first
 use Rattle.ge_model_value.specs.Complexes.{opening}
 use Rattle.ge_model_core.specs.Built.{built_plan_of}

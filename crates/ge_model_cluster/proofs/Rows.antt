@@ -6,7 +6,7 @@ use Rattle.std.proofs.lemmas.Bool.{true≢false, false≢true, eqb-true}
 use Rattle.ge_model_rows.specs.ClusterRows.{Cluster, opening_cluster}
 use Rattle.ge_model_rows.specs.JobRows.{Job, Running, Advance}
 use Rattle.ge_model_rows.specs.TaskRows.{TaskSpan}
-use Rattle.ge_model_cluster.specs.Soundness.{IsSound, IsBooked, is_in_span}
+use Rattle.ge_model_jobs.specs.Soundness.{IsSound, IsBooked, is_in_span}
 
 abbrev span : ℕ → ℕ → ℕ → TaskSpan
 span first last step = record { first = first; last = last; step = step }

@@ -18,8 +18,8 @@ use Rattle.ge_model_codec.specs.Configured.{complex_def_code, complex_def_code_1
 use Rattle.ge_model_codec.specs.Jobs.{job_code, job_code_1, advance_code, line_code}
 
 -- the order of usage keys: by first difference
-abbrev pub usage_cmp : (List ℕ × List ℕ × ℕ) → (List ℕ × List ℕ × ℕ) → Ordering
-usage_cmp x y = ordering_then (ordering_then (text_cmp x.0 y.0) (text_cmp x.1 y.1)) (nat_cmp x.2 y.2)
+abbrev pub usage_key_cmp : (List ℕ × List ℕ × ℕ) → (List ℕ × List ℕ × ℕ) → Ordering
+usage_key_cmp x y = ordering_then (ordering_then (text_cmp x.0 y.0) (text_cmp x.1 y.1)) (nat_cmp x.2 y.2)
 
 -- who may do what, the jobs, and what was used; with this code of a job
 abbrev pub Work : Type 0
@@ -32,7 +32,7 @@ abbrev pub work_code : Code Job → Code Work
 work_code job = triple_code
     (pair_code texts_code texts_code)
     (table_code nat_cmp u32_code job)
-    (pair_code (table_code usage_cmp (triple_code text_code text_code u64_code) u128_code) (list_code line_code))
+    (pair_code (table_code usage_key_cmp (triple_code text_code text_code u64_code) u128_code) (list_code line_code))
 
 -- the fields of a cluster before `next_advance`; with these codes of a row of the complex table and of a job
 abbrev pub ClusterFront : Type 0

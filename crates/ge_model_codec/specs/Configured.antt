@@ -20,16 +20,16 @@ value_parts (Value.Amount a) = inl a
 value_parts (Value.Flag a) = inr (inl a)
 value_parts (Value.Word a) = inr (inr a)
 
-abbrev pub value_of : ValueParts → Value
-value_of (inl x) = Value.Amount x
-value_of (inr (inl x)) = Value.Flag x
-value_of (inr (inr x)) = Value.Word x
+abbrev pub value_from_parts : ValueParts → Value
+value_from_parts (inl x) = Value.Amount x
+value_from_parts (inr (inl x)) = Value.Flag x
+value_from_parts (inr (inr x)) = Value.Word x
 
 abbrev pub value_cases : Cases ValueParts
 value_cases = u64_code ⊕ bool_code ⊕ last_case text_code
 
 abbrev pub value_code : Code Value
-value_code = row_code (cases_code value_cases) value_parts value_of
+value_code = row_code (cases_code value_cases) value_parts value_from_parts
 
 -- a kind
 abbrev pub KindParts : Type 0
@@ -48,16 +48,16 @@ kind_parts Kind.CStr = inr (inr (inr (inr (inr (inr (inl tt))))))
 kind_parts Kind.ReStr = inr (inr (inr (inr (inr (inr (inr (inl tt)))))))
 kind_parts Kind.Host = inr (inr (inr (inr (inr (inr (inr (inr tt)))))))
 
-abbrev pub kind_of : KindParts → Kind
-kind_of (inl u) = Kind.Int
-kind_of (inr (inl u)) = Kind.Time
-kind_of (inr (inr (inl u))) = Kind.Memory
-kind_of (inr (inr (inr (inl u)))) = Kind.Double
-kind_of (inr (inr (inr (inr (inl u))))) = Kind.Bool
-kind_of (inr (inr (inr (inr (inr (inl u)))))) = Kind.Str
-kind_of (inr (inr (inr (inr (inr (inr (inl u))))))) = Kind.CStr
-kind_of (inr (inr (inr (inr (inr (inr (inr (inl u)))))))) = Kind.ReStr
-kind_of (inr (inr (inr (inr (inr (inr (inr (inr u)))))))) = Kind.Host
+abbrev pub kind_from_parts : KindParts → Kind
+kind_from_parts (inl u) = Kind.Int
+kind_from_parts (inr (inl u)) = Kind.Time
+kind_from_parts (inr (inr (inl u))) = Kind.Memory
+kind_from_parts (inr (inr (inr (inl u)))) = Kind.Double
+kind_from_parts (inr (inr (inr (inr (inl u))))) = Kind.Bool
+kind_from_parts (inr (inr (inr (inr (inr (inl u)))))) = Kind.Str
+kind_from_parts (inr (inr (inr (inr (inr (inr (inl u))))))) = Kind.CStr
+kind_from_parts (inr (inr (inr (inr (inr (inr (inr (inl u)))))))) = Kind.ReStr
+kind_from_parts (inr (inr (inr (inr (inr (inr (inr (inr u)))))))) = Kind.Host
 
 abbrev pub kind_cases : Cases KindParts
 kind_cases =
@@ -65,7 +65,7 @@ kind_cases =
     empty_code ⊕ empty_code ⊕ empty_code ⊕ empty_code ⊕ last_case empty_code
 
 abbrev pub kind_code : Code Kind
-kind_code = row_code (cases_code kind_cases) kind_parts kind_of
+kind_code = row_code (cases_code kind_cases) kind_parts kind_from_parts
 
 -- a relational operator
 abbrev pub RelopParts : Type 0
@@ -79,19 +79,19 @@ relop_parts Relop.Le = inr (inr (inr (inl tt)))
 relop_parts Relop.Gt = inr (inr (inr (inr (inl tt))))
 relop_parts Relop.Ge = inr (inr (inr (inr (inr tt))))
 
-abbrev pub relop_of : RelopParts → Relop
-relop_of (inl u) = Relop.Eq
-relop_of (inr (inl u)) = Relop.Ne
-relop_of (inr (inr (inl u))) = Relop.Lt
-relop_of (inr (inr (inr (inl u)))) = Relop.Le
-relop_of (inr (inr (inr (inr (inl u))))) = Relop.Gt
-relop_of (inr (inr (inr (inr (inr u))))) = Relop.Ge
+abbrev pub relop_from_parts : RelopParts → Relop
+relop_from_parts (inl u) = Relop.Eq
+relop_from_parts (inr (inl u)) = Relop.Ne
+relop_from_parts (inr (inr (inl u))) = Relop.Lt
+relop_from_parts (inr (inr (inr (inl u)))) = Relop.Le
+relop_from_parts (inr (inr (inr (inr (inl u))))) = Relop.Gt
+relop_from_parts (inr (inr (inr (inr (inr u))))) = Relop.Ge
 
 abbrev pub relop_cases : Cases RelopParts
 relop_cases = empty_code ⊕ empty_code ⊕ empty_code ⊕ empty_code ⊕ empty_code ⊕ last_case empty_code
 
 abbrev pub relop_code : Code Relop
-relop_code = row_code (cases_code relop_cases) relop_parts relop_of
+relop_code = row_code (cases_code relop_cases) relop_parts relop_from_parts
 
 -- whether jobs may ask
 abbrev pub RequestableParts : Type 0
@@ -102,16 +102,16 @@ requestable_parts Requestable.No = inl tt
 requestable_parts Requestable.Yes = inr (inl tt)
 requestable_parts Requestable.Forced = inr (inr tt)
 
-abbrev pub requestable_of : RequestableParts → Requestable
-requestable_of (inl u) = Requestable.No
-requestable_of (inr (inl u)) = Requestable.Yes
-requestable_of (inr (inr u)) = Requestable.Forced
+abbrev pub requestable_from_parts : RequestableParts → Requestable
+requestable_from_parts (inl u) = Requestable.No
+requestable_from_parts (inr (inl u)) = Requestable.Yes
+requestable_from_parts (inr (inr u)) = Requestable.Forced
 
 abbrev pub requestable_cases : Cases RequestableParts
 requestable_cases = empty_code ⊕ empty_code ⊕ last_case empty_code
 
 abbrev pub requestable_code : Code Requestable
-requestable_code = row_code (cases_code requestable_cases) requestable_parts requestable_of
+requestable_code = row_code (cases_code requestable_cases) requestable_parts requestable_from_parts
 
 -- whether it is consumed
 abbrev pub ConsumableParts : Type 0
@@ -122,21 +122,21 @@ consumable_parts Consumable.No = inl tt
 consumable_parts Consumable.Yes = inr (inl tt)
 consumable_parts Consumable.Job = inr (inr tt)
 
-abbrev pub consumable_of : ConsumableParts → Consumable
-consumable_of (inl u) = Consumable.No
-consumable_of (inr (inl u)) = Consumable.Yes
-consumable_of (inr (inr u)) = Consumable.Job
+abbrev pub consumable_from_parts : ConsumableParts → Consumable
+consumable_from_parts (inl u) = Consumable.No
+consumable_from_parts (inr (inl u)) = Consumable.Yes
+consumable_from_parts (inr (inr u)) = Consumable.Job
 
 abbrev pub consumable_cases : Cases ConsumableParts
 consumable_cases = empty_code ⊕ empty_code ⊕ last_case empty_code
 
 abbrev pub consumable_code : Code Consumable
-consumable_code = row_code (cases_code consumable_cases) consumable_parts consumable_of
+consumable_code = row_code (cases_code consumable_cases) consumable_parts consumable_from_parts
 
 -- the first so many of these
 abbrev pub first_consumables_code : ℕ → Code Consumable
 first_consumables_code count =
-    row_code (cases_code (first_cases count consumable_cases)) consumable_parts consumable_of
+    row_code (cases_code (first_cases count consumable_cases)) consumable_parts consumable_from_parts
 
 -- the same before a complex could be consumed per job: NO and YES
 abbrev pub consumable_code_1 : Code Consumable
@@ -220,17 +220,17 @@ allocation_parts Allocation.PeSlots = inr (inl tt)
 allocation_parts Allocation.FillUp = inr (inr (inl tt))
 allocation_parts Allocation.RoundRobin = inr (inr (inr tt))
 
-abbrev pub allocation_of : AllocationParts → Allocation
-allocation_of (inl x) = Allocation.Fixed x
-allocation_of (inr (inl u)) = Allocation.PeSlots
-allocation_of (inr (inr (inl u))) = Allocation.FillUp
-allocation_of (inr (inr (inr u))) = Allocation.RoundRobin
+abbrev pub allocation_from_parts : AllocationParts → Allocation
+allocation_from_parts (inl x) = Allocation.Fixed x
+allocation_from_parts (inr (inl u)) = Allocation.PeSlots
+allocation_from_parts (inr (inr (inl u))) = Allocation.FillUp
+allocation_from_parts (inr (inr (inr u))) = Allocation.RoundRobin
 
 abbrev pub allocation_cases : Cases AllocationParts
 allocation_cases = u32_code ⊕ empty_code ⊕ empty_code ⊕ last_case empty_code
 
 abbrev pub allocation_code : Code Allocation
-allocation_code = row_code (cases_code allocation_cases) allocation_parts allocation_of
+allocation_code = row_code (cases_code allocation_cases) allocation_parts allocation_from_parts
 
 -- urgency slots
 abbrev pub UrgencySlotsParts : Type 0
@@ -242,17 +242,17 @@ urgency_slots_parts UrgencySlots.Min = inr (inl tt)
 urgency_slots_parts UrgencySlots.Max = inr (inr (inl tt))
 urgency_slots_parts UrgencySlots.Avg = inr (inr (inr tt))
 
-abbrev pub urgency_slots_of : UrgencySlotsParts → UrgencySlots
-urgency_slots_of (inl x) = UrgencySlots.Fixed x
-urgency_slots_of (inr (inl u)) = UrgencySlots.Min
-urgency_slots_of (inr (inr (inl u))) = UrgencySlots.Max
-urgency_slots_of (inr (inr (inr u))) = UrgencySlots.Avg
+abbrev pub urgency_slots_from_parts : UrgencySlotsParts → UrgencySlots
+urgency_slots_from_parts (inl x) = UrgencySlots.Fixed x
+urgency_slots_from_parts (inr (inl u)) = UrgencySlots.Min
+urgency_slots_from_parts (inr (inr (inl u))) = UrgencySlots.Max
+urgency_slots_from_parts (inr (inr (inr u))) = UrgencySlots.Avg
 
 abbrev pub urgency_slots_cases : Cases UrgencySlotsParts
 urgency_slots_cases = u32_code ⊕ empty_code ⊕ empty_code ⊕ last_case empty_code
 
 abbrev pub urgency_slots_code : Code UrgencySlots
-urgency_slots_code = row_code (cases_code urgency_slots_cases) urgency_slots_parts urgency_slots_of
+urgency_slots_code = row_code (cases_code urgency_slots_cases) urgency_slots_parts urgency_slots_from_parts
 
 -- a parallel environment
 abbrev pub pe_row_code : Code PeRow
@@ -323,15 +323,15 @@ abbrev pub sort_method_parts : SortMethod → SortMethodParts
 sort_method_parts SortMethod.Load = inl tt
 sort_method_parts SortMethod.Seqno = inr tt
 
-abbrev pub sort_method_of : SortMethodParts → SortMethod
-sort_method_of (inl u) = SortMethod.Load
-sort_method_of (inr u) = SortMethod.Seqno
+abbrev pub sort_method_from_parts : SortMethodParts → SortMethod
+sort_method_from_parts (inl u) = SortMethod.Load
+sort_method_from_parts (inr u) = SortMethod.Seqno
 
 abbrev pub sort_method_cases : Cases SortMethodParts
 sort_method_cases = empty_code ⊕ last_case empty_code
 
 abbrev pub sort_method_code : Code SortMethod
-sort_method_code = row_code (cases_code sort_method_cases) sort_method_parts sort_method_of
+sort_method_code = row_code (cases_code sort_method_cases) sort_method_parts sort_method_from_parts
 
 -- the settings of the scheduler
 abbrev pub sched_code : Code Sched

@@ -84,20 +84,20 @@ item_parts (Item.Sched a) = inr (inr (inr (inr (inr (inr (inr (inr (inr (inr (in
 item_parts (Item.Managers a) = inr (inr (inr (inr (inr (inr (inr (inr (inr (inr (inr (inl a)))))))))))
 item_parts (Item.Operators a) = inr (inr (inr (inr (inr (inr (inr (inr (inr (inr (inr (inr a)))))))))))
 
-abbrev pub item_of : ItemParts → Item
-item_of (inl x) = Item.Complexes x
-item_of (inr (inl x)) = Item.Host x.0 x.1
-item_of (inr (inr (inl x))) = Item.Group x.0 x.1
-item_of (inr (inr (inr (inl x)))) = Item.Queue x.0 x.1
-item_of (inr (inr (inr (inr (inl x))))) = Item.Pe x.0 x.1
-item_of (inr (inr (inr (inr (inr (inl x)))))) = Item.Quota x.0 x.1
-item_of (inr (inr (inr (inr (inr (inr (inl x))))))) = Item.Set x.0 x.1
-item_of (inr (inr (inr (inr (inr (inr (inr (inl x)))))))) = Item.User x.0 x.1
-item_of (inr (inr (inr (inr (inr (inr (inr (inr (inl x))))))))) = Item.Project x.0 x.1
-item_of (inr (inr (inr (inr (inr (inr (inr (inr (inr (inl x)))))))))) = Item.Shares x
-item_of (inr (inr (inr (inr (inr (inr (inr (inr (inr (inr (inl x))))))))))) = Item.Sched x
-item_of (inr (inr (inr (inr (inr (inr (inr (inr (inr (inr (inr (inl x)))))))))))) = Item.Managers x
-item_of (inr (inr (inr (inr (inr (inr (inr (inr (inr (inr (inr (inr x)))))))))))) = Item.Operators x
+abbrev pub item_from_parts : ItemParts → Item
+item_from_parts (inl x) = Item.Complexes x
+item_from_parts (inr (inl x)) = Item.Host x.0 x.1
+item_from_parts (inr (inr (inl x))) = Item.Group x.0 x.1
+item_from_parts (inr (inr (inr (inl x)))) = Item.Queue x.0 x.1
+item_from_parts (inr (inr (inr (inr (inl x))))) = Item.Pe x.0 x.1
+item_from_parts (inr (inr (inr (inr (inr (inl x)))))) = Item.Quota x.0 x.1
+item_from_parts (inr (inr (inr (inr (inr (inr (inl x))))))) = Item.Set x.0 x.1
+item_from_parts (inr (inr (inr (inr (inr (inr (inr (inl x)))))))) = Item.User x.0 x.1
+item_from_parts (inr (inr (inr (inr (inr (inr (inr (inr (inl x))))))))) = Item.Project x.0 x.1
+item_from_parts (inr (inr (inr (inr (inr (inr (inr (inr (inr (inl x)))))))))) = Item.Shares x
+item_from_parts (inr (inr (inr (inr (inr (inr (inr (inr (inr (inr (inl x))))))))))) = Item.Sched x
+item_from_parts (inr (inr (inr (inr (inr (inr (inr (inr (inr (inr (inr (inl x)))))))))))) = Item.Managers x
+item_from_parts (inr (inr (inr (inr (inr (inr (inr (inr (inr (inr (inr (inr x)))))))))))) = Item.Operators x
 
 -- with this code of the rows of the complex table
 abbrev pub item_cases : Code ComplexDef → Cases ItemParts
@@ -117,11 +117,11 @@ item_cases complex =
     last_case texts_code
 
 -- an object of this variant, its fields read at a place
-abbrev pub item_at : Code ComplexDef → ℕ → List ℕ → ℕ → Reading Item
-item_at complex tag bytes at = made item_of ((item_cases complex).read_as tag bytes at)
+abbrev pub item_read_at : Code ComplexDef → ℕ → List ℕ → ℕ → Reading Item
+item_read_at complex tag bytes at = made item_from_parts ((item_cases complex).read_as tag bytes at)
 
 abbrev pub item_code_with : Code ComplexDef → Code Item
-item_code_with complex = row_code (cases_code (item_cases complex)) item_parts item_of
+item_code_with complex = row_code (cases_code (item_cases complex)) item_parts item_from_parts
 
 abbrev pub item_code : Code Item
 item_code = item_code_with complex_def_code
@@ -150,20 +150,20 @@ object_kind_parts ObjectKind.Sched = inr (inr (inr (inr (inr (inr (inr (inr (inr
 object_kind_parts ObjectKind.Managers = inr (inr (inr (inr (inr (inr (inr (inr (inr (inr (inr (inl tt)))))))))))
 object_kind_parts ObjectKind.Operators = inr (inr (inr (inr (inr (inr (inr (inr (inr (inr (inr (inr tt)))))))))))
 
-abbrev pub object_kind_of : ObjectKindParts → ObjectKind
-object_kind_of (inl u) = ObjectKind.Complexes
-object_kind_of (inr (inl u)) = ObjectKind.Host
-object_kind_of (inr (inr (inl u))) = ObjectKind.Group
-object_kind_of (inr (inr (inr (inl u)))) = ObjectKind.Queue
-object_kind_of (inr (inr (inr (inr (inl u))))) = ObjectKind.Pe
-object_kind_of (inr (inr (inr (inr (inr (inl u)))))) = ObjectKind.Quota
-object_kind_of (inr (inr (inr (inr (inr (inr (inl u))))))) = ObjectKind.Set
-object_kind_of (inr (inr (inr (inr (inr (inr (inr (inl u)))))))) = ObjectKind.User
-object_kind_of (inr (inr (inr (inr (inr (inr (inr (inr (inl u))))))))) = ObjectKind.Project
-object_kind_of (inr (inr (inr (inr (inr (inr (inr (inr (inr (inl u)))))))))) = ObjectKind.Shares
-object_kind_of (inr (inr (inr (inr (inr (inr (inr (inr (inr (inr (inl u))))))))))) = ObjectKind.Sched
-object_kind_of (inr (inr (inr (inr (inr (inr (inr (inr (inr (inr (inr (inl u)))))))))))) = ObjectKind.Managers
-object_kind_of (inr (inr (inr (inr (inr (inr (inr (inr (inr (inr (inr (inr u)))))))))))) = ObjectKind.Operators
+abbrev pub object_kind_from_parts : ObjectKindParts → ObjectKind
+object_kind_from_parts (inl u) = ObjectKind.Complexes
+object_kind_from_parts (inr (inl u)) = ObjectKind.Host
+object_kind_from_parts (inr (inr (inl u))) = ObjectKind.Group
+object_kind_from_parts (inr (inr (inr (inl u)))) = ObjectKind.Queue
+object_kind_from_parts (inr (inr (inr (inr (inl u))))) = ObjectKind.Pe
+object_kind_from_parts (inr (inr (inr (inr (inr (inl u)))))) = ObjectKind.Quota
+object_kind_from_parts (inr (inr (inr (inr (inr (inr (inl u))))))) = ObjectKind.Set
+object_kind_from_parts (inr (inr (inr (inr (inr (inr (inr (inl u)))))))) = ObjectKind.User
+object_kind_from_parts (inr (inr (inr (inr (inr (inr (inr (inr (inl u))))))))) = ObjectKind.Project
+object_kind_from_parts (inr (inr (inr (inr (inr (inr (inr (inr (inr (inl u)))))))))) = ObjectKind.Shares
+object_kind_from_parts (inr (inr (inr (inr (inr (inr (inr (inr (inr (inr (inl u))))))))))) = ObjectKind.Sched
+object_kind_from_parts (inr (inr (inr (inr (inr (inr (inr (inr (inr (inr (inr (inl u)))))))))))) = ObjectKind.Managers
+object_kind_from_parts (inr (inr (inr (inr (inr (inr (inr (inr (inr (inr (inr (inr u)))))))))))) = ObjectKind.Operators
 
 abbrev pub object_kind_cases : Cases ObjectKindParts
 object_kind_cases =
@@ -171,7 +171,7 @@ object_kind_cases =
     empty_code ⊕ empty_code ⊕ empty_code ⊕ empty_code ⊕ empty_code ⊕ empty_code ⊕ last_case empty_code
 
 abbrev pub object_kind_code : Code ObjectKind
-object_kind_code = row_code (cases_code object_kind_cases) object_kind_parts object_kind_of
+object_kind_code = row_code (cases_code object_kind_cases) object_kind_parts object_kind_from_parts
 
 -- the name of an object
 abbrev pub key_code : Code Key
@@ -212,20 +212,20 @@ change_parts (Change.Run a) = inr (inr (inr (inr (inr (inr (inr (inr (inr (inr (
 change_parts (Change.Book a) = inr (inr (inr (inr (inr (inr (inr (inr (inr (inr (inr (inl a)))))))))))
 change_parts (Change.Unbook a) = inr (inr (inr (inr (inr (inr (inr (inr (inr (inr (inr (inr a)))))))))))
 
-abbrev pub change_of : ChangeParts → Change
-change_of (inl x) = Change.Submit x
-change_of (inr (inl x)) = Change.Alter x
-change_of (inr (inr (inl x))) = Change.Hold x.0 x.1
-change_of (inr (inr (inr (inl x)))) = Change.Release x.0 x.1
-change_of (inr (inr (inr (inr (inl x))))) = Change.Delete x.0 x.1
-change_of (inr (inr (inr (inr (inr (inl x)))))) = Change.Clear x
-change_of (inr (inr (inr (inr (inr (inr (inl x))))))) = Change.Put x
-change_of (inr (inr (inr (inr (inr (inr (inr (inl x)))))))) = Change.Drop x
-change_of (inr (inr (inr (inr (inr (inr (inr (inr (inl x))))))))) = Change.Load x.0 x.1
-change_of (inr (inr (inr (inr (inr (inr (inr (inr (inr (inl x)))))))))) = Change.End x.0 x.1 x.2 x.3 x.4
-change_of (inr (inr (inr (inr (inr (inr (inr (inr (inr (inr (inl x))))))))))) = Change.Run x
-change_of (inr (inr (inr (inr (inr (inr (inr (inr (inr (inr (inr (inl x)))))))))))) = Change.Book x
-change_of (inr (inr (inr (inr (inr (inr (inr (inr (inr (inr (inr (inr x)))))))))))) = Change.Unbook x
+abbrev pub change_from_parts : ChangeParts → Change
+change_from_parts (inl x) = Change.Submit x
+change_from_parts (inr (inl x)) = Change.Alter x
+change_from_parts (inr (inr (inl x))) = Change.Hold x.0 x.1
+change_from_parts (inr (inr (inr (inl x)))) = Change.Release x.0 x.1
+change_from_parts (inr (inr (inr (inr (inl x))))) = Change.Delete x.0 x.1
+change_from_parts (inr (inr (inr (inr (inr (inl x)))))) = Change.Clear x
+change_from_parts (inr (inr (inr (inr (inr (inr (inl x))))))) = Change.Put x
+change_from_parts (inr (inr (inr (inr (inr (inr (inr (inl x)))))))) = Change.Drop x
+change_from_parts (inr (inr (inr (inr (inr (inr (inr (inr (inl x))))))))) = Change.Load x.0 x.1
+change_from_parts (inr (inr (inr (inr (inr (inr (inr (inr (inr (inl x)))))))))) = Change.End x.0 x.1 x.2 x.3 x.4
+change_from_parts (inr (inr (inr (inr (inr (inr (inr (inr (inr (inr (inl x))))))))))) = Change.Run x
+change_from_parts (inr (inr (inr (inr (inr (inr (inr (inr (inr (inr (inr (inl x)))))))))))) = Change.Book x
+change_from_parts (inr (inr (inr (inr (inr (inr (inr (inr (inr (inr (inr (inr x)))))))))))) = Change.Unbook x
 
 -- with these codes of a job and of an object
 abbrev pub change_cases : Code Job → Code Item → Cases ChangeParts
@@ -246,15 +246,15 @@ change_cases job object =
 
 -- a change of this variant, its fields read at a place
 abbrev pub change_at : Code Job → Code Item → ℕ → List ℕ → ℕ → Reading Change
-change_at job object tag bytes at = made change_of ((change_cases job object).read_as tag bytes at)
+change_at job object tag bytes at = made change_from_parts ((change_cases job object).read_as tag bytes at)
 
 abbrev pub change_code : Code Change
-change_code = row_code (cases_code (change_cases job_code item_code)) change_parts change_of
+change_code = row_code (cases_code (change_cases job_code item_code)) change_parts change_from_parts
 
 -- the first so many changes, with these codes of a job and of an object
 abbrev pub first_changes_code : ℕ → Code Job → Code Item → Code Change
 first_changes_code count job object =
-    row_code (cases_code (first_cases count (change_cases job object))) change_parts change_of
+    row_code (cases_code (first_cases count (change_cases job object))) change_parts change_from_parts
 
 -- a change before there were advance reservations: none is booked or taken back
 abbrev pub change_code_1 : Code Change

@@ -91,8 +91,8 @@ job_parts r = (
   r.advance,
 )
 
-abbrev pub job_of : JobFront × ℕ → Job
-job_of p = record {
+abbrev pub job_from_parts : JobFront × ℕ → Job
+job_from_parts p = record {
   number = p.0.0.0;
   name = p.0.0.1;
   owner = p.0.0.2;
@@ -122,7 +122,7 @@ job_of p = record {
 
 -- a job, with this code of its last field
 abbrev pub job_code_with : Code ℕ → Code Job
-job_code_with advance = row_code (job_front_code ⊗ advance) job_parts job_of
+job_code_with advance = row_code (job_front_code ⊗ advance) job_parts job_from_parts
 
 -- a job
 abbrev pub job_code : Code Job

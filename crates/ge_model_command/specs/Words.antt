@@ -2,7 +2,7 @@
 use Rattle.std.specs.Prelude.{ℕ, Bool, false, not, ◌||◌, ◌==◌, List, [], ◌∷◌, length, filter}
 use Rattle.std.specs.List.{list_all, list_any, slice_split}
 use Rattle.std.specs.Int.{is_in_range}
-use Rattle.ge_model_script.specs.Header.{is_blank}
+use Rattle.ge_model_text.specs.Words.{is_blank}
 
 -- a command line has bytes that print, blanks and tabs
 abbrev pub is_command_byte : ℕ → Bool

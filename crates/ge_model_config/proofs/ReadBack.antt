@@ -14,7 +14,7 @@ use Rattle.ge_model_grammar.specs.declared.Body.{Body}
 use Rattle.ge_model_grammar.specs.declared.Body.TheVariants.{Attributes}
 use Rattle.ge_model_grammar.specs.Bodies.{body_of}
 use Rattle.ge_model_grammar.specs.Configuring.{is_group_name}
-use Rattle.ge_model_config.specs.Cited.{is_named, cited, is_host_or_group}
+use Rattle.ge_model_config.specs.Cited.{has_name, cited, is_host_or_group}
 use Rattle.ge_model_config.specs.Named.{name_faults}
 use Rattle.ge_model_config.specs.Objects.{loops_among, is_member_name}
 use Rattle.ge_model_config.specs.Reading.{item_of}
@@ -50,7 +50,7 @@ pub record IsUser (name : List ℕ) (user : UserRow) : Type 0 where
 -- user sets that the cluster has
 pub record AreSets (c : Cluster) (sets : List (List ℕ)) : Type 0 where
   pub listed : IsList sets
-  pub known : cited (is_named c.sets) sets ≡ []
+  pub known : cited (has_name c.sets) sets ≡ []
 
 -- a project
 pub record IsProject (c : Cluster) (name : List ℕ) (project : ProjectRow) : Type 0 where

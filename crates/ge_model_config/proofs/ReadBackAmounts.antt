@@ -10,8 +10,8 @@ use Rattle.ge_model_text.specs.declared.Progress.{Progress}
 use Rattle.ge_model_text.specs.declared.Progress.TheVariants.{Whole, Minutes, Seconds, Part}
 use Rattle.ge_model_text.specs.declared.ValueFault.{ValueFault}
 use Rattle.ge_model_text.specs.declared.ValueFault.TheVariants.{Digit}
-use Rattle.ge_model_text.specs.Reading.{cut, bounded, if_occurs, reading_from, reading}
-use Rattle.ge_model_text.specs.Value.{is_digit, unit_at, number_after, number}
+use Rattle.ge_model_text.specs.Reading.{amount_cut, bounded, if_occurs, reading_from, reading}
+use Rattle.ge_model_text.specs.Value.{is_digit, unit_at, number_with_digits, number}
 use Rattle.ge_model_value.specs.Values.{digit_at, fixed_text, clock_text}
 use Rattle.ge_model_tasks.proofs.Digits.{decimal_digits, decimal_number, all_digits}
 use Rattle.ge_model_config.proofs.ReadBackNumbers.{GoesOn, decimal_on, cut_twice, within_limit}
@@ -20,7 +20,7 @@ use Rattle.ge_model_config.proofs.ReadBackNumbers.{GoesOn, decimal_on, cut_twice
 
 -- minutes and seconds behind a colon
 minutes_on : (hours n place : ℕ) (digits rest : List ℕ) → list_all is_digit digits ≡ true
-    → GoesOn form.Time (Minutes hours (cut (number_after n digits))) rest (reading_from form.Time (Minutes hours (cut n)) place (digits ++ rest))
+    → GoesOn form.Time (Minutes hours (amount_cut (number_with_digits n digits))) rest (reading_from form.Time (Minutes hours (amount_cut n)) place (digits ++ rest))
 minutes_on hours n place [] rest all = (place, refl)
 minutes_on hours n place (b ∷ digits) rest all =
     let parts = and_parts (is_digit b) (list_all is_digit digits) all in
@@ -32,7 +32,7 @@ minutes_on hours n place (b ∷ digits) rest all =
     )
 
 seconds_on : (hours minutes n place : ℕ) (digits : List ℕ) → list_all is_digit digits ≡ true
-    → reading_from form.Time (Seconds hours minutes (cut n)) place digits ≡ bounded (cut (3600 * hours + 60 * minutes + cut (number_after n digits)))
+    → reading_from form.Time (Seconds hours minutes (amount_cut n)) place digits ≡ bounded (amount_cut (3600 * hours + 60 * minutes + amount_cut (number_with_digits n digits)))
 seconds_on hours minutes n place [] all = refl
 seconds_on hours minutes n place (b ∷ digits) all =
     let parts = and_parts (is_digit b) (list_all is_digit digits) all in
@@ -45,7 +45,7 @@ digits_of n = all_digits (decimal n) (decimal_digits n)
 
 -- ---- times
 
-clock_worth : (n : ℕ) → n < 2 ^ 48 → 3600 * cut (n / 3600) + 60 * cut (n / 60 % 60) + cut (n % 60) ≡ n
+clock_worth : (n : ℕ) → n < 2 ^ 48 → 3600 * amount_cut (n / 3600) + 60 * amount_cut (n / 60 % 60) + amount_cut (n % 60) ≡ n
 clock_worth n small =
     let hours : n / 60 / 60 ≡ n / 3600 = div-div-eq-div-mul n 60 60 in
     let minutes = div-add-mod' (n / 60) 60 in
@@ -58,21 +58,21 @@ clock_back n small =
     ap (reading form.Time) (append_assoc (decimal (n / 3600) ++ codes ":" ++ decimal (n / 60 % 60)) (codes ":") (decimal (n % 60)) ∙ append_assoc (decimal (n / 3600) ++ codes ":") (decimal (n / 60 % 60)) seconds ∙ append_assoc (decimal (n / 3600)) (codes ":") (decimal (n / 60 % 60) ++ seconds))
     ∙ hours.1
     ∙ minutes.1
-    ∙ ap (λ z. reading_from form.Time (Minutes (cut (n / 3600)) (cut z)) minutes.0 seconds) (decimal_number (n / 60 % 60) (omega arith))
-    ∙ seconds_on (cut (n / 3600)) (cut (n / 60 % 60)) 0 (minutes.0 + 1) (decimal (n % 60)) (digits_of (n % 60))
-    ∙ ap (λ z. bounded (cut (3600 * cut (n / 3600) + 60 * cut (n / 60 % 60) + cut z))) (decimal_number (n % 60) (omega arith))
-    ∙ ap (λ z. bounded (cut z)) (clock_worth n small)
+    ∙ ap (λ z. reading_from form.Time (Minutes (amount_cut (n / 3600)) (amount_cut z)) minutes.0 seconds) (decimal_number (n / 60 % 60) (omega arith))
+    ∙ seconds_on (amount_cut (n / 3600)) (amount_cut (n / 60 % 60)) 0 (minutes.0 + 1) (decimal (n % 60)) (digits_of (n % 60))
+    ∙ ap (λ z. bounded (amount_cut (3600 * amount_cut (n / 3600) + 60 * amount_cut (n / 60 % 60) + amount_cut z))) (decimal_number (n % 60) (omega arith))
+    ∙ ap (λ z. bounded (amount_cut z)) (clock_worth n small)
     ∙ within_limit n small
   where
     seconds : List ℕ
     seconds = codes ":" ++ decimal (n % 60)
 
-    hours : GoesOn form.Time (Whole (cut (n / 3600))) (codes ":" ++ (decimal (n / 60 % 60) ++ seconds)) (reading form.Time (decimal (n / 3600) ++ (codes ":" ++ (decimal (n / 60 % 60) ++ seconds))))
+    hours : GoesOn form.Time (Whole (amount_cut (n / 3600))) (codes ":" ++ (decimal (n / 60 % 60) ++ seconds)) (reading form.Time (decimal (n / 3600) ++ (codes ":" ++ (decimal (n / 60 % 60) ++ seconds))))
     hours = decimal_on form.Time (n / 3600) (codes ":" ++ (decimal (n / 60 % 60) ++ seconds)) (omega arith)
 
-    minutes : GoesOn form.Time (Minutes (cut (n / 3600)) (cut (number (decimal (n / 60 % 60))))) seconds
-        (reading_from form.Time (Minutes (cut (n / 3600)) (cut 0)) (hours.0 + 1) (decimal (n / 60 % 60) ++ seconds))
-    minutes = minutes_on (cut (n / 3600)) 0 (hours.0 + 1) (decimal (n / 60 % 60)) seconds (digits_of (n / 60 % 60))
+    minutes : GoesOn form.Time (Minutes (amount_cut (n / 3600)) (amount_cut (number (decimal (n / 60 % 60))))) seconds
+        (reading_from form.Time (Minutes (amount_cut (n / 3600)) (amount_cut 0)) (hours.0 + 1) (decimal (n / 60 % 60) ++ seconds))
+    minutes = minutes_on (amount_cut (n / 3600)) 0 (hours.0 + 1) (decimal (n / 60 % 60)) seconds (digits_of (n / 60 % 60))
 
 -- ---- bytes
 
@@ -80,14 +80,14 @@ clock_back n small =
 pub bytes_back : (n : ℕ) → n < 2 ^ 48 → reading form.Memory (decimal n) ≡ Ok n
 bytes_back n small = ap (reading form.Memory) (sym (append-nil (decimal n))) ∙ whole.1 ∙ within_limit n small
   where
-    whole : GoesOn form.Memory (Whole (cut n)) [] (reading form.Memory (decimal n ++ []))
+    whole : GoesOn form.Memory (Whole (amount_cut n)) [] (reading form.Memory (decimal n ++ []))
     whole = decimal_on form.Memory n [] (omega arith)
 
 -- ---- six decimals
 
 -- a digit behind the point
 part_on : (whole millionths count place b : ℕ) (rest : List ℕ) → is_digit b ≡ true → nat_lt count 6 ≡ true
-    → reading_from form.Fixed (Part whole millionths count) place (b ∷ rest) ≡ reading_from form.Fixed (Part whole (cut (millionths + (b - 48) * unit_at count)) (count + 1)) (place + 1) rest
+    → reading_from form.Fixed (Part whole millionths count) place (b ∷ rest) ≡ reading_from form.Fixed (Part whole (amount_cut (millionths + (b - 48) * unit_at count)) (count + 1)) (place + 1) rest
 part_on whole millionths count place b rest digit few =
     ap (λ (z : Option Progress). elim (if_occurs form.Fixed z) as (λ x. Result ℕ ValueFault) [ None ↦ Err (Digit place) | Some after ↦ reading_from form.Fixed after (place + 1) rest ])
     (cond-true (is_digit b) _ _ digit ∙ cond-true (nat_lt count 6) _ _ few)
@@ -100,8 +100,8 @@ digit_on : (n unit whole millionths count place : ℕ) (rest : List ℕ) → nat
     → reading_from form.Fixed (Part whole millionths count) place (digit_at n unit ∷ rest) ≡ reading_from form.Fixed (Part whole (millionths + n / unit % 10 * unit) (count + 1)) (place + 1) rest
 digit_on n unit whole millionths count place rest few same low little =
     part_on whole millionths count place (digit_at n unit) rest (is_a_digit (n / unit % 10) small) few
-    ∙ ap (λ z. reading_from form.Fixed (Part whole (cut (millionths + (digit_at n unit - 48) * z)) (count + 1)) (place + 1) rest) same
-    ∙ ap (λ z. reading_from form.Fixed (Part whole (cut (millionths + z * unit)) (count + 1)) (place + 1) rest) worth
+    ∙ ap (λ z. reading_from form.Fixed (Part whole (amount_cut (millionths + (digit_at n unit - 48) * z)) (count + 1)) (place + 1) rest) same
+    ∙ ap (λ z. reading_from form.Fixed (Part whole (amount_cut (millionths + z * unit)) (count + 1)) (place + 1) rest) worth
     ∙ ap (λ z. reading_from form.Fixed (Part whole z (count + 1)) (place + 1) rest) uncut
   where
     small : n / unit % 10 < 10
@@ -113,14 +113,14 @@ digit_on n unit whole millionths count place rest few same low little =
     bound : n / unit % 10 * unit ≤ 9 * 100000
     bound = mul-le-mul (let s = small in let most : n / unit % 10 ≤ 9 = omega arith in most) low
 
-    uncut : cut (millionths + n / unit % 10 * unit) ≡ millionths + n / unit % 10 * unit
+    uncut : amount_cut (millionths + n / unit % 10 * unit) ≡ millionths + n / unit % 10 * unit
     uncut = let b = bound in omega arith
 
 tenths : (n unit : ℕ) → n / unit ≡ n / (unit * 10) * 10 + n / unit % 10
 tenths n unit = sym (ap (λ z. z * 10 + n / unit % 10) (sym (div-div-eq-div-mul n unit 10)) ∙ div-add-mod' (n / unit) 10)
 
 fixed_worth : (n : ℕ) → n < 2 ^ 48
-    → cut (1000000 * cut (n / million) + (0 + n / 100000 % 10 * 100000 + n / 10000 % 10 * 10000 + n / 1000 % 10 * 1000 + n / 100 % 10 * 100 + n / 10 % 10 * 10 + n / 1 % 10 * 1)) ≡ cut n
+    → amount_cut (1000000 * amount_cut (n / million) + (0 + n / 100000 % 10 * 100000 + n / 10000 % 10 * 10000 + n / 1000 % 10 * 1000 + n / 100 % 10 * 100 + n / 10 % 10 * 10 + n / 1 % 10 * 1)) ≡ amount_cut n
 fixed_worth n small =
     let one = tenths n 1 in
     let two = tenths n 10 in
@@ -129,7 +129,7 @@ fixed_worth n small =
     let five = tenths n 10000 in
     let six = tenths n 100000 in
     let same : n / 1 ≡ n = omega arith in
-    ap cut (omega arith)
+    ap amount_cut (omega arith)
 
 -- a number with six decimals
 pub fixed_back : (n : ℕ) → n < 2 ^ 48 → reading form.Fixed (fixed_text n) ≡ Ok n
@@ -146,7 +146,7 @@ fixed_back n small =
     ∙ within_limit n small
   where
     w : ℕ
-    w = cut (n / million)
+    w = amount_cut (n / million)
 
     digits : List ℕ
     digits = map (digit_at n) (100000 ∷ 10000 ∷ 1000 ∷ 100 ∷ 10 ∷ 1 ∷ [])

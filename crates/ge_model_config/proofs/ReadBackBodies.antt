@@ -11,8 +11,8 @@ use Rattle.ge_model_grammar.specs.Lines.{is_plain_byte, is_plain_line, text_line
 use Rattle.ge_model_grammar.specs.Attributes.{known_attributes, naming_attributes}
 use Rattle.ge_model_grammar.specs.declared.Body.{Body}
 use Rattle.ge_model_grammar.specs.declared.Body.TheVariants.{Attributes}
-use Rattle.ge_model_grammar.specs.Bodies.{counts, joined_lines, body_lines, attribute_line, has_attribute, with_attribute, attributes_after, if_named, attribute_body, body_in, body_of}
-use Rattle.ge_model_config.specs.Printing.{attribute_line as printed_line}
+use Rattle.ge_model_grammar.specs.Bodies.{counts, joined_lines, body_lines, attribute_line, has_attribute, with_attribute, attributes_after, if_named, attribute_body, body_of_lines, body_of}
+use Rattle.ge_model_config.specs.Printing.{printed_attribute as printed_line}
 use Rattle.ge_model_config.proofs.ReadBackTexts.{is_printing_byte, is_printing, is_shown, shown_bytes, all_weaker, shown_plain, plain_without_feed, not_joined, shown_printing, shown_whole, trimmed_between, trimmed_shown, word_before, text_behind}
 
 -- ---- lines
@@ -68,13 +68,13 @@ all_counted (line ∷ lines) ended all =
 
 -- lines that are put together are cut again
 pub lines_back : (kind : ObjectKind) (line : List ℕ) (lines : List (List ℕ)) (ended : Bool) → AreLines (line ∷ lines) → AreWhole ended (line ∷ lines)
-    → body_of kind (text_of_lines ended (line ∷ lines)) ≡ body_in kind (line ∷ lines)
+    → body_of kind (text_of_lines ended (line ∷ lines)) ≡ body_of_lines kind (line ∷ lines)
 unfolding body_of
 lines_back kind line lines ended all whole =
-    ap (λ z. if list_all is_plain_line z then body_in kind (filter counts (joined_lines [] z)) else None) cut
-    ∙ ap (λ z. if z then body_in kind (filter counts (joined_lines [] (line ∷ (lines ++ closing ended)))) else None) (all_plain (line ∷ lines) ended all)
-    ∙ ap (λ z. body_in kind (filter counts z)) (none_joined [] (line ∷ lines) ended (refl, whole))
-    ∙ ap (body_in kind) (all_counted (line ∷ lines) ended all)
+    ap (λ z. if list_all is_plain_line z then body_of_lines kind (filter counts (joined_lines [] z)) else None) cut
+    ∙ ap (λ z. if z then body_of_lines kind (filter counts (joined_lines [] (line ∷ (lines ++ closing ended)))) else None) (all_plain (line ∷ lines) ended all)
+    ∙ ap (λ z. body_of_lines kind (filter counts z)) (none_joined [] (line ∷ lines) ended (refl, whole))
+    ∙ ap (body_of_lines kind) (all_counted (line ∷ lines) ended all)
   where
     cut : text_lines (text_of_lines ended (line ∷ lines)) ≡ line ∷ (lines ++ closing ended)
     cut = pieces_joined 10 line (lines ++ closing ended) (plain_without_feed line all.0.plain) (without_feeds lines ended all.1)
@@ -161,7 +161,7 @@ lines_fit known values (pair ∷ pairs) fits shown =
 
 -- the kinds of objects whose bodies are attributes
 abbrev pub HasAttributes : ObjectKind → Type 0
-HasAttributes kind = (lines : List (List ℕ)) → body_in kind lines ≡ attribute_body kind lines
+HasAttributes kind = (lines : List (List ℕ)) → body_of_lines kind lines ≡ attribute_body kind lines
 
 lines_whole : (ended : Bool) (pairs : List (List ℕ × List ℕ)) → ArePrinting pairs → AreWholeValues ended pairs → AreWhole ended (map line_of pairs)
 lines_whole ended [] shown whole = tt
@@ -216,6 +216,6 @@ are_attributes kind text has = by (list_all is_plain_line (text_lines text))
     read None = tt
     read (Some values) = named (list_all (has_attribute values) (naming_attributes kind)) values
 
-    by : (plain : Bool) → IsAttributes (if plain then body_in kind (body_lines text) else None)
+    by : (plain : Bool) → IsAttributes (if plain then body_of_lines kind (body_lines text) else None)
     by true = rw (has (body_lines text)) (read (attributes_after (known_attributes kind) [] (body_lines text)))
     by false = tt

@@ -10,7 +10,7 @@ use Rattle.ge_model_value.specs.Faults.{when}
 use Rattle.ge_model_grammar.specs.declared.Body.{Body}
 use Rattle.ge_model_grammar.specs.Bodies.{body_of}
 use Rattle.ge_model_grammar.specs.Configuring.{is_name_of}
-use Rattle.ge_model_config.specs.Cited.{is_host_or_group, cited, is_named}
+use Rattle.ge_model_config.specs.Cited.{is_host_or_group, cited, has_name}
 use Rattle.ge_model_config.specs.Named.{name_faults}
 use Rattle.ge_model_config.specs.Objects.{loops_among}
 use Rattle.ge_model_config.specs.Reading.{item_of}
@@ -29,9 +29,9 @@ use Rattle.ge_model_config.proofs.ReadBackObjects.{IsPrinted, object_read, objec
 known_still : (c : Cluster) (name : List ℕ) (hosts : List (List ℕ)) (other : List ℕ) → is_host_or_group c other ≡ true → is_host_or_group (with_item c (Item.Group name hosts)) other ≡ true
 known_still c name hosts other known =
     ⊎_elim
-    (λ h. or_left (is_named c.hosts other) _ h)
-    (λ h. or_right (is_named c.hosts other) _ (put_keeps c.groups name other hosts h))
-    (or_cases (is_named c.hosts other) (is_named c.groups other) known)
+    (λ h. or_left (has_name c.hosts other) _ h)
+    (λ h. or_right (has_name c.hosts other) _ (put_keeps c.groups name other hosts h))
+    (or_cases (has_name c.hosts other) (has_name c.groups other) known)
 
 group_still : (c : Cluster) (name : List ℕ) (hosts : List (List ℕ)) → IsGroup c name hosts → IsGroup (with_item c (Item.Group name hosts)) name hosts
 group_still c name hosts is = record {
@@ -43,7 +43,7 @@ group_still c name hosts is = record {
 }
 
 sets_still : (c other : Cluster) (sets : List (List ℕ)) → other.sets ≡ c.sets → AreSets c sets → AreSets other sets
-sets_still c other sets same is = record { listed = is.listed; known = ap (λ table. cited (is_named table) sets) same ∙ is.known }
+sets_still c other sets same is = record { listed = is.listed; known = ap (λ table. cited (has_name table) sets) same ∙ is.known }
 
 -- what was read looks as it did once it is put in
 read_still : (c : Cluster) (kind : ObjectKind) (thing : Item) → IsRead c kind thing → IsRead (with_item c thing) kind thing

@@ -21,8 +21,8 @@ use Rattle.ge_model_grammar.specs.declared.Body.{Body}
 use Rattle.ge_model_grammar.specs.declared.ComplexLine.{ComplexLine}
 use Rattle.ge_model_grammar.specs.declared.Body.TheVariants.{ComplexRows}
 use Rattle.ge_model_grammar.specs.Bodies.{complex_line, complex_body, body_lines, body_of}
-use Rattle.ge_model_config.specs.Complexes.{fits_use, older_complex, kind_in, relop_in, consumable_in, urgency_read, complex_row, row_faults, put_complex, are_distinct, words_for, use_faults, complexes_item}
-use Rattle.ge_model_config.specs.Printing.{complex_line as printed_line, printed}
+use Rattle.ge_model_config.specs.Complexes.{fits_use, older_complex, kind_in, relop_in, consumable_in, urgency_read, complex_row, row_faults, put_complex, are_distinct, names_of_complex, use_faults, complexes_item}
+use Rattle.ge_model_config.specs.Printing.{printed_complex as printed_line, printed}
 use Rattle.ge_model_config.specs.Reading.{item_of}
 use Rattle.ge_model_config.proofs.ReadBackTables.{AllAbove, Rises, above_put, above_more, put_behind}
 use Rattle.ge_model_config.proofs.ReadBackBodies.{AreLines, AreWhole, text_of_lines, lines_back}
@@ -103,7 +103,7 @@ names_differ (row ∷ rows) (is, above, all) = λ i. not (above_differs row.0 ro
 -- a table that is read without a refusal
 pub record IsTable (c : Cluster) (table : List (List ℕ × ComplexDef)) : Type 0 where
   pub rows : AreComplexes table
-  pub words : when (not (are_distinct (flat_map words_for table))) BadValue ≡ []
+  pub words : when (not (are_distinct (flat_map names_of_complex table))) BadValue ≡ []
   pub used : flat_map (use_faults c table) c.complexes ≡ []
   pub few : when (nat_lt 1024 (length table)) Limit ≡ []
 
@@ -121,7 +121,7 @@ table_back c table is ended = record {
   again =
       ap (λ rows. (
         Item.Complexes rows,
-        flat_map (row_faults c) lines ++ when (not (are_distinct (map (λ line. line.name) lines))) BadValue ++ when (not (are_distinct (flat_map words_for rows))) BadValue
+        flat_map (row_faults c) lines ++ when (not (are_distinct (map (λ line. line.name) lines))) BadValue ++ when (not (are_distinct (flat_map names_of_complex rows))) BadValue
             ++ flat_map (use_faults c rows) c.complexes ++ when (nat_lt 1024 (length rows)) Limit,
       )) (rows_put c [] table is.rows)
       ∙ (λ i. (Item.Complexes table, rows_accepted c table is.rows i ++ when (not (names_differ table is.rows i)) BadValue ++ is.words i ++ is.used i ++ is.few i));
@@ -210,7 +210,7 @@ complexes_read c adding text body thing known parsed is = subst TableFrom is (by
         let table = fold (put_complex c) (if adding then c.complexes else []) lines in
         let five = both_empty _ (when (nat_lt 1024 (length table)) Limit) none in
         let four = both_empty _ (flat_map (use_faults c table) c.complexes) five.0 in
-        let three = both_empty _ (when (not (are_distinct (flat_map words_for table))) BadValue) four.0 in
+        let three = both_empty _ (when (not (are_distinct (flat_map names_of_complex table))) BadValue) four.0 in
         let two = both_empty (flat_map (row_faults c) lines) _ three.0 in
         record { rows = rows_are c (if adding then c.complexes else []) lines (before adding known) two.0; words = three.1; used = four.1; few = five.1 }
 

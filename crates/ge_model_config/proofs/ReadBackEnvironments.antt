@@ -10,7 +10,7 @@ use Rattle.ge_model_value.specs.Values.{value_of}
 use Rattle.ge_model_grammar.specs.declared.Body.{Body}
 use Rattle.ge_model_grammar.specs.declared.Body.TheVariants.{Attributes}
 use Rattle.ge_model_grammar.specs.Bodies.{body_of}
-use Rattle.ge_model_config.specs.Cited.{Read, number_read, is_named, cited, given, none_text}
+use Rattle.ge_model_config.specs.Cited.{Read, number_read, has_name, cited, given, none_text}
 use Rattle.ge_model_config.specs.Named.{name_faults}
 use Rattle.ge_model_config.specs.Objects.{slots_read, allocation_read, assumed_read, pe_item}
 use Rattle.ge_model_config.specs.Reading.{item_of}
@@ -99,7 +99,7 @@ assumed_is text = by (text_eq text (codes "min")) (text_eq text (codes "max")) (
 abbrev environment_with : Cluster → Bool → List ℕ → Read ℕ → List (List ℕ) → List (List ℕ) → Read Allocation → Read UrgencySlots → Read Item
 environment_with c adding name slots users xusers rule urgency = (
   Item.Pe name (record { slots = slots.0; users = users; xusers = xusers; rule = rule.0; urgency_slots = urgency.0 }),
-  name_faults ObjectKind.Pe 256 c.pes adding name ++ slots.1 ++ cited (is_named c.sets) users ++ cited (is_named c.sets) xusers ++ rule.1 ++ urgency.1,
+  name_faults ObjectKind.Pe 256 c.pes adding name ++ slots.1 ++ cited (has_name c.sets) users ++ cited (has_name c.sets) xusers ++ rule.1 ++ urgency.1,
 )
 
 -- a parallel environment is printed as it is read
@@ -149,11 +149,11 @@ environments_read c adding text body thing names = read_from c ObjectKind.Pe add
         let rule = given values (codes "allocation_rule") (codes "$pe_slots") in
         let urgency = given values (codes "urgency_slots") (codes "min") in
         let faults = name_faults ObjectKind.Pe 256 c.pes adding name in
-        let lists = faults ++ slots.1 ++ cited (is_named c.sets) (list_items users) in
-        let all = both_empty (lists ++ cited (is_named c.sets) (list_items xusers) ++ (allocation_read rule).1) (assumed_read urgency).1 none in
-        let most = both_empty (lists ++ cited (is_named c.sets) (list_items xusers)) (allocation_read rule).1 all.0 in
-        let half = both_empty lists (cited (is_named c.sets) (list_items xusers)) most.0 in
-        let few = both_empty (faults ++ slots.1) (cited (is_named c.sets) (list_items users)) half.0 in
+        let lists = faults ++ slots.1 ++ cited (has_name c.sets) (list_items users) in
+        let all = both_empty (lists ++ cited (has_name c.sets) (list_items xusers) ++ (allocation_read rule).1) (assumed_read urgency).1 none in
+        let most = both_empty (lists ++ cited (has_name c.sets) (list_items xusers)) (allocation_read rule).1 all.0 in
+        let half = both_empty lists (cited (has_name c.sets) (list_items xusers)) most.0 in
+        let few = both_empty (faults ++ slots.1) (cited (has_name c.sets) (list_items users)) half.0 in
         let front = both_empty faults slots.1 few.0 in (
           record {
             named = named_by ObjectKind.Pe 256 c.pes adding name front.0;

@@ -17,7 +17,7 @@ use Rattle.ge_model_value.specs.Faults.{when}
 use Rattle.ge_model_value.specs.Pieces.{list_items}
 use Rattle.ge_model_grammar.specs.Configuring.{is_group_name, is_name_of}
 use Rattle.ge_model_config.specs.Named.{name_faults}
-use Rattle.ge_model_config.specs.Cited.{is_named, cited, is_host_or_group}
+use Rattle.ge_model_config.specs.Cited.{has_name, cited, is_host_or_group}
 use Rattle.ge_model_config.proofs.ReadBackTexts.{is_shown, all_weaker}
 use Rattle.ge_model_config.proofs.ReadBackLists.{is_item_byte, is_item, IsList, shown_item}
 use Rattle.ge_model_config.proofs.ReadBackItems.{not_only_none}
@@ -75,14 +75,14 @@ item_shown (b ∷ text) is = shown_item (b ∷ text) is
 -- ---- names that are there
 
 -- a name that a table has passes what all its names pass
-pub known_passes : {X : Type 0} (test : List ℕ → Bool) (table : List (List ℕ × X)) (name : List ℕ) → list_all test (keys_of table) ≡ true → is_named table name ≡ true → test name ≡ true
+pub known_passes : {X : Type 0} (test : List ℕ → Bool) (table : List (List ℕ × X)) (name : List ℕ) → list_all test (keys_of table) ≡ true → has_name table name ≡ true → test name ≡ true
 known_passes test [] name all there = absurd (true≢false (sym there))
 known_passes test (row ∷ rows) name all there = by (is_at (text_cmp name) row.0) refl there (known_passes test rows name parts.1)
   where
     parts : (test row.0 ≡ true) × (list_all test (keys_of rows) ≡ true)
     parts = and_parts (test row.0) (list_all test (keys_of rows)) all
 
-    by : (here : Bool) → is_at (text_cmp name) row.0 ≡ here → is_some (cond here (Some row.1) (at_text rows name)) ≡ true → (is_named rows name ≡ true → test name ≡ true) → test name ≡ true
+    by : (here : Bool) → is_at (text_cmp name) row.0 ≡ here → is_some (cond here (Some row.1) (at_text rows name)) ≡ true → (has_name rows name ≡ true → test name ≡ true) → test name ≡ true
     by true is h again = ap test ((bytes_eq-Decides name row.0).0 (sym (is_eq-slice_cmp name row.0) ∙ is)) ∙ parts.0
     by false is h again = again h
 
@@ -91,9 +91,9 @@ host_or_group_item c name names known =
     ⊎_elim
     (λ h. name_item name (known_passes is_name c.hosts name names.hosts h))
     (λ h. group_name_item name (known_passes is_group_name c.groups name names.groups h))
-    (or_cases (is_named c.hosts name) (is_named c.groups name) known)
+    (or_cases (has_name c.hosts name) (has_name c.groups name) known)
 
-pub known_set_item : (c : Cluster) (name : List ℕ) → HasNames c → is_named c.sets name ≡ true → is_item name ≡ true
+pub known_set_item : (c : Cluster) (name : List ℕ) → HasNames c → has_name c.sets name ≡ true → is_item name ≡ true
 known_set_item c name names known = name_item name (known_passes is_name c.sets name names.sets known)
 
 -- ---- no refusals

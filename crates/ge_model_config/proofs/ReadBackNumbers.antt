@@ -12,8 +12,8 @@ use Rattle.ge_model_text.specs.declared.Progress.{Progress}
 use Rattle.ge_model_text.specs.declared.Progress.TheVariants.{Whole}
 use Rattle.ge_model_text.specs.declared.ValueFault.{ValueFault}
 use Rattle.ge_model_text.specs.declared.ValueFault.TheVariants.{Digit, TooLarge}
-use Rattle.ge_model_text.specs.Reading.{cut, appended, bounded, if_occurs, reading_from, reading}
-use Rattle.ge_model_text.specs.Value.{is_digit, number_after, number}
+use Rattle.ge_model_text.specs.Reading.{amount_cut, appended, bounded, if_occurs, reading_from, reading}
+use Rattle.ge_model_text.specs.Value.{is_digit, number_with_digits, number}
 use Rattle.ge_model_value.specs.Pieces.{is_digits}
 use Rattle.ge_model_value.specs.Values.{amount_in, read_amount}
 use Rattle.ge_model_tasks.proofs.Digits.{decimal_digits, decimal_number, all_digits}
@@ -22,11 +22,11 @@ use Rattle.ge_model_config.proofs.ReadBackTexts.{is_shown_byte, is_shown, all_we
 
 -- ---- digits
 
-pub cut_twice : (n b : ℕ) → appended (cut n) b ≡ cut (10 * n + (b - 48))
+pub cut_twice : (n b : ℕ) → appended (amount_cut n) b ≡ amount_cut (10 * n + (b - 48))
 cut_twice n b = omega arith
 
-pub within_limit : (n : ℕ) → n < 2 ^ 48 → bounded (cut n) ≡ Ok n
-within_limit n small = ap bounded (let e : cut n ≡ n = omega arith in e) ∙ ap (λ z. if z then Ok n else Err TooLarge) (lt-ltb n (2 ^ 48) small)
+pub within_limit : (n : ℕ) → n < 2 ^ 48 → bounded (amount_cut n) ≡ Ok n
+within_limit n small = ap bounded (let e : amount_cut n ≡ n = omega arith in e) ∙ ap (λ z. if z then Ok n else Err TooLarge) (lt-ltb n (2 ^ 48) small)
 
 -- ---- digits in front of a text
 
@@ -36,7 +36,7 @@ GoesOn form progress text answer = (place : ℕ) × (answer ≡ reading_from for
 
 -- whole numbers
 pub whole_on : (sort : Form) (n place : ℕ) (digits rest : List ℕ) → list_all is_digit digits ≡ true
-    → GoesOn sort (Whole (cut (number_after n digits))) rest (reading_from sort (Whole (cut n)) place (digits ++ rest))
+    → GoesOn sort (Whole (amount_cut (number_with_digits n digits))) rest (reading_from sort (Whole (amount_cut n)) place (digits ++ rest))
 whole_on sort n place [] rest all = (place, refl)
 whole_on sort n place (b ∷ digits) rest all =
     let parts = and_parts (is_digit b) (list_all is_digit digits) all in
@@ -48,10 +48,10 @@ whole_on sort n place (b ∷ digits) rest all =
     )
 
 -- a decimal in front of a text
-pub decimal_on : (sort : Form) (n : ℕ) (rest : List ℕ) → n < 2 ^ 64 → GoesOn sort (Whole (cut n)) rest (reading sort (decimal n ++ rest))
+pub decimal_on : (sort : Form) (n : ℕ) (rest : List ℕ) → n < 2 ^ 64 → GoesOn sort (Whole (amount_cut n)) rest (reading sort (decimal n ++ rest))
 decimal_on sort n rest small = by (decimal n) (decimal_digits n) (decimal_number n small)
   where
-    by : (digits : List ℕ) → is_digits digits ≡ true → number digits ≡ n → GoesOn sort (Whole (cut n)) rest (reading sort (digits ++ rest))
+    by : (digits : List ℕ) → is_digits digits ≡ true → number digits ≡ n → GoesOn sort (Whole (amount_cut n)) rest (reading sort (digits ++ rest))
     by [] none worth = absurd (let f : false ≡ true = none in cc)
     by (b ∷ digits) some worth =
         let parts = and_parts (is_digit b) (list_all is_digit digits) (all_digits (b ∷ digits) some) in
@@ -59,7 +59,7 @@ decimal_on sort n rest small = by (decimal n) (decimal_digits n) (decimal_number
           more.0,
           ap (λ (z : Option Progress). elim (if_occurs sort z) as (λ x. Result ℕ ValueFault) [ None ↦ Err (Digit 0) | Some after ↦ reading_from sort after 1 (digits ++ rest) ]) (cond-true (is_digit b) _ _ parts.0)
               ∙ more.1
-              ∙ ap (λ z. reading_from sort (Whole (cut z)) more.0 rest) worth,
+              ∙ ap (λ z. reading_from sort (Whole (amount_cut z)) more.0 rest) worth,
         )
 
 -- a decimal alone

@@ -11,7 +11,7 @@ use Rattle.ge_model_value.specs.Complexes.{opening_complexes, is_consumed}
 use Rattle.ge_model_config.specs.Columns.{is_same_kind}
 use Rattle.ge_model_config.specs.Complexes.{fits_use, breaks_use, use_faults}
 use Rattle.ge_model_config.specs.Used.{rule_where, is_complex_used}
-use Rattle.ge_model_config.specs.Cited.{is_named}
+use Rattle.ge_model_config.specs.Cited.{has_name}
 use Rattle.ge_model_config.proofs.ReadBackSettings.{is_up_to}
 use Rattle.ge_model_config.proofs.ReadBackTables.{AllAbove, Rises, at_middle}
 use Rattle.ge_model_config.proofs.ReadBackValues.{FitsKind}
@@ -112,7 +112,7 @@ same_kind Kind.Host = refl
 
 -- a complex that stays breaks no use
 keeps_use : (c : Cluster) (name : List ℕ) (d : ComplexDef) → breaks_use c name d (Some d) ≡ false
-keeps_use c name d = ap (λ z. not z || (is_consumed d.consumable && not (is_consumed d.consumable) && rule_where c (λ rule. is_named rule.limits name))) (same_kind d.kind) ∙ by (is_consumed d.consumable) (rule_where c (λ rule. is_named rule.limits name))
+keeps_use c name d = ap (λ z. not z || (is_consumed d.consumable && not (is_consumed d.consumable) && rule_where c (λ rule. has_name rule.limits name))) (same_kind d.kind) ∙ by (is_consumed d.consumable) (rule_where c (λ rule. has_name rule.limits name))
   where
     by : (consumed limited : Bool) → (false || (consumed && not consumed && limited)) ≡ false
     by true limited = refl

@@ -11,7 +11,7 @@ use Rattle.ge_model_value.specs.Pieces.{has_byte, before_byte, behind_byte, list
 use Rattle.ge_model_value.specs.Values.{value_of}
 use Rattle.ge_model_value.specs.Complexes.{complex_at}
 use Rattle.ge_model_config.specs.Cited.{Read}
-use Rattle.ge_model_config.specs.Pairs.{any_fits, beside, value_for, pair_read, item_read, put_value, with_item, values_read}
+use Rattle.ge_model_config.specs.Pairs.{any_fits, beside, value_for, pair_read, item_read, put_value, with_pair, values_read}
 use Rattle.ge_model_config.proofs.ReadBackTables.{AllAbove, above_put, above_more}
 use Rattle.ge_model_config.proofs.ReadBackValues.{FitsKind, value_fits}
 
@@ -66,9 +66,9 @@ put_row : (c : Cluster) (table : List (List ℕ × Value)) (row : Option (List �
 put_row c table None fits all = all
 put_row c table (Some row) fits all = put_values c row.0 row.1 table fits all
 
-items_values : (c : Cluster) (read : Read (List (List ℕ × Value))) (items : List (List ℕ)) → AreValues c read.0 → AreValues c (fold (with_item c any_fits) read items).0
+items_values : (c : Cluster) (read : Read (List (List ℕ × Value))) (items : List (List ℕ)) → AreValues c read.0 → AreValues c (fold (with_pair c any_fits) read items).0
 items_values c read [] all = all
-items_values c read (item ∷ items) all = items_values c (with_item c any_fits read item) items (put_row c read.0 (item_read c any_fits item).0 (item_row c item) all)
+items_values c read (item ∷ items) all = items_values c (with_pair c any_fits read item) items (put_row c read.0 (item_read c any_fits item).0 (item_row c item) all)
 
 -- what is read is a table of values
 pub values_are : (c : Cluster) (text : List ℕ) → AreValues c (values_read c any_fits text).0

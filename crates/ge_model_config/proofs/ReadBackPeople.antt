@@ -15,7 +15,7 @@ use Rattle.ge_model_grammar.specs.declared.Body.{Body}
 use Rattle.ge_model_grammar.specs.declared.Body.TheVariants.{Attributes}
 use Rattle.ge_model_grammar.specs.Bodies.{body_of}
 use Rattle.ge_model_grammar.specs.Configuring.{is_group_name}
-use Rattle.ge_model_config.specs.Cited.{Read, number_read, is_named, cited, given, none_text}
+use Rattle.ge_model_config.specs.Cited.{Read, number_read, has_name, cited, given, none_text}
 use Rattle.ge_model_config.specs.Named.{name_faults}
 use Rattle.ge_model_config.specs.Objects.{is_member_name, set_item, tickets_read, user_item, project_item}
 use Rattle.ge_model_config.specs.Reading.{item_of}
@@ -122,14 +122,14 @@ users_read c adding text body thing = read_from c ObjectKind.User adding text bo
 -- ---- projects
 
 -- user sets that are read without a refusal
-pub sets_are : (c : Cluster) (text : List ℕ) → HasNames c → cited (is_named c.sets) (list_items text) ≡ [] → AreSets c (list_items text)
-sets_are c text names known = record { listed = names_list (is_named c.sets) text (λ name. known_set_item c name names) known; known = known }
+pub sets_are : (c : Cluster) (text : List ℕ) → HasNames c → cited (has_name c.sets) (list_items text) ≡ [] → AreSets c (list_items text)
+sets_are c text names known = record { listed = names_list (has_name c.sets) text (λ name. known_set_item c name names) known; known = known }
 
 -- a project of what is read
 abbrev project_with : Cluster → Bool → List ℕ → Read ℕ → Read ℕ → List (List ℕ) → List (List ℕ) → Read Item
 project_with c adding name fshare oticket acl xacl = (
   Item.Project name (record { fshare = fshare.0; oticket = oticket.0; acl = acl; xacl = xacl }),
-  name_faults ObjectKind.Project 10000 c.projects adding name ++ fshare.1 ++ oticket.1 ++ cited (is_named c.sets) acl ++ cited (is_named c.sets) xacl,
+  name_faults ObjectKind.Project 10000 c.projects adding name ++ fshare.1 ++ oticket.1 ++ cited (has_name c.sets) acl ++ cited (has_name c.sets) xacl,
 )
 
 -- a project is printed as it is read
@@ -163,8 +163,8 @@ projects_read c adding text body thing names = read_from c ObjectKind.Project ad
         let acl = given values (codes "acl") none_text in
         let xacl = given values (codes "xacl") none_text in
         let faults = name_faults ObjectKind.Project 10000 c.projects adding name in
-        let all = both_empty (faults ++ fshare.1 ++ oticket.1 ++ cited (is_named c.sets) (list_items acl)) (cited (is_named c.sets) (list_items xacl)) none in
-        let most = both_empty (faults ++ fshare.1 ++ oticket.1) (cited (is_named c.sets) (list_items acl)) all.0 in
+        let all = both_empty (faults ++ fshare.1 ++ oticket.1 ++ cited (has_name c.sets) (list_items acl)) (cited (has_name c.sets) (list_items xacl)) none in
+        let most = both_empty (faults ++ fshare.1 ++ oticket.1) (cited (has_name c.sets) (list_items acl)) all.0 in
         let half = both_empty (faults ++ fshare.1) oticket.1 most.0 in
         let front = both_empty faults fshare.1 half.0 in (
           record {

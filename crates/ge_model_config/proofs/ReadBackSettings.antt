@@ -15,7 +15,7 @@ use Rattle.ge_model_grammar.specs.declared.Body.TheVariants.{Attributes}
 use Rattle.ge_model_config.specs.Cited.{Read, amount_within, number_read}
 use Rattle.ge_model_config.specs.Printing.{number_text, sort_text, usage_text, printed}
 use Rattle.ge_model_config.specs.Reading.{item_of}
-use Rattle.ge_model_config.specs.Settings.{sort_read, formula_faults, with_weight, weights_read, weight_at, sched_item}
+use Rattle.ge_model_config.specs.Settings.{sort_read, formula_faults, with_weight_item, weights_read, weight_at, sched_item}
 use Rattle.ge_model_config.proofs.ReadBackTexts.{is_shown}
 use Rattle.ge_model_config.proofs.ReadBackBodies.{AreShown, body_back}
 use Rattle.ge_model_config.proofs.ReadBackLists.{is_item, list_back, list_shown, text_joined}
@@ -105,7 +105,7 @@ usage_back : (c : Cluster) (s : Sched) → AreSettings c s → weights_read (usa
 unfolding weight_items
 usage_back c s is =
     ap (λ z. weights_read z) (usage_joined s)
-    ∙ ap (λ items. fold with_weight ([], []) items) (list_back (weight_items s) (record { pass = weights_pass s; others = refl }))
+    ∙ ap (λ items. fold with_weight_item ([], []) items) (list_back (weight_items s) (record { pass = weights_pass s; others = refl }))
     ∙ (λ i. weights_with (weight s.u_cpu is.u_cpu i) (weight s.u_mem is.u_mem i) (weight s.u_io is.u_io i))
   where
     weight : (n : ℕ) → is_up_to infinity n ≡ true → number_read Kind.Double 0 infinity (fixed_text n) ≡ (n, [])

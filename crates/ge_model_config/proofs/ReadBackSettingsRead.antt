@@ -21,7 +21,7 @@ use Rattle.ge_model_grammar.specs.declared.Body.TheVariants.{Attributes}
 use Rattle.ge_model_grammar.specs.Bodies.{attribute_in, body_of}
 use Rattle.ge_model_config.specs.Cited.{Read, amount_within, number_read}
 use Rattle.ge_model_config.specs.Reading.{item_of}
-use Rattle.ge_model_config.specs.Settings.{setting, sort_read, formula_faults, formula_read, with_weight, weights_read, weight_at, default_weights, sched_item, weight_read}
+use Rattle.ge_model_config.specs.Settings.{setting, sort_read, formula_faults, formula_read, with_weight_item, weights_read, weight_at, default_weights, sched_item, weight_read}
 use Rattle.ge_model_config.proofs.ReadBackTexts.{is_shown}
 use Rattle.ge_model_config.proofs.ReadBackNames.{both_empty, name_item, item_shown, known_passes}
 use Rattle.ge_model_config.proofs.ReadBackNumbers.{in_range}
@@ -104,10 +104,10 @@ weight_small (row ∷ rows) name (first, small) = by (is_at (text_cmp name) row.
     by true again = first
     by false again = again
 
-weights_small : (weights : Read (List (List ℕ × ℕ))) (items : List (List ℕ)) → AreSmall weights.0 → AreSmall (fold with_weight weights items).0
+weights_small : (weights : Read (List (List ℕ × ℕ))) (items : List (List ℕ)) → AreSmall weights.0 → AreSmall (fold with_weight_item weights items).0
 weights_small weights [] small = small
 weights_small weights (item ∷ items) small =
-    weights_small (with_weight weights item) items (put_small weights.0 (before_byte 61 item) (weight_read item).0 (weight_always (value_of Kind.Double (behind_byte 61 item))) small)
+    weights_small (with_weight_item weights item) items (put_small weights.0 (before_byte 61 item) (weight_read item).0 (weight_always (value_of Kind.Double (behind_byte 61 item))) small)
 
 usage_small : (values : List (List ℕ × List ℕ)) → AreWeights (setting values (codes "usage_weight_list") default_weights weights_read)
 unfolding default_sched

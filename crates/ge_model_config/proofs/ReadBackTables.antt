@@ -7,7 +7,7 @@ use Rattle.std.specs.Ordering.{is_eq, match_ordering, ordering_reverse}
 use Rattle.std.proofs.lemmas.Bool.{and_parts, and_from, true≢false}
 use Rattle.std.proofs.lemmas.Cmp.{tied_itself, nat_list_cmp_total}
 use Rattle.ge_collections.specs.Keyed.{text_cmp, at_text, put_text, drop_text}
-use Rattle.ge_model_config.specs.Cited.{is_named}
+use Rattle.ge_model_config.specs.Cited.{has_name}
 
 same_text : (name : List ℕ) → text_cmp name name ≡ Equal
 same_text name = tied_itself nat_list_cmp_total name
@@ -16,7 +16,7 @@ module _ {X : Type 0} where
   first_read : (name other : List ℕ) (row : X) (rows : List (List ℕ × X)) → text_cmp name other ≡ Equal → at_text ((other, row) ∷ rows) name ≡ Some row
   first_read name other row rows is = ap (λ z. cond (is_eq z) (Some row) (at_text rows name)) is
 
-  behind_named : (name : List ℕ) (row : List ℕ × X) (rows : List (List ℕ × X)) → is_named rows name ≡ true → is_named (row ∷ rows) name ≡ true
+  behind_named : (name : List ℕ) (row : List ℕ × X) (rows : List (List ℕ × X)) → has_name rows name ≡ true → has_name (row ∷ rows) name ≡ true
   behind_named name row rows there = by (is_at (text_cmp name) row.0)
     where
       by : (here : Bool) → is_some (cond here (Some row.1) (at_text rows name)) ≡ true
@@ -34,11 +34,11 @@ module _ {X : Type 0} where
       by Equal is again = first_read name first.0 row rows is
       by Greater is again = ap (λ z. cond (is_eq z) (Some first.1) (at_text (put_text rows name row) name)) is ∙ again
 
-  pub put_there : (table : List (List ℕ × X)) (name : List ℕ) (row : X) → is_named (put_text table name row) name ≡ true
+  pub put_there : (table : List (List ℕ × X)) (name : List ℕ) (row : X) → has_name (put_text table name row) name ≡ true
   put_there table name row = ap is_some (put_read table name row)
 
   -- and what was there stays
-  pub put_keeps : (table : List (List ℕ × X)) (name other : List ℕ) (row : X) → is_named table other ≡ true → is_named (put_text table name row) other ≡ true
+  pub put_keeps : (table : List (List ℕ × X)) (name other : List ℕ) (row : X) → has_name table other ≡ true → has_name (put_text table name row) other ≡ true
   put_keeps [] name other row there = absurd (true≢false (sym there))
   put_keeps (first ∷ rows) name other row there = by (text_cmp name first.0) (put_keeps rows name other row)
     where
@@ -46,13 +46,13 @@ module _ {X : Type 0} where
       replaced true h = refl
       replaced false h = h
 
-      later : (here : Bool) → is_some (cond here (Some first.1) (at_text rows other)) ≡ true → (is_named rows other ≡ true → is_named (put_text rows name row) other ≡ true)
+      later : (here : Bool) → is_some (cond here (Some first.1) (at_text rows other)) ≡ true → (has_name rows other ≡ true → has_name (put_text rows name row) other ≡ true)
           → is_some (cond here (Some first.1) (at_text (put_text rows name row) other)) ≡ true
       later true h again = refl
       later false h again = again h
 
-      by : (order : Ordering) → (is_named rows other ≡ true → is_named (put_text rows name row) other ≡ true)
-          → is_named (match_ordering order ((name, row) ∷ first ∷ rows) ((first.0, row) ∷ rows) (first ∷ put_text rows name row)) other ≡ true
+      by : (order : Ordering) → (has_name rows other ≡ true → has_name (put_text rows name row) other ≡ true)
+          → has_name (match_ordering order ((name, row) ∷ first ∷ rows) ((first.0, row) ∷ rows) (first ∷ put_text rows name row)) other ≡ true
       by Less again = behind_named other (name, row) (first ∷ rows) there
       by Equal again = replaced (is_at (text_cmp other) first.0) there
       by Greater again = later (is_at (text_cmp other) first.0) there again

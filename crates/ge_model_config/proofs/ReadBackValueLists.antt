@@ -14,7 +14,7 @@ use Rattle.ge_model_value.specs.Pieces.{is_empty, has_byte, before_byte, behind_
 use Rattle.ge_model_value.specs.Values.{is_word_byte, value_text}
 use Rattle.ge_model_value.specs.Complexes.{complex_at, pair_text, kind_for}
 use Rattle.ge_model_tasks.proofs.Digits.{before_it, behind_it, it_is_there}
-use Rattle.ge_model_config.specs.Pairs.{any_fits, beside, value_for, pair_read, item_read, put_value, with_item, values_read}
+use Rattle.ge_model_config.specs.Pairs.{any_fits, beside, value_for, pair_read, item_read, put_value, with_pair, values_read}
 use Rattle.ge_model_config.specs.Printing.{values_text}
 use Rattle.ge_model_config.proofs.ReadBackTables.{Rises, put_behind}
 use Rattle.ge_model_config.proofs.ReadBackTexts.{is_printing, all_weaker}
@@ -148,11 +148,11 @@ middle_fits c [] row rows all = all.0
 middle_fits c (first ∷ front) row rows all = middle_fits c front row rows all.2
 
 -- the items of a table are read to it, one behind the other
-items_back : (c : Cluster) (front rows : List (List ℕ × Value)) → HasNames c → AreValues c (front ++ rows) → fold (with_item c any_fits) (front, []) (map (pair_text c) rows) ≡ (front ++ rows, [])
+items_back : (c : Cluster) (front rows : List (List ℕ × Value)) → HasNames c → AreValues c (front ++ rows) → fold (with_pair c any_fits) (front, []) (map (pair_text c) rows) ≡ (front ++ rows, [])
 items_back c front [] names all = ap (λ z. (z, [])) (sym (append-nil front))
 items_back c front (row ∷ rows) names all =
-    ap (λ read. fold (with_item c any_fits) (put_value front read.0, [] ++ read.1) (map (pair_text c) rows)) (item_back c row names (middle_fits c front row rows all))
-    ∙ ap (λ table. fold (with_item c any_fits) (table, []) (map (pair_text c) rows)) (put_behind front row rows (values_rise c (front ++ row ∷ rows) all))
+    ap (λ read. fold (with_pair c any_fits) (put_value front read.0, [] ++ read.1) (map (pair_text c) rows)) (item_back c row names (middle_fits c front row rows all))
+    ∙ ap (λ table. fold (with_pair c any_fits) (table, []) (map (pair_text c) rows)) (put_behind front row rows (values_rise c (front ++ row ∷ rows) all))
     ∙ items_back c (front ++ row ∷ []) rows names (subst (AreValues c) (sym (append_assoc front (row ∷ []) rows)) all)
     ∙ ap (λ z. (z, [])) (append_assoc front (row ∷ []) rows)
 
@@ -175,7 +175,7 @@ pairs_others c (row ∷ other ∷ rows) = refl
 -- the text of a table of values is read to it
 pub values_back : (c : Cluster) (table : List (List ℕ × Value)) → HasNames c → AreValues c table → values_read c any_fits (values_text c table) ≡ (table, [])
 values_back c table names all =
-    ap (fold (with_item c any_fits) ([], [])) (pieces_back (map (pair_text c) table) (record { pass = pairs_pass c table names all; others = pairs_others c table })) ∙ items_back c [] table names all
+    ap (fold (with_pair c any_fits) ([], [])) (pieces_back (map (pair_text c) table) (record { pass = pairs_pass c table names all; others = pairs_others c table })) ∙ items_back c [] table names all
 
 pub values_printing : (c : Cluster) (table : List (List ℕ × Value)) → HasNames c → AreValues c table → is_printing (values_text c table) ≡ true
 values_printing c table names all = list_printing (map (pair_text c) table) (pairs_pass c table names all)

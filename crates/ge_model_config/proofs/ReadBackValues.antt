@@ -9,7 +9,7 @@ use Rattle.ge_model_text.specs.declared.Progress.{Progress}
 use Rattle.ge_model_text.specs.declared.Progress.TheVariants.{Start}
 use Rattle.ge_model_text.specs.declared.ValueFault.{ValueFault}
 use Rattle.ge_model_text.specs.declared.ValueFault.TheVariants.{Digit, TooLarge}
-use Rattle.ge_model_text.specs.Reading.{next, done, answer, bounded, limit, reading_from, reading}
+use Rattle.ge_model_text.specs.Reading.{next, amount_done, answer, bounded, limit, reading_from, reading}
 use Rattle.ge_model_value.specs.Pieces.{is_empty, lower_case}
 use Rattle.ge_model_value.specs.Values.{read_amount, flag_of, is_word, word_of, value_of, value_text, clock_text}
 use Rattle.ge_model_config.proofs.ReadBackNumbers.{int_back}
@@ -63,7 +63,7 @@ answer_small place (Some n) = bounded_small n
 -- an amount that is read is below 2^48
 reading_small : (sort : Form) (progress : Progress) (place : ℕ) (text : List ℕ) → IsSmall (reading_from sort progress place text)
 unfolding IsSmall
-reading_small sort progress place [] = answer_small place (done sort progress)
+reading_small sort progress place [] = answer_small place (amount_done sort progress)
 reading_small sort progress place (b ∷ rest) = by (next sort progress b) (λ after. reading_small sort after (place + 1) rest)
   where
     by : (next : Option Progress) → ((after : Progress) → IsSmall (reading_from sort after (place + 1) rest))

@@ -38,8 +38,8 @@ abbrev pub number_read : Kind → ℕ → ℕ → List ℕ → Read ℕ
 number_read kind low high text = amount_within low high (value_of kind text)
 
 -- whether a table has a name
-abbrev pub is_named : {X : Type 0} → List (List ℕ × X) → List ℕ → Bool
-is_named table name = is_some (at_text table name)
+abbrev pub has_name : {X : Type 0} → List (List ℕ × X) → List ℕ → Bool
+has_name table name = is_some (at_text table name)
 
 -- each name that a body cites has to be there
 abbrev pub cited : (List ℕ → Bool) → List (List ℕ) → List Refusal
@@ -51,4 +51,4 @@ names_read is_known text = (list_items text, cited is_known (list_items text))
 
 -- what a hostlist may name: a host, or a group by its name with the at sign (hostgroup)
 abbrev pub is_host_or_group : Cluster → List ℕ → Bool
-is_host_or_group c name = is_named c.hosts name || is_named c.groups name
+is_host_or_group c name = has_name c.hosts name || has_name c.groups name

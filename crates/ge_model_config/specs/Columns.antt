@@ -50,8 +50,8 @@ abbrev pub is_relop : Relop → Relop → Bool
 is_relop r other = text_eq (relop_text r) (relop_text other)
 
 -- a word in any case, whole or by its first letter
-abbrev pub is_word : List ℕ → List ℕ → Bool
-is_word word text = text_eq (lower_case word) (lower_case text) || text_eq (lower_case word) (take 1 (lower_case text))
+abbrev pub is_column_word : List ℕ → List ℕ → Bool
+is_column_word word text = text_eq (lower_case word) (lower_case text) || text_eq (lower_case word) (take 1 (lower_case text))
 
 -- the column requestable
 abbrev pub requestable_text : Requestable → List ℕ
@@ -61,7 +61,7 @@ requestable_text Requestable.Forced = codes "FORCED"
 
 -- what a word says of asking
 abbrev pub requestable_of : List ℕ → Option Requestable
-requestable_of word = find (λ r. is_word word (requestable_text r)) (Requestable.No ∷ Requestable.Yes ∷ Requestable.Forced ∷ [])
+requestable_of word = find (λ r. is_column_word word (requestable_text r)) (Requestable.No ∷ Requestable.Yes ∷ Requestable.Forced ∷ [])
 
 -- the column consumable
 abbrev pub consumable_text : Consumable → List ℕ
@@ -71,4 +71,4 @@ consumable_text Consumable.Job = codes "JOB"
 
 -- what a word says of consuming
 abbrev pub consumable_of : List ℕ → Option Consumable
-consumable_of word = find (λ r. is_word word (consumable_text r)) (Consumable.No ∷ Consumable.Yes ∷ Consumable.Job ∷ [])
+consumable_of word = find (λ r. is_column_word word (consumable_text r)) (Consumable.No ∷ Consumable.Yes ∷ Consumable.Job ∷ [])

@@ -14,7 +14,7 @@ use Rattle.ge_model_value.specs.Pieces.{is_one_of}
 use Rattle.ge_model_value.specs.Values.{value_of, is_number_kind}
 use Rattle.ge_model_value.specs.Complexes.{complex_at, is_consumed}
 use Rattle.ge_model_grammar.specs.declared.ComplexLine.{ComplexLine}
-use Rattle.ge_model_config.specs.Cited.{Read, number_read, is_named}
+use Rattle.ge_model_config.specs.Cited.{Read, number_read, has_name}
 use Rattle.ge_model_config.specs.Columns.{kind_of, is_same_kind, relop_of, is_relop, requestable_of, consumable_of}
 use Rattle.ge_model_config.specs.Used.{is_complex_used, rule_where}
 
@@ -98,15 +98,15 @@ are_distinct [] = true
 are_distinct (text ∷ texts) = not (is_one_of text texts) && are_distinct texts
 
 -- the words that name a complex: its name, and its shortcut where that is another
-abbrev pub words_for : List ℕ × ComplexDef → List (List ℕ)
-words_for row = if text_eq row.0 row.1.shortcut then row.0 ∷ [] else row.0 ∷ row.1.shortcut ∷ []
+abbrev pub names_of_complex : List ℕ × ComplexDef → List (List ℕ)
+names_of_complex row = if text_eq row.0 row.1.shortcut then row.0 ∷ [] else row.0 ∷ row.1.shortcut ∷ []
 
 -- whether a complex is taken away, changes in type, or stops being a consumable while a rule limits it
 abbrev pub breaks_use : Cluster → List ℕ → ComplexDef → Option ComplexDef → Bool
 breaks_use c name old None = true
 breaks_use c name old (Some new) =
     not (is_same_kind old.kind new.kind)
-    || is_consumed old.consumable && not (is_consumed new.consumable) && rule_where c (λ rule. is_named rule.limits name)
+    || is_consumed old.consumable && not (is_consumed new.consumable) && rule_where c (λ rule. has_name rule.limits name)
 
 -- a used complex may do none of these
 abbrev pub use_faults : Cluster → List (List ℕ × ComplexDef) → List ℕ × ComplexDef → List Refusal
@@ -119,7 +119,7 @@ complexes_item c adding lines =
       Item.Complexes table,
       flat_map (row_faults c) lines
           ++ when (not (are_distinct (map (λ line. line.name) lines))) BadValue
-          ++ when (not (are_distinct (flat_map words_for table))) BadValue
+          ++ when (not (are_distinct (flat_map names_of_complex table))) BadValue
           ++ flat_map (use_faults c table) c.complexes
           ++ when (nat_lt limit.complexes (length table)) Limit,
     )

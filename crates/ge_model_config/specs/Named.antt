@@ -8,15 +8,15 @@ use Rattle.ge_model_rows.specs.EntryRows.{ObjectKind}
 use Rattle.ge_model_grammar.specs.Attributes.{none_attributes}
 use Rattle.ge_model_grammar.specs.Configuring.{is_name_of}
 use Rattle.ge_model_value.specs.Faults.{when}
-use Rattle.ge_model_config.specs.Cited.{given, is_named, none_text}
+use Rattle.ge_model_config.specs.Cited.{given, has_name, none_text}
 
 -- a new object takes a name that is free, and a place where its table has one
 abbrev pub added_faults : {X : Type 0} → ℕ → List (List ℕ × X) → List ℕ → List Refusal
-added_faults most table name = when (is_named table name) Exists ++ when (not (is_named table name) && nat_le most (length table)) Limit
+added_faults most table name = when (has_name table name) Exists ++ when (not (has_name table name) && nat_le most (length table)) Limit
 
 -- an object to be changed has to be there
 abbrev pub changed_faults : {X : Type 0} → List (List ℕ × X) → List ℕ → List Refusal
-changed_faults table name = when (not (is_named table name)) NoSuchObject
+changed_faults table name = when (not (has_name table name)) NoSuchObject
 
 -- the name of an object, of the form that its kind has, in a table that holds so many
 abbrev pub name_faults : {X : Type 0} → ObjectKind → ℕ → List (List ℕ × X) → Bool → List ℕ → List Refusal

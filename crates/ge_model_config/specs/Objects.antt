@@ -14,7 +14,7 @@ use Rattle.ge_model_value.specs.Faults.{when}
 use Rattle.ge_model_value.specs.Pieces.{list_items}
 use Rattle.ge_model_site.specs.Groups.{has_loop}
 use Rattle.ge_model_grammar.specs.Configuring.{is_group_name}
-use Rattle.ge_model_config.specs.Cited.{Read, given, none_text, number_read, names_read, is_named, is_host_or_group}
+use Rattle.ge_model_config.specs.Cited.{Read, given, none_text, number_read, names_read, has_name, is_host_or_group}
 use Rattle.ge_model_config.specs.Pairs.{values_read, any_fits}
 use Rattle.ge_model_config.specs.Named.{name_faults, absent_faults}
 
@@ -61,8 +61,8 @@ unfoldable pub pe_item : Cluster → Bool → List (List ℕ × List ℕ) → Re
 pe_item c adding values =
     let name = given values (codes "pe_name") [] in
     let slots = number_read Kind.Int 0 infinity (given values (codes "slots") (codes "0")) in
-    let users = names_read (is_named c.sets) (given values (codes "user_lists") none_text) in
-    let xusers = names_read (is_named c.sets) (given values (codes "xuser_lists") none_text) in
+    let users = names_read (has_name c.sets) (given values (codes "user_lists") none_text) in
+    let xusers = names_read (has_name c.sets) (given values (codes "xuser_lists") none_text) in
     let rule = allocation_read (given values (codes "allocation_rule") (codes "$pe_slots")) in
     let urgency = assumed_read (given values (codes "urgency_slots") (codes "min")) in (
       Item.Pe name (record { slots = slots.0; users = users.0; xusers = xusers.0; rule = rule.0; urgency_slots = urgency.0 }),
@@ -98,8 +98,8 @@ project_item c adding values =
     let name = given values (codes "name") [] in
     let fshare = tickets_read values (codes "fshare") in
     let oticket = tickets_read values (codes "oticket") in
-    let acl = names_read (is_named c.sets) (given values (codes "acl") none_text) in
-    let xacl = names_read (is_named c.sets) (given values (codes "xacl") none_text) in (
+    let acl = names_read (has_name c.sets) (given values (codes "acl") none_text) in
+    let xacl = names_read (has_name c.sets) (given values (codes "xacl") none_text) in (
       Item.Project name (record { fshare = fshare.0; oticket = oticket.0; acl = acl.0; xacl = xacl.0 }),
       name_faults ObjectKind.Project limit.projects c.projects adding name ++ fshare.1 ++ oticket.1 ++ acl.1 ++ xacl.1,
     )

@@ -11,13 +11,13 @@ use Rattle.ge_model_grammar.specs.Bodies.{attribute_in}
 use Rattle.ge_model_config.specs.Cited.{Read, cited, is_host_or_group}
 
 -- what stands behind a byte that comes first, blanks before it left aside
-abbrev pub behind_first : ℕ → List ℕ → Option (List ℕ)
-behind_first byte [] = None
-behind_first byte (b ∷ rest) = elim (is_blank b) [ true ↦ behind_first byte rest | false ↦ if b == byte then Some rest else None ]
+abbrev pub behind_byte_first : ℕ → List ℕ → Option (List ℕ)
+behind_byte_first byte [] = None
+behind_byte_first byte (b ∷ rest) = elim (is_blank b) [ true ↦ behind_byte_first byte rest | false ↦ if b == byte then Some rest else None ]
 
 -- overrides begin at a comma that an opening bracket follows
 abbrev pub begins_overrides : ℕ → List ℕ → Bool
-begins_overrides b rest = b == 44 && is_some (behind_first 91 rest)
+begins_overrides b rest = b == 44 && is_some (behind_byte_first 91 rest)
 
 -- what stands before the first such comma
 abbrev pub plain_part : List ℕ → List ℕ
@@ -35,7 +35,7 @@ key_and_value inside = if has_byte 61 inside then Some (before_byte 61 inside, b
 
 -- an override up to its closing bracket: a comma, an opening bracket, HOST=VALUE
 abbrev pub override_of : List ℕ → Option (List ℕ × List ℕ)
-override_of text = option_and_then key_and_value (option_and_then (behind_first 91) (behind_first 44 text))
+override_of text = option_and_then key_and_value (option_and_then (behind_byte_first 91) (behind_byte_first 44 text))
 
 -- one more before those, if both can be read
 abbrev pub before_others : Option (List ℕ × List ℕ) → Option (List (List ℕ × List ℕ)) → Option (List (List ℕ × List ℕ))

@@ -51,9 +51,9 @@ abbrev pub with_value : Read (List (List ℕ × Value)) → Read (Option (List �
 with_value values value = (put_value values.0 value.0, values.1 ++ value.1)
 
 -- one more item of a list
-abbrev pub with_item : Cluster → Fits → Read (List (List ℕ × Value)) → List ℕ → Read (List (List ℕ × Value))
-with_item c fits values item = with_value values (item_read c fits item)
+abbrev pub with_pair : Cluster → Fits → Read (List (List ℕ × Value)) → List ℕ → Read (List (List ℕ × Value))
+with_pair c fits values item = with_value values (item_read c fits item)
 
 -- a list of name=value
 abbrev pub values_read : Cluster → Fits → List ℕ → Read (List (List ℕ × Value))
-values_read c fits text = fold (with_item c fits) ([], []) (list_items text)
+values_read c fits text = fold (with_pair c fits) ([], []) (list_items text)

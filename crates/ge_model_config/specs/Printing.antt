@@ -20,8 +20,8 @@ use Rattle.ge_model_config.specs.Queues.{limit_kind}
 -- ---- values
 
 -- an attribute, a blank and its value
-abbrev pub attribute_line : List ℕ → List ℕ → List ℕ
-attribute_line attribute value = attribute ++ codes " " ++ value
+abbrev pub printed_attribute : List ℕ → List ℕ → List ℕ
+printed_attribute attribute value = attribute ++ codes " " ++ value
 
 -- a list of name=value, by name
 abbrev pub values_text : Cluster → List (List ℕ × Value) → List ℕ
@@ -44,22 +44,22 @@ module _ {T : Type 0} where
 
 -- a limit of a queue; one that its table doesn't have is INFINITY
 abbrev pub limit_line : List (List ℕ × Attr ℕ) → List ℕ → List ℕ
-limit_line limits name = attribute_line name (attr_text (number_text (limit_kind name)) (unwrap_or (at_text limits name) (plain_attr infinity)))
+limit_line limits name = printed_attribute name (attr_text (number_text (limit_kind name)) (unwrap_or (at_text limits name) (plain_attr infinity)))
 
 -- queue_conf
 abbrev pub queue_lines : Cluster → List ℕ → QueueRow → List (List ℕ)
 queue_lines c name q =
-    attribute_line (codes "qname") name
-    ∷ attribute_line (codes "hostlist") (list_text q.hosts)
-    ∷ attribute_line (codes "seq_no") (attr_text decimal q.seq_no)
-    ∷ attribute_line (codes "load_thresholds") (attr_text (values_text c) q.thresholds)
-    ∷ attribute_line (codes "pe_list") (attr_text list_text q.pes)
-    ∷ attribute_line (codes "user_lists") (attr_text list_text q.users)
-    ∷ attribute_line (codes "xuser_lists") (attr_text list_text q.xusers)
-    ∷ attribute_line (codes "projects") (attr_text list_text q.projects)
-    ∷ attribute_line (codes "xprojects") (attr_text list_text q.xprojects)
-    ∷ attribute_line (codes "complex_values") (attr_text (values_text c) q.values)
-    ∷ attribute_line (codes "slots") (attr_text decimal q.slots)
+    printed_attribute (codes "qname") name
+    ∷ printed_attribute (codes "hostlist") (list_text q.hosts)
+    ∷ printed_attribute (codes "seq_no") (attr_text decimal q.seq_no)
+    ∷ printed_attribute (codes "load_thresholds") (attr_text (values_text c) q.thresholds)
+    ∷ printed_attribute (codes "pe_list") (attr_text list_text q.pes)
+    ∷ printed_attribute (codes "user_lists") (attr_text list_text q.users)
+    ∷ printed_attribute (codes "xuser_lists") (attr_text list_text q.xusers)
+    ∷ printed_attribute (codes "projects") (attr_text list_text q.projects)
+    ∷ printed_attribute (codes "xprojects") (attr_text list_text q.xprojects)
+    ∷ printed_attribute (codes "complex_values") (attr_text (values_text c) q.values)
+    ∷ printed_attribute (codes "slots") (attr_text decimal q.slots)
     ∷ map (limit_line q.limits) limit_names
 
 -- sge_pe, allocation_rule
@@ -79,28 +79,28 @@ assumed_text UrgencySlots.Avg = codes "avg"
 -- sge_pe
 abbrev pub pe_lines : List ℕ → PeRow → List (List ℕ)
 pe_lines name pe =
-    attribute_line (codes "pe_name") name
-    ∷ attribute_line (codes "slots") (decimal pe.slots)
-    ∷ attribute_line (codes "user_lists") (list_text pe.users)
-    ∷ attribute_line (codes "xuser_lists") (list_text pe.xusers)
-    ∷ attribute_line (codes "allocation_rule") (allocation_text pe.rule)
-    ∷ attribute_line (codes "urgency_slots") (assumed_text pe.urgency_slots)
+    printed_attribute (codes "pe_name") name
+    ∷ printed_attribute (codes "slots") (decimal pe.slots)
+    ∷ printed_attribute (codes "user_lists") (list_text pe.users)
+    ∷ printed_attribute (codes "xuser_lists") (list_text pe.xusers)
+    ∷ printed_attribute (codes "allocation_rule") (allocation_text pe.rule)
+    ∷ printed_attribute (codes "urgency_slots") (assumed_text pe.urgency_slots)
     ∷ []
 
 -- project
 abbrev pub project_lines : List ℕ → ProjectRow → List (List ℕ)
 project_lines name project =
-    attribute_line (codes "name") name
-    ∷ attribute_line (codes "oticket") (decimal project.oticket)
-    ∷ attribute_line (codes "fshare") (decimal project.fshare)
-    ∷ attribute_line (codes "acl") (list_text project.acl)
-    ∷ attribute_line (codes "xacl") (list_text project.xacl)
+    printed_attribute (codes "name") name
+    ∷ printed_attribute (codes "oticket") (decimal project.oticket)
+    ∷ printed_attribute (codes "fshare") (decimal project.fshare)
+    ∷ printed_attribute (codes "acl") (list_text project.acl)
+    ∷ printed_attribute (codes "xacl") (list_text project.xacl)
     ∷ []
 
 -- user
 abbrev pub user_lines : List ℕ → UserRow → List (List ℕ)
 user_lines name user =
-    attribute_line (codes "name") name ∷ attribute_line (codes "oticket") (decimal user.oticket) ∷ attribute_line (codes "fshare") (decimal user.fshare) ∷ []
+    printed_attribute (codes "name") name ∷ printed_attribute (codes "oticket") (decimal user.oticket) ∷ printed_attribute (codes "fshare") (decimal user.fshare) ∷ []
 
 -- sched_conf, queue_sort_method
 abbrev pub sort_text : SortMethod → List ℕ
@@ -114,25 +114,25 @@ usage_text s = codes "cpu=" ++ fixed_text s.u_cpu ++ codes ",mem=" ++ fixed_text
 -- sched_conf
 abbrev pub sched_lines : Sched → List (List ℕ)
 sched_lines s =
-    attribute_line (codes "schedule_interval") (number_text Kind.Time s.interval)
-    ∷ attribute_line (codes "maxujobs") (decimal s.maxujobs)
-    ∷ attribute_line (codes "queue_sort_method") (sort_text s.sort)
-    ∷ attribute_line (codes "load_formula") s.load_formula
-    ∷ attribute_line (codes "weight_priority") (fixed_text s.w_priority)
-    ∷ attribute_line (codes "weight_urgency") (fixed_text s.w_urgency)
-    ∷ attribute_line (codes "weight_ticket") (fixed_text s.w_ticket)
-    ∷ attribute_line (codes "weight_waiting_time") (fixed_text s.w_waiting)
-    ∷ attribute_line (codes "weight_deadline") (fixed_text s.w_deadline)
-    ∷ attribute_line (codes "weight_tickets_functional") (decimal s.functional)
-    ∷ attribute_line (codes "weight_tickets_share") (decimal s.share)
-    ∷ attribute_line (codes "weight_user") (fixed_text s.w_user)
-    ∷ attribute_line (codes "weight_project") (fixed_text s.w_project)
-    ∷ attribute_line (codes "weight_job") (fixed_text s.w_job)
-    ∷ attribute_line (codes "halftime") (decimal s.halftime)
-    ∷ attribute_line (codes "max_reservation") (decimal s.max_reservation)
-    ∷ attribute_line (codes "default_duration") (number_text Kind.Time s.default_duration)
-    ∷ attribute_line (codes "usage_weight_list") (usage_text s)
-    ∷ attribute_line (codes "max_pending_tasks_per_job") (decimal s.max_pending)
+    printed_attribute (codes "schedule_interval") (number_text Kind.Time s.interval)
+    ∷ printed_attribute (codes "maxujobs") (decimal s.maxujobs)
+    ∷ printed_attribute (codes "queue_sort_method") (sort_text s.sort)
+    ∷ printed_attribute (codes "load_formula") s.load_formula
+    ∷ printed_attribute (codes "weight_priority") (fixed_text s.w_priority)
+    ∷ printed_attribute (codes "weight_urgency") (fixed_text s.w_urgency)
+    ∷ printed_attribute (codes "weight_ticket") (fixed_text s.w_ticket)
+    ∷ printed_attribute (codes "weight_waiting_time") (fixed_text s.w_waiting)
+    ∷ printed_attribute (codes "weight_deadline") (fixed_text s.w_deadline)
+    ∷ printed_attribute (codes "weight_tickets_functional") (decimal s.functional)
+    ∷ printed_attribute (codes "weight_tickets_share") (decimal s.share)
+    ∷ printed_attribute (codes "weight_user") (fixed_text s.w_user)
+    ∷ printed_attribute (codes "weight_project") (fixed_text s.w_project)
+    ∷ printed_attribute (codes "weight_job") (fixed_text s.w_job)
+    ∷ printed_attribute (codes "halftime") (decimal s.halftime)
+    ∷ printed_attribute (codes "max_reservation") (decimal s.max_reservation)
+    ∷ printed_attribute (codes "default_duration") (number_text Kind.Time s.default_duration)
+    ∷ printed_attribute (codes "usage_weight_list") (usage_text s)
+    ∷ printed_attribute (codes "max_pending_tasks_per_job") (decimal s.max_pending)
     ∷ []
 
 -- ---- rule sets
@@ -174,16 +174,16 @@ description_text (b ∷ text) = b ∷ text
 -- a rule set: its lines between braces (sge_resource_quota)
 abbrev pub quota_lines : Cluster → List ℕ → QuotaRow → List (List ℕ)
 quota_lines c name set =
-    codes "{" ∷ attribute_line (codes "name") name
-    ∷ attribute_line (codes "description") (description_text set.description)
-    ∷ attribute_line (codes "enabled") (flag_text set.enabled)
+    codes "{" ∷ printed_attribute (codes "name") name
+    ∷ printed_attribute (codes "description") (description_text set.description)
+    ∷ printed_attribute (codes "enabled") (flag_text set.enabled)
     ∷ map (rule_line c) set.rules ++ codes "}" ∷ []
 
 -- ---- tables
 
 -- a row of the table of complexes: eight words (complex)
-abbrev pub complex_line : List ℕ × ComplexDef → List ℕ
-complex_line row =
+abbrev pub printed_complex : List ℕ × ComplexDef → List ℕ
+printed_complex row =
     joined_by (codes " ") (row.0 ∷ row.1.shortcut ∷ kind_text row.1.kind ∷ relop_text row.1.relop ∷ requestable_text row.1.requestable
     ∷ consumable_text row.1.consumable ∷ value_text row.1.kind row.1.fallback ∷ fixed_text row.1.urgency ∷ [])
 
@@ -201,13 +201,13 @@ node_lines node =
 
 -- the printed lines of an item: each attribute in the order of its manual page, a blank and its value
 unfoldable pub printed : Cluster → Item → List (List ℕ)
-printed c (Item.Complexes table) = map complex_line table
-printed c (Item.Host name values) = attribute_line (codes "hostname") name ∷ attribute_line (codes "complex_values") (values_text c values) ∷ []
-printed c (Item.Group name hosts) = attribute_line (codes "group_name") name ∷ attribute_line (codes "hostlist") (list_text hosts) ∷ []
+printed c (Item.Complexes table) = map printed_complex table
+printed c (Item.Host name values) = printed_attribute (codes "hostname") name ∷ printed_attribute (codes "complex_values") (values_text c values) ∷ []
+printed c (Item.Group name hosts) = printed_attribute (codes "group_name") name ∷ printed_attribute (codes "hostlist") (list_text hosts) ∷ []
 printed c (Item.Queue name queue) = queue_lines c name queue
 printed c (Item.Pe name pe) = pe_lines name pe
 printed c (Item.Quota name set) = quota_lines c name set
-printed c (Item.Set name entries) = attribute_line (codes "name") name ∷ attribute_line (codes "entries") (list_text entries) ∷ []
+printed c (Item.Set name entries) = printed_attribute (codes "name") name ∷ printed_attribute (codes "entries") (list_text entries) ∷ []
 printed c (Item.User name user) = user_lines name user
 printed c (Item.Project name project) = project_lines name project
 printed c (Item.Shares nodes) = flat_map node_lines nodes

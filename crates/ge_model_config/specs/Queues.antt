@@ -8,7 +8,7 @@ use Rattle.ge_model_rows.specs.QueueRows.{QueueRow, Attr}
 use Rattle.ge_model_rows.specs.ValueRows.{Kind, infinity}
 use Rattle.ge_model_value.specs.Pieces.{is_one_of}
 use Rattle.ge_model_value.specs.Complexes.{time_limits}
-use Rattle.ge_model_config.specs.Cited.{Read, given, none_text, number_read, names_read, is_named, is_host_or_group}
+use Rattle.ge_model_config.specs.Cited.{Read, given, none_text, number_read, names_read, has_name, is_host_or_group}
 use Rattle.ge_model_config.specs.Pairs.{values_read, any_fits, number_fits}
 use Rattle.ge_model_config.specs.Overrides.{attr_read}
 use Rattle.ge_model_config.specs.Named.{name_faults, absent_faults}
@@ -18,14 +18,14 @@ abbrev pub limit_kind : List ℕ → Kind
 limit_kind name = if is_one_of name time_limits then Kind.Time else Kind.Memory
 
 -- one limit, INFINITY where the body leaves it out, put beside those that were read
-abbrev pub with_limit : Cluster → List (List ℕ × List ℕ) → Read (List (List ℕ × Attr ℕ)) → List ℕ → Read (List (List ℕ × Attr ℕ))
-with_limit c values limits name =
+abbrev pub with_queue_limit : Cluster → List (List ℕ × List ℕ) → Read (List (List ℕ × Attr ℕ)) → List ℕ → Read (List (List ℕ × Attr ℕ))
+with_queue_limit c values limits name =
     let limit = attr_read c values name (plain_attr infinity) (number_read (limit_kind name) 0 infinity) in
     (put_text limits.0 name limit.0, limits.1 ++ limit.1)
 
 -- the sixteen limits
 abbrev pub limits_read : Cluster → List (List ℕ × List ℕ) → Read (List (List ℕ × Attr ℕ))
-limits_read c values = fold (with_limit c values) ([], []) limit_names
+limits_read c values = fold (with_queue_limit c values) ([], []) limit_names
 
 -- the queue that a body gives: an attribute that is left out has its default
 unfoldable pub queue_read : Cluster → List (List ℕ × List ℕ) → Read QueueRow
@@ -33,11 +33,11 @@ queue_read c values =
     let hosts = names_read (is_host_or_group c) (given values (codes "hostlist") none_text) in
     let seq_no = attr_read c values (codes "seq_no") default_queue.seq_no (number_read Kind.Int 0 infinity) in
     let thresholds = attr_read c values (codes "load_thresholds") default_queue.thresholds (values_read c number_fits) in
-    let pes = attr_read c values (codes "pe_list") default_queue.pes (names_read (is_named c.pes)) in
-    let users = attr_read c values (codes "user_lists") default_queue.users (names_read (is_named c.sets)) in
-    let xusers = attr_read c values (codes "xuser_lists") default_queue.xusers (names_read (is_named c.sets)) in
-    let projects = attr_read c values (codes "projects") default_queue.projects (names_read (is_named c.projects)) in
-    let xprojects = attr_read c values (codes "xprojects") default_queue.xprojects (names_read (is_named c.projects)) in
+    let pes = attr_read c values (codes "pe_list") default_queue.pes (names_read (has_name c.pes)) in
+    let users = attr_read c values (codes "user_lists") default_queue.users (names_read (has_name c.sets)) in
+    let xusers = attr_read c values (codes "xuser_lists") default_queue.xusers (names_read (has_name c.sets)) in
+    let projects = attr_read c values (codes "projects") default_queue.projects (names_read (has_name c.projects)) in
+    let xprojects = attr_read c values (codes "xprojects") default_queue.xprojects (names_read (has_name c.projects)) in
     let amounts = attr_read c values (codes "complex_values") default_queue.values (values_read c any_fits) in
     let slots = attr_read c values (codes "slots") default_queue.slots (number_read Kind.Int 0 infinity) in
     let limits = limits_read c values in (

@@ -12,7 +12,7 @@ use Rattle.ge_model_value.specs.Faults.{when}
 use Rattle.ge_model_value.specs.Values.{value_of, amount_in}
 use Rattle.ge_model_value.specs.Complexes.{is_consumable}
 use Rattle.ge_model_grammar.specs.declared.RuleLine.{RuleLine}
-use Rattle.ge_model_config.specs.Cited.{Read, given, none_text, cited, is_named}
+use Rattle.ge_model_config.specs.Cited.{Read, given, none_text, cited, has_name}
 use Rattle.ge_model_config.specs.Pairs.{pair_read}
 use Rattle.ge_model_config.specs.Named.{name_faults}
 
@@ -24,12 +24,12 @@ elements_of (Some filter) = filter.plain ++ filter.without
 -- among users an at sign and a name is a user set, which has to be there; all else is a pattern
 abbrev pub is_known_user : Cluster → List ℕ → Bool
 is_known_user c [] = true
-is_known_user c (b ∷ name) = not (b == 64) || is_named c.sets name
+is_known_user c (b ∷ name) = not (b == 64) || has_name c.sets name
 
 -- among hosts an at sign and a name is a host group, which has to be there
 abbrev pub is_known_host : Cluster → List ℕ → Bool
 is_known_host c [] = true
-is_known_host c (b ∷ name) = not (b == 64) || is_named c.groups (b ∷ name)
+is_known_host c (b ∷ name) = not (b == 64) || has_name c.groups (b ∷ name)
 
 -- a rule limits consumables
 abbrev pub consumable_fits : Cluster → List ℕ → ComplexDef → Bool
@@ -41,8 +41,8 @@ put_limit table None = table
 put_limit table (Some pair) = put_text table pair.0 (amount_in pair.1)
 
 -- one more resource beside those that were read
-abbrev pub with_limit : Cluster → Read (List (List ℕ × ℕ)) → List ℕ × List ℕ → Read (List (List ℕ × ℕ))
-with_limit c limits pair =
+abbrev pub with_rule_limit : Cluster → Read (List (List ℕ × ℕ)) → List ℕ × List ℕ → Read (List (List ℕ × ℕ))
+with_rule_limit c limits pair =
     let limit = pair_read c (consumable_fits c) pair in
     (put_limit limits.0 limit.0, limits.1 ++ limit.1)
 
@@ -54,7 +54,7 @@ is_rule_name (b ∷ name) = is_name (b ∷ name)
 -- a rule: its name, its filters and what it limits
 abbrev pub rule_read : Cluster → RuleLine → Read Rule
 rule_read c line =
-    let limits = fold (with_limit c) ([], []) line.limits in (
+    let limits = fold (with_rule_limit c) ([], []) line.limits in (
       record {
         name = line.name;
         users = line.users;

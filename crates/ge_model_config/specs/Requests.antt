@@ -12,7 +12,7 @@ use Rattle.ge_model_value.specs.Pieces.{pieces_at, has_byte, before_byte, behind
 use Rattle.ge_model_value.specs.Values.{value_of}
 use Rattle.ge_model_value.specs.Complexes.{complex_named}
 use Rattle.ge_model_grammar.specs.Options.{option_words, slot_range_of}
-use Rattle.ge_model_config.specs.Cited.{Read, answered, is_named}
+use Rattle.ge_model_config.specs.Cited.{Read, answered, has_name}
 use Rattle.ge_model_config.specs.Pairs.{beside, with_value}
 
 -- what an item of -l asks: a name alone asks TRUE
@@ -26,15 +26,15 @@ is_unrequestable Requestable.Yes = false
 is_unrequestable Requestable.Forced = false
 
 -- an item of -l, whose complex was found: slots can't be asked this way
-abbrev pub asked_of : List ℕ → Option (List ℕ × ComplexDef) → Read (Option (List ℕ × Value))
-asked_of text None = (None, NoSuchObject ∷ [])
-asked_of text (Some complex) =
+abbrev pub asked_item : List ℕ → Option (List ℕ × ComplexDef) → Read (Option (List ℕ × Value))
+asked_item text None = (None, NoSuchObject ∷ [])
+asked_item text (Some complex) =
     let value = value_of complex.1.kind text in
     (beside complex.0 value, when (text_eq complex.0 (codes "slots")) BadValue ++ when (is_none value) BadValue ++ when (is_unrequestable complex.1.requestable) NotRequestable)
 
 -- an item of -l: name=value or name, by the name or the shortcut of a complex
 abbrev pub asked_read : Cluster → List ℕ → Read (Option (List ℕ × Value))
-asked_read c item = asked_of (asked_text item) (complex_named c (before_byte 61 item))
+asked_read c item = asked_item (asked_text item) (complex_named c (before_byte 61 item))
 
 -- one more item of -l beside those that were read: of an attribute that is asked twice the last counts
 abbrev pub with_asked : Cluster → Read (List (List ℕ × Value)) → List ℕ → Read (List (List ℕ × Value))
@@ -65,7 +65,7 @@ range_read name (Some range) =
 abbrev pub pe_read : Cluster → List (List ℕ) → Read (Option PeRequest)
 pe_read c (name ∷ range ∷ more) =
     let pe = range_read name (slot_range_of range) in
-    (pe.0, when (not (is_named c.pes name)) NoSuchObject ++ pe.1)
+    (pe.0, when (not (has_name c.pes name)) NoSuchObject ++ pe.1)
 pe_read c _ = (None, [])
 
 -- -q: patterns joined by commas

@@ -45,14 +45,14 @@ abbrev pub is_weight : List ℕ → Bool
 is_weight item = has_byte 61 item && is_one_of (before_byte 61 item) usage_names
 
 -- one more item beside those that were read: of a name that comes twice the last counts
-abbrev pub with_weight : Read (List (List ℕ × ℕ)) → List ℕ → Read (List (List ℕ × ℕ))
-with_weight weights item =
+abbrev pub with_weight_item : Read (List (List ℕ × ℕ)) → List ℕ → Read (List (List ℕ × ℕ))
+with_weight_item weights item =
     let weight = weight_read item in
     (put_text weights.0 (before_byte 61 item) weight.0, weights.1 ++ when (not (is_weight item)) BadValue ++ weight.1)
 
 -- the weights by name
 abbrev pub weights_read : List ℕ → Read (List (List ℕ × ℕ))
-weights_read text = fold with_weight ([], []) (list_items text)
+weights_read text = fold with_weight_item ([], []) (list_items text)
 
 -- a name that the list leaves out weighs nothing
 abbrev pub weight_at : List (List ℕ × ℕ) → List ℕ → ℕ

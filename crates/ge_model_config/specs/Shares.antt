@@ -12,10 +12,10 @@ use Rattle.ge_model_rows.specs.PeopleRows.{ShareNode}
 use Rattle.ge_model_rows.specs.ValueRows.{Value, Kind}
 use Rattle.ge_model_script.specs.Names.{is_name}
 use Rattle.ge_model_value.specs.Faults.{when}
-use Rattle.ge_model_value.specs.Pieces.{is_empty, each_number_once, with_number, list_items, is_digits, number_of}
+use Rattle.ge_model_value.specs.Pieces.{is_empty, lists_number, each_number_once, with_one_number, list_items, is_digits, number_of}
 use Rattle.ge_model_value.specs.Values.{value_of, amount_in}
 use Rattle.ge_model_grammar.specs.declared.NodeLines.{NodeLines}
-use Rattle.ge_model_config.specs.Cited.{Read, number_read, cited, is_named}
+use Rattle.ge_model_config.specs.Cited.{Read, number_read, cited, has_name}
 use Rattle.ge_model_config.specs.Complexes.{are_distinct}
 
 -- ---- the nodes as they are written
@@ -30,8 +30,8 @@ abbrev pub id_of : NodeLines → Option ℕ
 id_of lines = id_within (value_of Kind.Int lines.id)
 
 -- the children that are numbers, however wide
-abbrev pub children_of : NodeLines → List ℕ
-children_of lines = map number_of (filter is_digits (list_items lines.children))
+abbrev pub child_numbers : NodeLines → List ℕ
+child_numbers lines = map number_of (filter is_digits (list_items lines.children))
 
 -- a number cut at the end of its type
 abbrev pub id_cut : ℕ → ℕ
@@ -46,12 +46,12 @@ abbrev pub shares_of : NodeLines → Read ℕ
 shares_of lines = number_read Kind.Int 0 (2 ^ 32 - 1) lines.shares
 
 -- the node, whatever its id
-abbrev pub node_of : NodeLines → ShareNode
-node_of lines = record { name = lines.name; project = is_project_line lines; shares = (shares_of lines).0; children = map id_cut (children_of lines) }
+abbrev pub node_from_lines : NodeLines → ShareNode
+node_from_lines lines = record { name = lines.name; project = is_project_line lines; shares = (shares_of lines).0; children = map id_cut (child_numbers lines) }
 
 -- a table with a node under its id, where it has one
 abbrev pub put_node : List (ℕ × ShareNode) → NodeLines → List (ℕ × ShareNode)
-put_node table lines = elim (id_of lines) [ None ↦ table | Some id ↦ put_number table id (node_of lines) ]
+put_node table lines = elim (id_of lines) [ None ↦ table | Some id ↦ put_number table id (node_from_lines lines) ]
 
 -- the nodes by id
 abbrev pub nodes_of : List NodeLines → List (ℕ × ShareNode)
@@ -63,18 +63,14 @@ line_faults c lines =
     when (is_none (id_of lines) || not (is_project_line lines || text_eq lines.sort (codes "0"))) BadValue
     ++ when (not (is_name lines.name) || not (list_all is_digits (list_items lines.children))) BadValue
     ++ (shares_of lines).1
-    ++ (if is_project_line lines then cited (is_named c.projects) (lines.name ∷ []) else [])
+    ++ (if is_project_line lines then cited (has_name c.projects) (lines.name ∷ []) else [])
 
 -- ---- the tree
-
--- whether a number stands in a list
-abbrev pub has_id : List ℕ → ℕ → Bool
-has_id ids id = list_any (λ other. other == id) ids
 
 -- whether no number comes twice
 abbrev pub are_different : List ℕ → Bool
 are_different [] = true
-are_different (id ∷ ids) = not (has_id ids id) && are_different ids
+are_different (id ∷ ids) = not (lists_number ids id) && are_different ids
 
 -- the children of a node, none where it isn't there
 abbrev pub children_at : List (ℕ × ShareNode) → ℕ → List ℕ
@@ -90,18 +86,18 @@ all_children table = flat_map (λ node. node.1.children) table
 
 -- the nodes met, and all below them: place by place, the children of a node join those met, each once. There are no more
 -- places than children
-abbrev pub reached : ℕ → List (ℕ × ShareNode) → List ℕ → ℕ → List ℕ
-reached zero table met place = met
-reached (suc places) table met place =
-    elim (slice_get met place) [ None ↦ met | Some id ↦ reached places table (fold with_number met (children_at table id)) (place + 1) ]
+abbrev pub reached_nodes : ℕ → List (ℕ × ShareNode) → List ℕ → ℕ → List ℕ
+reached_nodes zero table met place = met
+reached_nodes (suc places) table met place =
+    elim (slice_get met place) [ None ↦ met | Some id ↦ reached_nodes places table (fold with_one_number met (children_at table id)) (place + 1) ]
 
 -- the nodes below these, each once, by one walk down from all of them
 abbrev pub below_all : List (ℕ × ShareNode) → List ℕ → List ℕ
-below_all table ids = reached (length (all_children table)) table (each_number_once (flat_map (children_at table) ids)) 0
+below_all table ids = reached_nodes (length (all_children table)) table (each_number_once (flat_map (children_at table) ids)) 0
 
 -- the nodes below a node
-abbrev pub below : List (ℕ × ShareNode) → ℕ → List ℕ
-below table id = below_all table (id ∷ [])
+abbrev pub nodes_below : List (ℕ × ShareNode) → ℕ → List ℕ
+nodes_below table id = below_all table (id ∷ [])
 
 -- each node but the root, id 0, is the child of just one
 abbrev pub has_one_parent : List ℕ → ℕ → Bool
@@ -128,16 +124,16 @@ abbrev pub names_differ : List (ℕ × ShareNode) → List ℕ → Bool
 names_differ table ids = are_distinct (filter_map (user_name table) ids)
 
 -- the ids of which none is one of these
-abbrev pub outside : List ℕ → List ℕ → List ℕ
-outside part ids = filter (λ id. not (has_id part id)) ids
+abbrev pub ids_outside : List ℕ → List ℕ → List ℕ
+ids_outside part ids = filter (λ id. not (lists_number part id)) ids
 
 -- a scope is what is below one project, or what is below none: in each the names differ
 abbrev pub scopes_differ : List (ℕ × ShareNode) → List ℕ → Bool
-scopes_differ table owned = names_differ table (outside owned (keys_of table)) && list_all (λ id. names_differ table (below table id)) (projects_in table)
+scopes_differ table owned = names_differ table (ids_outside owned (keys_of table)) && list_all (λ id. names_differ table (nodes_below table id)) (projects_in table)
 
 -- where each node has one parent, nodes go round where the root is a child or doesn't reach all others
 abbrev pub goes_round : List (ℕ × ShareNode) → List ℕ → Bool
-goes_round table below_root = has_id below_root 0 || not (list_all (λ id. id == 0 || has_id below_root id) (keys_of table))
+goes_round table below_root = lists_number below_root 0 || not (list_all (λ id. id == 0 || lists_number below_root id) (keys_of table))
 
 -- the nodes so many levels below these
 abbrev pub level_below : ℕ → List (ℕ × ShareNode) → List ℕ → List ℕ
@@ -150,13 +146,13 @@ is_deep table = not (is_empty (level_below 17 table (0 ∷ [])))
 
 -- what is asked of nodes that nothing else refuses: no cycle, and then no more than 16 levels
 abbrev pub depth_faults : List (ℕ × ShareNode) → List Refusal
-depth_faults table = elim (goes_round table (below table 0)) [ true ↦ Cycle ∷ [] | false ↦ when (is_deep table) Limit ]
+depth_faults table = elim (goes_round table (nodes_below table 0)) [ true ↦ Cycle ∷ [] | false ↦ when (is_deep table) Limit ]
 
 -- what the ids, the children and the projects make wrong: no project is below one, itself included
 abbrev pub node_faults : List NodeLines → List (ℕ × ShareNode) → List ℕ → List Refusal
 node_faults nodes table owned =
     when (not (are_different (filter_map id_of nodes))) BadValue
-    ++ when (list_any (λ child. is_none (at_number table child)) (flat_map children_of nodes)) NoSuchObject
+    ++ when (list_any (λ child. is_none (at_number table child)) (flat_map child_numbers nodes)) NoSuchObject
     ++ when (not (list_all (has_one_parent (all_children table)) (keys_of table))) BadValue
     ++ when (not (has_no_project table owned)) BadValue
 

@@ -9,7 +9,7 @@ use Rattle.ge_model_rows.specs.QueueRows.{QueueRow, Attr}
 use Rattle.ge_model_rows.specs.QuotaRows.{Rule}
 use Rattle.ge_model_value.specs.Pieces.{is_one_of}
 use Rattle.ge_model_value.specs.Complexes.{opening_complexes}
-use Rattle.ge_model_config.specs.Cited.{is_named}
+use Rattle.ge_model_config.specs.Cited.{has_name}
 use Rattle.ge_model_config.specs.Quotas.{elements_of}
 
 -- whether a running task has a grant that passes a test
@@ -104,12 +104,12 @@ is_project_used c name =
 -- the opening table
 abbrev pub is_complex_used : Cluster → List ℕ → Bool
 is_complex_used c name =
-    is_named opening_complexes name || text_eq name c.sched.load_formula
-    || list_any (λ host. is_named host.1.values name || is_named host.1.load name) c.hosts
-    || queue_where c (λ q. attr_where (λ table. is_named table name) q.values || attr_where (λ table. is_named table name) q.thresholds)
-    || rule_where c (λ rule. is_named rule.limits name)
-    || job_where c (λ job. is_named job.request.asked name)
-    || advance_where c (λ booked. is_named booked.request.asked name)
+    has_name opening_complexes name || text_eq name c.sched.load_formula
+    || list_any (λ host. has_name host.1.values name || has_name host.1.load name) c.hosts
+    || queue_where c (λ q. attr_where (λ table. has_name table name) q.values || attr_where (λ table. has_name table name) q.thresholds)
+    || rule_where c (λ rule. has_name rule.limits name)
+    || job_where c (λ job. has_name job.request.asked name)
+    || advance_where c (λ booked. has_name booked.request.asked name)
 
 -- whether an object is used, so that it can't be deleted; users, rule sets and the share tree never are
 unfoldable pub is_used : Cluster → ObjectKind → List ℕ → Bool
@@ -124,14 +124,14 @@ is_used c _ name = false
 
 -- whether an object is there: a manager or operator by membership; the complexes, the share tree and the settings always are
 unfoldable pub is_there : Cluster → ObjectKind → List ℕ → Bool
-is_there c ObjectKind.Host name = is_named c.hosts name
-is_there c ObjectKind.Group name = is_named c.groups name
-is_there c ObjectKind.Queue name = is_named c.queues name
-is_there c ObjectKind.Pe name = is_named c.pes name
-is_there c ObjectKind.Quota name = is_named c.quotas name
-is_there c ObjectKind.Set name = is_named c.sets name
-is_there c ObjectKind.User name = is_named c.users name
-is_there c ObjectKind.Project name = is_named c.projects name
+is_there c ObjectKind.Host name = has_name c.hosts name
+is_there c ObjectKind.Group name = has_name c.groups name
+is_there c ObjectKind.Queue name = has_name c.queues name
+is_there c ObjectKind.Pe name = has_name c.pes name
+is_there c ObjectKind.Quota name = has_name c.quotas name
+is_there c ObjectKind.Set name = has_name c.sets name
+is_there c ObjectKind.User name = has_name c.users name
+is_there c ObjectKind.Project name = has_name c.projects name
 is_there c ObjectKind.Managers name = is_one_of name c.managers
 is_there c ObjectKind.Operators name = is_one_of name c.operators
 is_there c ObjectKind.Complexes name = true

@@ -8,7 +8,7 @@ use Rattle.ge_model_value.specs.Complexes.{opening}
 use Rattle.ge_model_grammar.specs.Options.{Given}
 use Rattle.ge_model_config.specs.Requests.{request_of}
 use Rattle.ge_model_core.specs.JobAdvances.{stay_faults}
-use Rattle.ge_model_core.specs.Booking.{booked_from, booked_until, is_booked_out}
+use Rattle.ge_model_core.specs.Booking.{booked_from, asked_until, is_booked_out}
 
 abbrev some_advance : Advance
 some_advance = record { name = []; owner = []; group = []; from = 1; until = 2; request = record { asked = []; queues = []; pe = None }; grants = [] }
@@ -59,7 +59,7 @@ now = record { moment = 50; user = codes "ann"; group = codes "staff"; text = []
 begins : booked_from now (one (codes "-a") (codes "0070" ∷ [])) ∷ booked_from now [] ∷ [] ≡ 70 ∷ 50 ∷ []
 begins = refl
 
-ends : map (booked_until now) (
+ends : map (asked_until now) (
     one (codes "-e") (codes "80" ∷ [])
     ∷ one (codes "-d") (codes "1:0:0" ∷ [])
     ∷ one (codes "-d") (codes "30" ∷ [])

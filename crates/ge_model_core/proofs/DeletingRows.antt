@@ -5,7 +5,7 @@ use Rattle.ge_model_rows.specs.ClusterRows.{Cluster, opening_cluster}
 use Rattle.ge_model_rows.specs.EntryRows.{Pick}
 use Rattle.ge_model_rows.specs.JobRows.{Job, Running}
 use Rattle.ge_model_rows.specs.TaskRows.{TaskSpan}
-use Rattle.ge_model_jobs.specs.Picks.{picked}
+use Rattle.ge_model_jobs.specs.Picks.{picked_tasks}
 use Rattle.ge_model_core.specs.Deleting.{removed_line}
 use Rattle.ge_model_core.specs.Targets.{named_jobs}
 
@@ -54,21 +54,21 @@ mixed = job (span 1 5 2 ∷ []) (span 2 2 1 ∷ []) (runs 4 ∷ runs 7 ∷ [])
 abbrev twice : Job
 twice = job (span 3 4 1 ∷ []) [] (runs 4 ∷ [])
 
-each_in_one_place : removed_line false ((mixed, picked mixed None) ∷ []) ≡ codes "removed 4 marked 2"
+each_in_one_place : removed_line false ((mixed, picked_tasks mixed None) ∷ []) ≡ codes "removed 4 marked 2"
 unfolding digits
 each_in_one_place = refl
 
-by_force : removed_line true ((mixed, picked mixed None) ∷ []) ≡ codes "removed 6 marked 0"
+by_force : removed_line true ((mixed, picked_tasks mixed None) ∷ []) ≡ codes "removed 6 marked 0"
 unfolding digits
 by_force = refl
 
 -- one that waits and runs is taken from the waiting ones, and marked
-waits_and_runs : removed_line false ((twice, picked twice None) ∷ []) ≡ codes "removed 2 marked 1"
+waits_and_runs : removed_line false ((twice, picked_tasks twice None) ∷ []) ≡ codes "removed 2 marked 1"
 unfolding digits
 waits_and_runs = refl
 
 -- by force it counts once
-waits_and_runs_by_force : removed_line true ((twice, picked twice None) ∷ []) ≡ codes "removed 2 marked 0"
+waits_and_runs_by_force : removed_line true ((twice, picked_tasks twice None) ∷ []) ≡ codes "removed 2 marked 0"
 unfolding digits
 waits_and_runs_by_force = refl
 

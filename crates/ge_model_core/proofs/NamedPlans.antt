@@ -11,8 +11,8 @@ use Rattle.ge_model_rows.specs.EntryRows.{Item, ObjectKind}
 use Rattle.ge_model_rows.specs.EventRows.{Event, Planned}
 use Rattle.ge_model_rows.specs.JobRows.{Grant, Advance}
 use Rattle.ge_model_script.specs.Lines.{is_too_long}
-use Rattle.ge_model_plan.specs.Plan.{is_cut}
-use Rattle.ge_model_plan.specs.Refusals.{refused, unless_refused}
+use Rattle.ge_model_core.specs.Forms.{is_cut}
+use Rattle.ge_model_core.specs.Refusals.{refused, unless_refused}
 use Rattle.ge_model_value.specs.Faults.{turn_of, earlier_fault, first_fault, when}
 use Rattle.ge_model_value.specs.Pieces.{each_number_once}
 use Rattle.ge_model_site.specs.Access.{is_operator}
@@ -26,11 +26,11 @@ use Rattle.ge_model_jobs.specs.Serials.{running_with}
 use Rattle.ge_model_place.specs.Advances.{advance_grants}
 use Rattle.ge_model_report.specs.Accounting.{account_of}
 use Rattle.ge_model_report.specs.Orders.{orders_of, task_lines}
-use Rattle.ge_model_core.specs.Answers.{unless_faulty, shown, changed, done}
+use Rattle.ge_model_core.specs.Answers.{unless_faulty, shown, changed, done_lines}
 use Rattle.ge_model_core.specs.Altering.{alter_plan, patches_of, alter_faults, closes_a_cycle, altered}
-use Rattle.ge_model_core.specs.Submitting.{submit_plan, submitter, size_faults, tasks_of, submitted, job_of}
+use Rattle.ge_model_core.specs.Submitting.{submit_plan, submitter, size_faults, submitted_tasks, submission_answer, submitted_job}
 use Rattle.ge_model_core.specs.Deleting.{delete_plan, clear_plan, removed_line, cleared_line}
-use Rattle.ge_model_core.specs.Holding.{hold_plan, release_plan, hold_plan_faults, held}
+use Rattle.ge_model_core.specs.Holding.{hold_plan, release_plan, hold_plan_faults, hold_answer}
 use Rattle.ge_model_core.specs.Configuring.{put, add_plan, body_plan, body_plan_of, remove_plan, manager_faults, enlisted, enlist_faults, print_plan, print_plan_of, remove_faults}
 use Rattle.ge_model_core.specs.Showing.{show_plan, account_plan}
 use Rattle.ge_model_core.specs.Reports.{load_plan, end_plan, orders_plan, task_plan, stop_plan, host_faults, report_faults, report_of, serial_faults, end_faults}
@@ -129,15 +129,15 @@ shown_named c now (Some number) = turned (is_some (at_number c.advances number))
 command_named : (c : Cluster) (e : Event) (command : Command) → IsWellNamed c → IsNaming (command_plan c e command)
 unfolding submit_plan alter_plan delete_plan clear_plan hold_plan release_plan remove_plan print_plan load_plan end_plan orders_plan task_plan stop_plan sched_plan book_plan unbook_plan show_booked_plan
 command_named c e (Command.Submit options words script) named =
-    checked (option_faults c e options.items (submitter e options.items) ++ join_faults c e options.items ++ size_faults c (tasks_of options.items) words script) (submitted e (job_of c e options.items words script)) (λ none. tt)
+    checked (option_faults c e options.items (submitter e options.items) ++ join_faults c e options.items ++ size_faults c (submitted_tasks options.items) words script) (submission_answer e (submitted_job c e options.items words script)) (λ none. tt)
 command_named c e (Command.Alter options numbers) named =
     let patches = patches_of c options.items numbers in checked (flat_map (alter_faults c e options.items) numbers ++ when (closes_a_cycle c options.items patches) Cycle) (altered e patches) (λ none. tt)
 command_named c e (Command.Delete force picks) named =
     checked (flat_map (target_faults c e) picks ++ when (force && not (is_operator c e.user)) NotPermitted) (changed e (Delete picks force) (removed_line force (named_jobs c picks) ∷ [])) (λ none. tt)
 command_named c e (Command.Hold bits numbers) named =
-    let once = each_number_once numbers in checked (hold_plan_faults c e bits numbers) (held e (Hold once bits) once) (λ none. tt)
+    let once = each_number_once numbers in checked (hold_plan_faults c e bits numbers) (hold_answer e (Hold once bits) once) (λ none. tt)
 command_named c e (Command.Release bits numbers) named =
-    let once = each_number_once numbers in checked (hold_plan_faults c e bits numbers) (held e (Release once bits) once) (λ none. tt)
+    let once = each_number_once numbers in checked (hold_plan_faults c e bits numbers) (hold_answer e (Release once bits) once) (λ none. tt)
 command_named c e (Command.Clear picks) named =
     checked (flat_map (target_faults c e) picks) (changed e (Clear picks) (cleared_line (named_jobs c picks) ∷ [])) (λ none. tt)
 command_named c e (Command.Show what) named = show_named c e what
@@ -145,12 +145,12 @@ command_named c e (Command.Account what) named = account_named c what
 command_named c e (Command.Add sort text) named = add_named c e sort text named
 command_named c e (Command.Modify sort text) named = text_named c e sort false text named
 command_named c e (Command.Remove key) named =
-    checked (manager_faults c e ++ remove_faults c key.kind key.name) (changed e (Drop key) done) (λ none. tt)
+    checked (manager_faults c e ++ remove_faults c key.kind key.name) (changed e (Drop key) done_lines) (λ none. tt)
 command_named c e (Command.Print key) named = print_named c (item_at c key.kind key.name)
 command_named c e (Command.Load host pairs) named =
-    checked (manager_faults c e ++ host_faults c host ++ flat_map (report_faults c) pairs) (changed e (Load host (report_of c pairs)) done) (λ none. tt)
+    checked (manager_faults c e ++ host_faults c host ++ flat_map (report_faults c) pairs) (changed e (Load host (report_of c pairs)) done_lines) (λ none. tt)
 command_named c e (Command.End serial exit cpu mem io) named =
-    checked (manager_faults c e ++ serial_faults c serial ++ end_faults exit cpu mem io) (changed e (End serial exit cpu mem io) done) (λ none. tt)
+    checked (manager_faults c e ++ serial_faults c serial ++ end_faults exit cpu mem io) (changed e (End serial exit cpu mem io) done_lines) (λ none. tt)
 command_named c e Command.Sched named =
     checked (manager_faults c e) (decided e (decisions_at c e.moment)) (λ none. tt)
 command_named c e (Command.Orders host) named =
@@ -158,7 +158,7 @@ command_named c e (Command.Orders host) named =
 command_named c e (Command.JobOf serial) named =
     checked (manager_faults c e ++ when (is_none (running_with c.jobs serial)) NoSuchObject) (shown (task_lines c serial)) (λ none. tt)
 command_named c e Command.Stop named =
-    checked (manager_faults c e) (record (shown done) { stop = true }) (λ none. tt)
+    checked (manager_faults c e) (record (shown done_lines) { stop = true }) (λ none. tt)
 command_named c e (Command.Book options) named =
     let asked = advance_asked c e options.items in checked (book_faults c e options.items) _ (λ none. booked_named c e asked (advance_grants c e.moment asked))
 command_named c e (Command.Unbook numbers) named =

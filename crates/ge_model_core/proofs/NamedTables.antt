@@ -18,7 +18,7 @@ use Rattle.ge_model_jobs.specs.Applying.{after_change, after_entry}
 use Rattle.ge_model_jobs.specs.Altering.{with_job, with_altered, with_held, with_freed}
 use Rattle.ge_model_jobs.specs.Ending.{with_deleted, with_cleared, lose_tasks, end_task, forced_lines, without_picked, delete_from, with_end}
 use Rattle.ge_model_jobs.specs.Starting.{with_run}
-use Rattle.ge_model_jobs.specs.Configuring.{reported, with_item, without_item, with_load}
+use Rattle.ge_model_jobs.specs.Configuring.{with_load_report, with_item, without_item, with_load}
 use Rattle.ge_model_jobs.specs.Picks.{joined_picks}
 use Rattle.ge_model_jobs.specs.Serials.{running_with}
 
@@ -107,7 +107,7 @@ change_names moment c (Change.Put thing) fits names = put_names moment c thing f
 change_names moment c (Change.Drop key) fits names = drop_names c key.kind key.name names
 change_names moment c (Change.Load host report) fits named =
     let n = named.names in record {
-      names = record { hosts = ap (list_all is_name) (changed_keys (is_at (text_cmp host)) (reported report) c.hosts) ∙ n.hosts; groups = n.groups; sets = n.sets; complexes = n.complexes };
+      names = record { hosts = ap (list_all is_name) (changed_keys (is_at (text_cmp host)) (with_load_report report) c.hosts) ∙ n.hosts; groups = n.groups; sets = n.sets; complexes = n.complexes };
       formula = named.formula;
       rows = named.rows;
     }

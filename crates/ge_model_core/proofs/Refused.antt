@@ -11,8 +11,8 @@ use Rattle.ge_model_rows.specs.EventRows.{Event, Planned}
 use Rattle.ge_model_rows.specs.JobRows.{Grant, Advance}
 use Rattle.ge_collections.specs.Keyed.{at_number, at_text}
 use Rattle.ge_model_script.specs.Lines.{is_too_long}
-use Rattle.ge_model_plan.specs.Plan.{is_cut}
-use Rattle.ge_model_plan.specs.Refusals.{refused, unless_refused}
+use Rattle.ge_model_core.specs.Forms.{is_cut}
+use Rattle.ge_model_core.specs.Refusals.{refused, unless_refused}
 use Rattle.ge_model_value.specs.Faults.{first_fault, when}
 use Rattle.ge_model_value.specs.Pieces.{each_number_once}
 use Rattle.ge_model_site.specs.Access.{is_operator}
@@ -24,14 +24,14 @@ use Rattle.ge_model_config.specs.Printing.{item_at}
 use Rattle.ge_model_grammar.specs.declared.Body.{Body}
 use Rattle.ge_model_grammar.specs.Bodies.{body_of}
 use Rattle.ge_model_report.specs.Accounting.{account_of}
-use Rattle.ge_model_core.specs.Answers.{unless_faulty, changed, shown, done}
-use Rattle.ge_model_core.specs.Submitting.{submit_plan, submitter, size_faults, tasks_of, submitted, job_of}
+use Rattle.ge_model_core.specs.Answers.{unless_faulty, changed, shown, done_lines}
+use Rattle.ge_model_core.specs.Submitting.{submit_plan, submitter, size_faults, submitted_tasks, submission_answer, submitted_job}
 use Rattle.ge_model_core.specs.JobOptions.{option_faults}
 use Rattle.ge_model_core.specs.JobAdvances.{join_faults}
 use Rattle.ge_model_core.specs.Targets.{target_faults, named_jobs}
 use Rattle.ge_model_core.specs.Altering.{alter_plan, patches_of, alter_faults, closes_a_cycle, altered}
 use Rattle.ge_model_core.specs.Deleting.{delete_plan, clear_plan, removed_line, cleared_line}
-use Rattle.ge_model_core.specs.Holding.{hold_plan, release_plan, hold_plan_faults, held}
+use Rattle.ge_model_core.specs.Holding.{hold_plan, release_plan, hold_plan_faults, hold_answer}
 use Rattle.ge_model_core.specs.Configuring.{put, add_plan, body_plan, body_plan_of, remove_plan, remove_faults, manager_faults, enlisted, enlist_faults, print_plan, print_plan_of}
 use Rattle.ge_model_core.specs.Showing.{show_plan, account_plan}
 use Rattle.ge_model_core.specs.Reports.{load_plan, host_faults, report_faults, report_of, end_plan, serial_faults, end_faults, orders_plan, task_plan, stop_plan}
@@ -70,7 +70,7 @@ chosen true r p answer = refusal r
 chosen false r p answer = answer
 
 put_answers : (c : Cluster) (e : Event) (read : Item × List Refusal) → IsAnswer (put c e read)
-put_answers c e read = checked (manager_faults c e ++ read.1) (changed e (Put read.0) done) refl
+put_answers c e read = checked (manager_faults c e ++ read.1) (changed e (Put read.0) done_lines) refl
 
 read_body : (c : Cluster) (e : Event) (sort : ObjectKind) (adding : Bool) (body : Option Body) → IsAnswer (body_plan_of c e sort adding body)
 read_body c e sort adding None = refusal Syntax
@@ -87,7 +87,7 @@ added c e other text = with_body c e other true text
 
 removed : (c : Cluster) (e : Event) (key : Key) → IsAnswer (remove_plan c e key)
 unfolding remove_plan
-removed c e key = checked (manager_faults c e ++ remove_faults c key.kind key.name) (changed e (Drop key) done) refl
+removed c e key = checked (manager_faults c e ++ remove_faults c key.kind key.name) (changed e (Drop key) done_lines) refl
 
 printed_item : (c : Cluster) (item : Option Item) → IsAnswer (print_plan_of c item)
 printed_item c None = refusal NoSuchObject
@@ -127,15 +127,15 @@ reserved_shown c now (Some number) = turned (is_some (at_number c.advances numbe
 commanded : (c : Cluster) (e : Event) (command : Command) → IsAnswer (command_plan c e command)
 unfolding submit_plan alter_plan delete_plan clear_plan hold_plan release_plan load_plan end_plan orders_plan task_plan stop_plan sched_plan book_plan unbook_plan show_booked_plan
 commanded c e (Command.Submit options words script) =
-    checked (option_faults c e options.items (submitter e options.items) ++ join_faults c e options.items ++ size_faults c (tasks_of options.items) words script) (submitted e (job_of c e options.items words script)) refl
+    checked (option_faults c e options.items (submitter e options.items) ++ join_faults c e options.items ++ size_faults c (submitted_tasks options.items) words script) (submission_answer e (submitted_job c e options.items words script)) refl
 commanded c e (Command.Alter options numbers) =
     let patches = patches_of c options.items numbers in checked (flat_map (alter_faults c e options.items) numbers ++ when (closes_a_cycle c options.items patches) Cycle) (altered e patches) refl
 commanded c e (Command.Delete force picks) =
     checked (flat_map (target_faults c e) picks ++ when (force && not (is_operator c e.user)) NotPermitted) (changed e (Delete picks force) (removed_line force (named_jobs c picks) ∷ [])) refl
 commanded c e (Command.Hold bits numbers) =
-    let once = each_number_once numbers in checked (hold_plan_faults c e bits numbers) (held e (Hold once bits) once) refl
+    let once = each_number_once numbers in checked (hold_plan_faults c e bits numbers) (hold_answer e (Hold once bits) once) refl
 commanded c e (Command.Release bits numbers) =
-    let once = each_number_once numbers in checked (hold_plan_faults c e bits numbers) (held e (Release once bits) once) refl
+    let once = each_number_once numbers in checked (hold_plan_faults c e bits numbers) (hold_answer e (Release once bits) once) refl
 commanded c e (Command.Clear picks) =
     checked (flat_map (target_faults c e) picks) (changed e (Clear picks) (cleared_line (named_jobs c picks) ∷ [])) refl
 commanded c e (Command.Show what) = listed c e what
@@ -145,9 +145,9 @@ commanded c e (Command.Modify sort text) = with_body c e sort false text
 commanded c e (Command.Remove key) = removed c e key
 commanded c e (Command.Print key) = printed_one c key
 commanded c e (Command.Load host pairs) =
-    checked (manager_faults c e ++ host_faults c host ++ flat_map (report_faults c) pairs) (changed e (Load host (report_of c pairs)) done) refl
+    checked (manager_faults c e ++ host_faults c host ++ flat_map (report_faults c) pairs) (changed e (Load host (report_of c pairs)) done_lines) refl
 commanded c e (Command.End serial exit cpu mem io) =
-    checked (manager_faults c e ++ serial_faults c serial ++ end_faults exit cpu mem io) (changed e (End serial exit cpu mem io) done) refl
+    checked (manager_faults c e ++ serial_faults c serial ++ end_faults exit cpu mem io) (changed e (End serial exit cpu mem io) done_lines) refl
 commanded c e Command.Sched =
     checked (manager_faults c e) (decided e (decisions_at c e.moment)) refl
 commanded c e (Command.Orders host) =
@@ -155,7 +155,7 @@ commanded c e (Command.Orders host) =
 commanded c e (Command.JobOf serial) =
     checked (manager_faults c e ++ when (is_none (running_with c.jobs serial)) NoSuchObject) (shown (task_lines c serial)) refl
 commanded c e Command.Stop =
-    checked (manager_faults c e) (record (shown done) { stop = true }) refl
+    checked (manager_faults c e) (record (shown done_lines) { stop = true }) refl
 commanded c e (Command.Book options) =
     let asked = advance_asked c e options.items in granted c e (book_faults c e options.items) asked (advance_grants c e.moment asked)
 commanded c e (Command.Unbook numbers) =

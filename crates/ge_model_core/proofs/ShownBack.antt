@@ -28,7 +28,7 @@ use Rattle.ge_model_config.proofs.ReadBackSettings.{AreSettings, settings_back}
 use Rattle.ge_model_config.proofs.ReadBackSettingsRead.{IsSettings, settings_read, settings_still}
 use Rattle.ge_model_jobs.specs.Usage.{converted}
 use Rattle.ge_model_jobs.specs.Configuring.{load_of, with_item}
-use Rattle.ge_model_core.specs.Answers.{changed, shown, done, unless_faulty}
+use Rattle.ge_model_core.specs.Answers.{changed, shown, done_lines, unless_faulty}
 use Rattle.ge_model_core.specs.Configuring.{manager_faults, put, print_plan_of, body_plan_of, body_plan, modify_plan, print_plan}
 use Rattle.ge_model_core.specs.Plan.{plan_of}
 use Rattle.ge_model_core.specs.Trace.{cluster_after}
@@ -80,7 +80,7 @@ put_twice moment later c _ _ is = absurd is
 pub record IsShownWhere (ends : Bool → Type 0) (moment : ℕ) (c : Cluster) (kind : ObjectKind) (thing : Item) : Type 0 where
   pub printed : print_plan (with_item moment c thing) (record { kind = kind; name = name_of thing }) ≡ shown (printed_lines (with_item moment c thing) thing)
   pub accepted : (e : Event) (ended : Bool) → ends ended → modify_plan (with_item moment c thing) e kind (text_of_lines ended (printed_lines (with_item moment c thing) thing))
-      ≡ unless_faulty (manager_faults (with_item moment c thing) e) (changed e (Put thing) done)
+      ≡ unless_faulty (manager_faults (with_item moment c thing) e) (changed e (Put thing) done_lines)
   pub same : (later : ℕ) → with_item later (with_item moment c thing) thing ≡ with_item moment c thing
 
 -- with and without
@@ -97,7 +97,7 @@ shown_back moment c kind adding text body thing of names parsed is = record {
       let again = back ended in
       ap (body_plan_of (with_item moment c thing) e kind false) again.1
       ∙ ap (put (with_item moment c thing) e) again.2
-      ∙ ap (λ faults. unless_faulty faults (changed e (Put thing) done)) (append-nil (manager_faults (with_item moment c thing) e));
+      ∙ ap (λ faults. unless_faulty faults (changed e (Put thing) done_lines)) (append-nil (manager_faults (with_item moment c thing) e));
   same = λ later. put_twice moment later c kind thing read;
 }
   where
@@ -119,7 +119,7 @@ settings_shown moment c s is = record {
       let back = settings_back (with_item moment c (Item.Sched s)) s (settings_still c (with_item moment c (Item.Sched s)) s refl is) ended in
       ap (body_plan_of (with_item moment c (Item.Sched s)) e ObjectKind.Sched false) back.parsed
       ∙ ap (put (with_item moment c (Item.Sched s)) e) (back.again false)
-      ∙ ap (λ faults. unless_faulty faults (changed e (Put (Item.Sched s)) done)) (append-nil (manager_faults (with_item moment c (Item.Sched s)) e));
+      ∙ ap (λ faults. unless_faulty faults (changed e (Put (Item.Sched s)) done_lines)) (append-nil (manager_faults (with_item moment c (Item.Sched s)) e));
   same = λ later. ap (λ z. record (with_item moment c (Item.Sched s)) {
     usage = if z then (with_item moment c (Item.Sched s)).usage else converted later s.halftime s.halftime (with_item moment c (Item.Sched s)).usage;
   }) (eq-eqb s.halftime s.halftime refl);
@@ -142,7 +142,7 @@ host_shown moment c name table names is = record {
       let back = host_back after name table names_after (record { named = is.named; values = is.values }) ended last in
       ap (body_plan_of after e ObjectKind.Host false) back.parsed
       ∙ ap (put after e) (back.again false ∙ ap (λ faults. (Item.Host name table, faults)) (change_of ObjectKind.Host 4096 c.hosts name row is.named))
-      ∙ ap (λ faults. unless_faulty faults (changed e (Put (Item.Host name table)) done)) (append-nil (manager_faults after e));
+      ∙ ap (λ faults. unless_faulty faults (changed e (Put (Item.Host name table)) done_lines)) (append-nil (manager_faults after e));
   same = λ later.
       ap (λ host. record c { hosts = put_text (put_text c.hosts name row) name (record { values = table; load = load_of host }) }) (put_read c.hosts name row)
       ∙ ap (λ rows. record c { hosts = rows }) (put_again c.hosts name row);
@@ -170,7 +170,7 @@ complexes_shown moment c table is = record {
       let back = table_back after table (table_still c after table refl is) ended in
       ap (body_plan_of after e ObjectKind.Complexes false) back.parsed
       ∙ ap (put after e) back.again
-      ∙ ap (λ faults. unless_faulty faults (changed e (Put (Item.Complexes table)) done)) (append-nil (manager_faults after e));
+      ∙ ap (λ faults. unless_faulty faults (changed e (Put (Item.Complexes table)) done_lines)) (append-nil (manager_faults after e));
   same = λ later. refl;
 }
   where

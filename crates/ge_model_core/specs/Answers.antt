@@ -3,7 +3,7 @@ use Rattle.std.specs.Prelude.{ℕ, false, List, [], ◌∷◌, Some, None, codes
 use Rattle.ge_base.specs.declared.refusal.Refusal.{Refusal}
 use Rattle.ge_model_rows.specs.EntryRows.{Change}
 use Rattle.ge_model_rows.specs.EventRows.{Event, Planned}
-use Rattle.ge_model_plan.specs.Refusals.{unless_refused}
+use Rattle.ge_model_core.specs.Refusals.{unless_refused}
 use Rattle.ge_model_value.specs.Faults.{first_fault}
 
 -- an accepted event: what it changes, at its moment, and the lines of its reply
@@ -23,5 +23,5 @@ abbrev pub unless_faulty : List Refusal → Planned → Planned
 unless_faulty faults accepted = unless_refused (first_fault faults) accepted
 
 -- the reply that says nothing more
-abbrev pub done : List (List ℕ)
-done = codes "done" ∷ []
+abbrev pub done_lines : List (List ℕ)
+done_lines = codes "done" ∷ []

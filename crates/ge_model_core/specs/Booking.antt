@@ -9,7 +9,7 @@ use Rattle.ge_model_rows.specs.EntryRows.{Book, Unbook}
 use Rattle.ge_model_rows.specs.EventRows.{Event, Planned}
 use Rattle.ge_model_rows.specs.JobRows.{Grant, Advance}
 use Rattle.ge_model_rows.specs.ValueRows.{Kind}
-use Rattle.ge_model_plan.specs.Refusals.{refused}
+use Rattle.ge_model_core.specs.Refusals.{refused}
 use Rattle.ge_model_value.specs.Faults.{when}
 use Rattle.ge_model_value.specs.Pieces.{each_number_once}
 use Rattle.ge_model_value.specs.Values.{value_of, amount_in}
@@ -20,7 +20,7 @@ use Rattle.ge_model_config.specs.Requests.{request_of}
 use Rattle.ge_model_place.specs.Advances.{advance_grants}
 use Rattle.ge_model_report.specs.Booked.{booked_lines}
 use Rattle.ge_model_core.specs.Answers.{changed, shown, unless_faulty}
-use Rattle.ge_model_core.specs.OptionValues.{word_of, number_given}
+use Rattle.ge_model_core.specs.OptionValues.{option_word, number_given}
 use Rattle.ge_model_core.specs.JobAdvances.{no_request}
 
 -- a reservation begins at -a, or now (qrsub)
@@ -29,20 +29,20 @@ booked_from e options = unwrap_or (number_given options (codes "-a")) e.moment
 
 -- -d is a TIME; a word that is none lasts no second, which is refused
 abbrev pub seconds_given : Given → ℕ
-seconds_given options = unwrap_or (option_map amount_in (option_and_then (value_of Kind.Time) (word_of options (codes "-d")))) 0
+seconds_given options = unwrap_or (option_map amount_in (option_and_then (value_of Kind.Time) (option_word options (codes "-d")))) 0
 
 -- it ends at -e, or as long behind its beginning as -d says
-abbrev pub booked_until : Event → Given → ℕ
-booked_until e options = unwrap_or (number_given options (codes "-e")) (booked_from e options + seconds_given options)
+abbrev pub asked_until : Event → Given → ℕ
+asked_until e options = unwrap_or (number_given options (codes "-e")) (booked_from e options + seconds_given options)
 
 -- the reservation that a user asks for, without slots yet
 abbrev pub advance_asked : Cluster → Event → Given → Advance
 advance_asked c e options = record {
-  name = unwrap_or (word_of options (codes "-N")) (codes "ar");
+  name = unwrap_or (option_word options (codes "-N")) (codes "ar");
   owner = e.user;
   group = e.group;
   from = booked_from e options;
-  until = booked_until e options;
+  until = asked_until e options;
   request = (request_of c options no_request).0;
   grants = [];
 }

@@ -8,7 +8,7 @@ use Rattle.ge_limits.specs.Limits as limit
 use Rattle.ge_model_rows.specs.ClusterRows.{Cluster}
 use Rattle.ge_model_rows.specs.EntryRows.{Put, Drop, Item, ObjectKind, Key}
 use Rattle.ge_model_rows.specs.EventRows.{Event, Planned}
-use Rattle.ge_model_plan.specs.Refusals.{refused}
+use Rattle.ge_model_core.specs.Refusals.{refused}
 use Rattle.ge_model_value.specs.Faults.{when}
 use Rattle.ge_model_value.specs.Pieces.{is_one_of}
 use Rattle.ge_model_site.specs.Access.{is_manager}
@@ -17,14 +17,14 @@ use Rattle.ge_model_grammar.specs.Bodies.{body_of}
 use Rattle.ge_model_config.specs.Reading.{item_of}
 use Rattle.ge_model_config.specs.Used.{is_there, is_used}
 use Rattle.ge_model_config.specs.Printing.{printed, item_at}
-use Rattle.ge_model_core.specs.Answers.{changed, shown, done, unless_faulty}
+use Rattle.ge_model_core.specs.Answers.{changed, shown, done_lines, unless_faulty}
 
 -- only managers configure
 abbrev pub manager_faults : Cluster → Event → List Refusal
 manager_faults c e = when (not (is_manager c e.user)) NotPermitted
 
 abbrev pub put : Cluster → Event → Item × List Refusal → Planned
-put c e read = unless_faulty (manager_faults c e ++ read.1) (changed e (Put read.0) done)
+put c e read = unless_faulty (manager_faults c e ++ read.1) (changed e (Put read.0) done_lines)
 
 -- a body that isn't in its grammar is no command
 abbrev pub body_plan_of : Cluster → Event → ObjectKind → Bool → Option Body → Planned
@@ -66,7 +66,7 @@ remove_faults c ObjectKind.Shares name = []
 remove_faults c kind name = object_faults c kind name
 
 unfoldable pub remove_plan : Cluster → Event → Key → Planned
-remove_plan c e key = unless_faulty (manager_faults c e ++ remove_faults c key.kind key.name) (changed e (Drop key) done)
+remove_plan c e key = unless_faulty (manager_faults c e ++ remove_faults c key.kind key.name) (changed e (Drop key) done_lines)
 
 abbrev pub print_plan_of : Cluster → Option Item → Planned
 print_plan_of c None = refused NoSuchObject

@@ -12,12 +12,12 @@ use Rattle.ge_model_site.specs.Access.{is_operator}
 use Rattle.ge_model_core.specs.Answers.{changed, unless_faulty}
 use Rattle.ge_model_core.specs.Targets.{target_faults, named_jobs}
 
-abbrev pub runs_in : List TaskSpan → ℕ × Running → Bool
-runs_in tasks task = has_number task.0 tasks
+abbrev pub task_runs_in : List TaskSpan → ℕ × Running → Bool
+task_runs_in tasks task = has_number task.0 tasks
 
 -- how many of the tasks that are named run, how many wait or are in error, and how many there are
 abbrev pub running_named : Job × List TaskSpan → ℕ
-running_named named = length (filter (runs_in named.1) named.0.running)
+running_named named = length (filter (task_runs_in named.1) named.0.running)
 
 abbrev pub pending_named : Job × List TaskSpan → ℕ
 pending_named named = count_of (meet (union named.0.queued named.0.broken) named.1)

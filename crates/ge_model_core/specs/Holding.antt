@@ -34,13 +34,13 @@ hold_plan_faults c e bits numbers =
     ++ when (has_operator_bit bits && not (is_operator c e.user)) NotPermitted
     ++ when (has_system_bit bits && not (is_manager c e.user)) NotPermitted
 
-abbrev pub held : Event → Change → List ℕ → Planned
-held e change numbers = changed e change ((codes "changed " ++ decimal (length numbers)) ∷ [])
+abbrev pub hold_answer : Event → Change → List ℕ → Planned
+hold_answer e change numbers = changed e change ((codes "changed " ++ decimal (length numbers)) ∷ [])
 
 unfoldable pub hold_plan : Cluster → Event → ℕ → List ℕ → Planned
 hold_plan c e bits numbers =
-    let once = each_number_once numbers in unless_faulty (hold_plan_faults c e bits numbers) (held e (Hold once bits) once)
+    let once = each_number_once numbers in unless_faulty (hold_plan_faults c e bits numbers) (hold_answer e (Hold once bits) once)
 
 unfoldable pub release_plan : Cluster → Event → ℕ → List ℕ → Planned
 release_plan c e bits numbers =
-    let once = each_number_once numbers in unless_faulty (hold_plan_faults c e bits numbers) (held e (Release once bits) once)
+    let once = each_number_once numbers in unless_faulty (hold_plan_faults c e bits numbers) (hold_answer e (Release once bits) once)

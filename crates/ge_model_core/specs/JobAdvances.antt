@@ -10,15 +10,15 @@ use Rattle.ge_model_rows.specs.JobRows.{Request, Advance}
 use Rattle.ge_model_value.specs.Complexes.{is_consumable}
 use Rattle.ge_model_value.specs.Faults.{when}
 use Rattle.ge_model_grammar.specs.Options.{Given, has_option}
-use Rattle.ge_model_grammar.specs.Targets.{job_of}
+use Rattle.ge_model_grammar.specs.Targets.{job_number_of}
 pub use Rattle.ge_model_config.specs.Requests.{no_request}
 use Rattle.ge_model_config.specs.Requests.{request_of}
 use Rattle.ge_model_config.specs.Used.{asks_pe}
-use Rattle.ge_model_core.specs.OptionValues.{word_of, is_yes}
+use Rattle.ge_model_core.specs.OptionValues.{option_word, is_yes}
 
 -- the number of the reservation that -ar names; 0 is none
 abbrev pub advance_named : Given → ℕ
-advance_named options = unwrap_or (option_and_then job_of (word_of options (codes "-ar"))) 0
+advance_named options = unwrap_or (option_and_then job_number_of (option_word options (codes "-ar"))) 0
 
 -- whether a reservation is made for a parallel environment
 abbrev pub is_booked_for : List ℕ → Option Advance → Bool
@@ -33,17 +33,17 @@ is_other_pe booked (Some pe) = not (is_booked_for pe booked)
 abbrev pub asks_consumable : Cluster → Given → Bool
 asks_consumable c options = list_any (λ asked. is_consumable c asked.0) (request_of c options no_request).0.asked
 
-abbrev pub asks_reservation : Given → Bool
-asks_reservation options = unwrap_or (option_map is_yes (word_of options (codes "-R"))) false
+abbrev pub gives_reservation : Given → Bool
+gives_reservation options = unwrap_or (option_map is_yes (option_word options (codes "-R"))) false
 
 -- a job in an advance reservation can't have -R y, -P, a parallel environment that isn't the reservation's, or a
 -- consumable in -l. One whose reservation isn't there has no parallel environment to ask for
 abbrev pub advance_faults : Cluster → Given → Option Advance → List Refusal
 advance_faults c options booked =
     when (
-    asks_reservation options
+    gives_reservation options
     || has_option options (codes "-P")
-    || is_other_pe booked (word_of options (codes "-pe"))
+    || is_other_pe booked (option_word options (codes "-pe"))
     || asks_consumable c options
     ) BadValue
 

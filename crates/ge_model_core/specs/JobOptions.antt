@@ -14,7 +14,7 @@ use Rattle.ge_model_value.specs.Faults.{when}
 use Rattle.ge_model_site.specs.Access.{is_operator, may_use}
 use Rattle.ge_model_grammar.specs.Options.{Given, has_option}
 use Rattle.ge_model_config.specs.Requests.{request_of}
-use Rattle.ge_model_core.specs.OptionValues.{word_of, number_given, is_negative, magnitude, integer_of, is_yes}
+use Rattle.ge_model_core.specs.OptionValues.{option_word, number_given, is_negative, magnitude, integer_of, is_yes}
 use Rattle.ge_model_core.specs.HoldLists.{predecessors, hold_faults, range_faults}
 
 -- whose job it is: its owner, the owner's group, its range of tasks and what it asked for so far
@@ -34,17 +34,17 @@ request_given c options job = if asks options then Some ((request_of c options j
 -- what the options set; what they don't name stays
 abbrev pub patch_of : Cluster → Given → Owned → Patch
 patch_of c options job = record {
-  name = word_of options (codes "-N");
+  name = option_word options (codes "-N");
   request = request_given c options job;
-  priority = option_map integer_of (word_of options (codes "-p"));
+  priority = option_map integer_of (option_word options (codes "-p"));
   share = number_given options (codes "-js");
-  project = word_of options (codes "-P");
-  reserve = option_map is_yes (word_of options (codes "-R"));
+  project = option_word options (codes "-P");
+  reserve = option_map is_yes (option_word options (codes "-R"));
   not_before = number_given options (codes "-a");
   deadline = number_given options (codes "-dl");
-  account = word_of options (codes "-A");
-  after = option_map (predecessors c job.owner) (word_of options (codes "-hold_jid"));
-  after_each = option_map (predecessors c job.owner) (word_of options (codes "-hold_jid_ad"));
+  account = option_word options (codes "-A");
+  after = option_map (predecessors c job.owner) (option_word options (codes "-hold_jid"));
+  after_each = option_map (predecessors c job.owner) (option_word options (codes "-hold_jid_ad"));
   oticket = number_given options (codes "-ot");
 }
 
@@ -90,11 +90,11 @@ array_hold_faults c job word = hold_faults c word ++ range_faults c job.span (pr
 abbrev pub option_faults : Cluster → Event → Given → Owned → List Refusal
 option_faults c e options job =
     (request_of c options job.request).1
-    ++ faults_in (word_of options (codes "-p")) (priority_faults c e)
+    ++ faults_in (option_word options (codes "-p")) (priority_faults c e)
     ++ faults_in (number_given options (codes "-js")) width_faults
-    ++ faults_in (word_of options (codes "-P")) (project_faults c job)
+    ++ faults_in (option_word options (codes "-P")) (project_faults c job)
     ++ faults_in (number_given options (codes "-a")) moment_faults
     ++ faults_in (number_given options (codes "-dl")) deadline_faults
     ++ faults_in (number_given options (codes "-ot")) (override_faults c e)
-    ++ faults_in (word_of options (codes "-hold_jid")) (hold_faults c)
-    ++ faults_in (word_of options (codes "-hold_jid_ad")) (array_hold_faults c job)
+    ++ faults_in (option_word options (codes "-hold_jid")) (hold_faults c)
+    ++ faults_in (option_word options (codes "-hold_jid_ad")) (array_hold_faults c job)

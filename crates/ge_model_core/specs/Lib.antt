@@ -1,3 +1,4 @@
+pub mod Forms
 pub mod Answers
 pub mod OptionValues
 pub mod HoldLists
@@ -18,3 +19,5 @@ pub mod Plan
 pub mod Built
 pub mod Trace
 pub mod Scripts
+pub mod Refusals
+pub mod Render

@@ -9,12 +9,12 @@ first_word [] = None
 first_word (word ∷ words) = Some word
 
 -- the one word of an option, where the command has it
-abbrev pub word_of : List (List ℕ × List (List ℕ)) → List ℕ → Option (List ℕ)
-word_of options name = option_and_then first_word (option_words options name)
+abbrev pub option_word : List (List ℕ × List (List ℕ)) → List ℕ → Option (List ℕ)
+option_word options name = option_and_then first_word (option_words options name)
 
 -- the number that an option gives
 abbrev pub number_given : List (List ℕ × List (List ℕ)) → List ℕ → Option ℕ
-number_given options name = option_map number_of (word_of options name)
+number_given options name = option_map number_of (option_word options name)
 
 -- whether the text of a whole number has a dash, and its number without it
 abbrev pub is_negative : List ℕ → Bool

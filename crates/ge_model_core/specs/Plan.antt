@@ -5,8 +5,8 @@ use Rattle.ge_model_rows.specs.ClusterRows.{Cluster}
 use Rattle.ge_model_rows.specs.CommandRows.{Command}
 use Rattle.ge_model_rows.specs.EventRows.{Event, Form, Planned}
 use Rattle.ge_model_script.specs.Lines.{is_too_long}
-use Rattle.ge_model_plan.specs.Refusals.{refused}
-use Rattle.ge_model_plan.specs.Plan.{is_cut}
+use Rattle.ge_model_core.specs.Refusals.{refused}
+use Rattle.ge_model_core.specs.Forms.{is_cut}
 use Rattle.ge_model_grammar.specs.Commands.{command_of}
 use Rattle.ge_model_core.specs.Submitting.{submit_plan}
 use Rattle.ge_model_core.specs.Altering.{alter_plan}

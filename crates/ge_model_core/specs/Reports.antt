@@ -13,23 +13,23 @@ use Rattle.ge_model_value.specs.Values.{value_of}
 use Rattle.ge_model_value.specs.Complexes.{complex_at}
 use Rattle.ge_model_jobs.specs.Serials.{running_with}
 use Rattle.ge_model_report.specs.Orders.{orders_of, task_lines}
-use Rattle.ge_model_core.specs.Answers.{changed, shown, done, unless_faulty}
+use Rattle.ge_model_core.specs.Answers.{changed, shown, done_lines, unless_faulty}
 use Rattle.ge_model_core.specs.Configuring.{manager_faults}
 
 -- the value that a report gives, if its name is a complex and its text one of its values
-abbrev pub reported : Cluster → List ℕ → List ℕ → Option Value
-reported c name text = option_and_then (λ complex. value_of complex.kind text) (complex_at c name)
+abbrev pub report_value : Cluster → List ℕ → List ℕ → Option Value
+report_value c name text = option_and_then (λ complex. value_of complex.kind text) (complex_at c name)
 
 abbrev pub report_faults : Cluster → List ℕ × List ℕ → List Refusal
 report_faults c (name, text) =
-    if is_none (complex_at c name) then NoSuchObject ∷ [] else when (is_none (reported c name text)) BadValue
+    if is_none (complex_at c name) then NoSuchObject ∷ [] else when (is_none (report_value c name text)) BadValue
 
 abbrev pub put_reported : List (List ℕ × Value) → List ℕ → Option Value → List (List ℕ × Value)
 put_reported table name None = table
 put_reported table name (Some value) = put_text table name value
 
 abbrev pub add_reported : Cluster → List (List ℕ × Value) → List ℕ × List ℕ → List (List ℕ × Value)
-add_reported c table (name, text) = put_reported table name (reported c name text)
+add_reported c table (name, text) = put_reported table name (report_value c name text)
 
 -- the values of a load report by name; of a name twice the last counts
 abbrev pub report_of : Cluster → List (List ℕ × List ℕ) → List (List ℕ × Value)
@@ -41,7 +41,7 @@ host_faults c host = when (is_none (at_text c.hosts host)) NoSuchObject ++ when 
 
 unfoldable pub load_plan : Cluster → Event → List ℕ → List (List ℕ × List ℕ) → Planned
 load_plan c e host pairs =
-    unless_faulty (manager_faults c e ++ host_faults c host ++ flat_map (report_faults c) pairs) (changed e (Load host (report_of c pairs)) done)
+    unless_faulty (manager_faults c e ++ host_faults c host ++ flat_map (report_faults c) pairs) (changed e (Load host (report_of c pairs)) done_lines)
 
 -- a serial that was given out is that of a running task, or the report is stale
 abbrev pub serial_faults : Cluster → ℕ → List Refusal
@@ -54,7 +54,7 @@ end_faults exit cpu mem io = when (nat_lt 255 exit || nat_le limit.amounts cpu |
 
 unfoldable pub end_plan : Cluster → Event → ℕ → ℕ → ℕ → ℕ → ℕ → Planned
 end_plan c e serial exit cpu mem io =
-    unless_faulty (manager_faults c e ++ serial_faults c serial ++ end_faults exit cpu mem io) (changed e (End serial exit cpu mem io) done)
+    unless_faulty (manager_faults c e ++ serial_faults c serial ++ end_faults exit cpu mem io) (changed e (End serial exit cpu mem io) done_lines)
 
 unfoldable pub orders_plan : Cluster → Event → List ℕ → Planned
 orders_plan c e host = unless_faulty (manager_faults c e ++ when (is_none (at_text c.hosts host)) NoSuchObject) (shown (orders_of c host))
@@ -64,4 +64,4 @@ task_plan c e serial = unless_faulty (manager_faults c e ++ when (is_none (runni
 
 -- qconf -km: the master stops
 unfoldable pub stop_plan : Cluster → Event → Planned
-stop_plan c e = unless_faulty (manager_faults c e) (record (shown done) { stop = true })
+stop_plan c e = unless_faulty (manager_faults c e) (record (shown done_lines) { stop = true })

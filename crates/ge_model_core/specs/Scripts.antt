@@ -4,7 +4,7 @@ use Rattle.std.specs.Prelude.{ℕ, true, List, length, replicate}
 use Rattle.ge_model_rows.specs.ClusterRows.{Cluster, opening_cluster, default_queue, default_sched}
 use Rattle.ge_model_rows.specs.ClusterRows.{opening_complexes}
 use Rattle.ge_model_script.specs.Events.{events_of}
-use Rattle.ge_model_plan.specs.Render.{rendered}
+use Rattle.ge_model_core.specs.Render.{rendered}
 use Rattle.ge_model_value.specs.Complexes.{opening}
 use Rattle.ge_model_site.specs.Groups.{members_of, has_loop, expanded}
 use Rattle.ge_model_site.specs.Queues.{instances_of, resolved}
@@ -28,11 +28,11 @@ use Rattle.ge_model_place.specs.Placement.{placement}
 use Rattle.ge_model_place.specs.Running.{run_of, runs_in_full}
 use Rattle.ge_model_place.specs.Windows.{base_bookings}
 use Rattle.ge_model_grammar.specs.Bodies.{attribute_body, rule_set_body, node_body, complex_body, body_of, grammar_of_bodies}
-use Rattle.ge_model_grammar.specs.Commands.{script_options, submit_of, alter_of, delete_of, clear_of, hold_of, show_of, account_of, load_of, end_of, orders_of, dispatch_of, book_of, unbook_of, booked_of, command_of, grammar_of_commands}
-use Rattle.ge_model_grammar.specs.Configuring.{config_of}
+use Rattle.ge_model_grammar.specs.Commands.{script_options, submit_command, alter_command, delete_command, clear_command, hold_command, show_command, account_command, load_command, end_command, orders_command, dispatch_command, book_command, unbook_command, show_booked_command, command_of, grammar_of_commands}
+use Rattle.ge_model_grammar.specs.Configuring.{config_command}
 use Rattle.ge_model_grammar.specs.Parsing.{parsed}
-use Rattle.ge_model_grammar.specs.Rules.{rule_of}
-use Rattle.ge_model_grammar.specs.Shapes.{read_options, merged}
+use Rattle.ge_model_grammar.specs.Rules.{rule_line_of}
+use Rattle.ge_model_grammar.specs.Shapes.{read_options, merged_options}
 use Rattle.ge_model_config.specs.Complexes.{complexes_item}
 use Rattle.ge_model_config.specs.Objects.{host_item, group_item, pe_item, set_item, user_item, project_item}
 use Rattle.ge_model_config.specs.Printing.{printed, item_at}
@@ -56,13 +56,13 @@ use Rattle.ge_model_core.specs.Plan.{plan_of}
 use Rattle.ge_model_core.specs.Reports.{load_plan, end_plan, orders_plan, task_plan, stop_plan}
 use Rattle.ge_model_core.specs.Scheduling.{decisions_at, sched_plan}
 use Rattle.ge_model_core.specs.Showing.{show_plan, account_plan}
-use Rattle.ge_model_core.specs.Submitting.{job_of, submit_plan}
+use Rattle.ge_model_core.specs.Submitting.{submitted_job, submit_plan}
 use Rattle.std.specs.Fmt.{digits}
 use Rattle.ge_model_core.specs.Trace.{output, cluster_after}
 
 -- all large definitions of the model
 unfoldable pub model_in_full : Unit {0}
-unfolding default_queue default_sched opening_cluster opening_complexes events_of rendered opening members_of has_loop expanded instances_of resolved with_job with_altered with_held with_freed after_change after_entry changes_in_full with_item without_item with_load with_end with_deleted with_cleared eligible_tasks with_run is_candidate prios_of prios_at order_of order_of_runs share_tickets_of tree_of tickets_of urgency_of instance_order counted_at demands_of reaches_threshold is_open placement advance_grants run_of runs_in_full base_bookings attribute_body rule_set_body node_body complex_body body_of grammar_of_bodies script_options submit_of alter_of delete_of clear_of hold_of show_of account_of load_of end_of orders_of dispatch_of book_of unbook_of booked_of command_of parsed grammar_of_commands config_of rule_of read_options merged complexes_item host_item group_item pe_item set_item user_item project_item printed item_at queue_read queue_item quota_item item_of body_read items_of_bodies request_of request_read request_changed sched_item shares_item is_used is_there line_text account_of_of_report listing_of listings_in_full orders_of_of_report task_lines booked_lines alter_plan body_plan remove_plan print_plan delete_plan clear_plan hold_plan release_plan plan_of load_plan end_plan orders_plan task_plan stop_plan decisions_at sched_plan show_plan account_plan job_of submit_plan book_plan unbook_plan show_booked_plan digits
+unfolding default_queue default_sched opening_cluster opening_complexes events_of rendered opening members_of has_loop expanded instances_of resolved with_job with_altered with_held with_freed after_change after_entry changes_in_full with_item without_item with_load with_end with_deleted with_cleared eligible_tasks with_run is_candidate prios_of prios_at order_of order_of_runs share_tickets_of tree_of tickets_of urgency_of instance_order counted_at demands_of reaches_threshold is_open placement advance_grants run_of runs_in_full base_bookings attribute_body rule_set_body node_body complex_body body_of grammar_of_bodies script_options submit_command alter_command delete_command clear_command hold_command show_command account_command load_command end_command orders_command dispatch_command book_command unbook_command show_booked_command command_of parsed grammar_of_commands config_command rule_line_of read_options merged_options complexes_item host_item group_item pe_item set_item user_item project_item printed item_at queue_read queue_item quota_item item_of body_read items_of_bodies request_of request_read request_changed sched_item shares_item is_used is_there line_text account_of_of_report listing_of listings_in_full orders_of_of_report task_lines booked_lines alter_plan body_plan remove_plan print_plan delete_plan clear_plan hold_plan release_plan plan_of load_plan end_plan orders_plan task_plan stop_plan decisions_at sched_plan show_plan account_plan submitted_job submit_plan book_plan unbook_plan show_booked_plan digits
 model_in_full = tt
 
 -- the output of the events of a script, from the opening cluster on

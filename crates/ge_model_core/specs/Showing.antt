@@ -5,7 +5,7 @@ use Rattle.ge_collections.specs.Keyed.{at_number}
 use Rattle.ge_model_rows.specs.ClusterRows.{Cluster}
 use Rattle.ge_model_rows.specs.CommandRows.{Listing, Query}
 use Rattle.ge_model_rows.specs.EventRows.{Event, Planned}
-use Rattle.ge_model_plan.specs.Refusals.{refused}
+use Rattle.ge_model_core.specs.Refusals.{refused}
 use Rattle.ge_model_order.specs.Priority.{prios_at}
 use Rattle.ge_model_report.specs.Listing.{listing_of}
 use Rattle.ge_model_report.specs.Accounting.{account_of}

@@ -13,7 +13,7 @@ use Rattle.ge_model_tasks.specs.Sets.{count_of}
 use Rattle.ge_model_tasks.specs.Ranges.{range_of, reached, range_count, range_set}
 use Rattle.ge_model_grammar.specs.Options.{Given, has_option, command_name}
 use Rattle.ge_model_core.specs.Answers.{changed, unless_faulty}
-use Rattle.ge_model_core.specs.OptionValues.{word_of}
+use Rattle.ge_model_core.specs.OptionValues.{option_word}
 use Rattle.ge_model_core.specs.JobOptions.{Owned, patch_of, option_faults}
 use Rattle.ge_model_core.specs.JobAdvances.{no_request, advance_named, join_faults}
 
@@ -26,12 +26,12 @@ range_reached None = one_task
 range_reached (Some range) = reached range
 
 -- the tasks of a submission: its range up to the last number that its steps reach (qsub, -t)
-abbrev pub tasks_of : Given → TaskSpan
-tasks_of options = range_reached (option_and_then range_of (word_of options (codes "-t")))
+abbrev pub submitted_tasks : Given → TaskSpan
+submitted_tasks options = range_reached (option_and_then range_of (option_word options (codes "-t")))
 
 -- the user who submits
 abbrev pub submitter : Event → Given → Owned
-submitter e options = record { owner = e.user; group = e.group; span = tasks_of options; request = no_request }
+submitter e options = record { owner = e.user; group = e.group; span = submitted_tasks options; request = no_request }
 
 -- the name of a job that -N doesn't name: made of its command, STDIN without one
 abbrev pub name_of_words : List (List ℕ) → List ℕ
@@ -72,8 +72,8 @@ job_from c e options words script span given = record {
   advance = advance_named options;
 }
 
-unfoldable pub job_of : Cluster → Event → Given → List (List ℕ) → List ℕ → Job
-job_of c e options words script = job_from c e options words script (tasks_of options) (patch_of c options (submitter e options))
+unfoldable pub submitted_job : Cluster → Event → Given → List (List ℕ) → List ℕ → Job
+submitted_job c e options words script = job_from c e options words script (submitted_tasks options) (patch_of c options (submitter e options))
 
 -- so many tasks has a job, and so far go their numbers and their step
 abbrev pub is_wide : TaskSpan → Bool
@@ -105,18 +105,18 @@ size_faults c span words script = when (is_wide span || is_full c words || is_sc
 abbrev pub quoted : List ℕ → List ℕ
 quoted name = codes " (\"" ++ name ++ codes "\") has been submitted"
 
-abbrev pub range_text : TaskSpan → List ℕ
-range_text span = decimal span.first ++ 45 ∷ decimal span.last ++ 58 ∷ decimal span.step
+abbrev pub array_range_text : TaskSpan → List ℕ
+array_range_text span = decimal span.first ++ 45 ∷ decimal span.last ++ 58 ∷ decimal span.step
 
 abbrev pub submitted_line : Job → List ℕ
 submitted_line job =
-    if job.array then codes "Your job-array " ++ decimal job.number ++ 46 ∷ range_text job.span ++ quoted job.name
+    if job.array then codes "Your job-array " ++ decimal job.number ++ 46 ∷ array_range_text job.span ++ quoted job.name
     else codes "Your job " ++ decimal job.number ++ quoted job.name
 
-abbrev pub submitted : Event → Job → Planned
-submitted e job = changed e (Submit job) (submitted_line job ∷ [])
+abbrev pub submission_answer : Event → Job → Planned
+submission_answer e job = changed e (Submit job) (submitted_line job ∷ [])
 
 unfoldable pub submit_plan : Cluster → Event → Given → List (List ℕ) → List ℕ → Planned
 submit_plan c e options words script =
-    unless_faulty (option_faults c e options (submitter e options) ++ join_faults c e options ++ size_faults c (tasks_of options) words script)
-    (submitted e (job_of c e options words script))
+    unless_faulty (option_faults c e options (submitter e options) ++ join_faults c e options ++ size_faults c (submitted_tasks options) words script)
+    (submission_answer e (submitted_job c e options words script))

@@ -6,8 +6,8 @@ use Rattle.ge_base.specs.declared.refusal.Refusal.TheVariants.{NoMemory}
 use Rattle.ge_model_rows.specs.ClusterRows.{Cluster}
 use Rattle.ge_model_rows.specs.EntryRows.{Entry}
 use Rattle.ge_model_rows.specs.EventRows.{Event, Planned}
-use Rattle.ge_model_plan.specs.Refusals.{refused}
-use Rattle.ge_model_plan.specs.Render.{rendered}
+use Rattle.ge_model_core.specs.Refusals.{refused}
+use Rattle.ge_model_core.specs.Render.{rendered}
 use Rattle.ge_model_jobs.specs.Applying.{after_entry}
 
 -- the cluster after what may be an entry

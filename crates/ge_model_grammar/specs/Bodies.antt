@@ -6,7 +6,7 @@ use Rattle.ge_model_rows.specs.EntryRows.{ObjectKind}
 use Rattle.ge_model_text.specs.Words.{is_blank}
 use Rattle.ge_model_value.specs.Pieces.{is_empty, blank_pieces, trimmed, is_one_of}
 use Rattle.ge_model_grammar.specs.Lines.{is_plain_line, text_lines, begins_with, ends_in, read_each}
-use Rattle.ge_model_grammar.specs.Rules.{rule_of}
+use Rattle.ge_model_grammar.specs.Rules.{rule_line_of}
 use Rattle.ge_model_grammar.specs.Attributes.{known_attributes, naming_attributes}
 use Rattle.ge_model_grammar.specs.declared.RuleLine.{RuleLine}
 use Rattle.ge_model_grammar.specs.declared.Body.{Body}
@@ -85,7 +85,7 @@ rule_set_from values rules (line ∷ lines) =
     elim (text_eq (trimmed line) (codes "}")) [
       | true ↦ if is_empty lines then finished_rules values rules else None
       | false ↦ elim (is_limit line) [
-        | true ↦ elim (rule_of (attribute_line line).1) [ None ↦ None | Some rule ↦ rule_set_from values (rules ++ rule ∷ []) lines ]
+        | true ↦ elim (rule_line_of (attribute_line line).1) [ None ↦ None | Some rule ↦ rule_set_from values (rules ++ rule ∷ []) lines ]
         | false ↦ elim (with_attribute rule_set_attributes values (attribute_line line)) [ None ↦ None | Some more ↦ rule_set_from more rules lines ]
       ]
     ]
@@ -116,14 +116,14 @@ abbrev pub keyed_value : List ℕ × List ℕ → Option (List ℕ)
 keyed_value line = value_behind line.0 line.1
 
 -- the node of five lines
-abbrev pub node_of : List (List ℕ) → Option NodeLines
-node_of lines = elim (read_each keyed_value (zip node_keys lines)) [ None ↦ None | Some values ↦ node_with values ]
+abbrev pub node_lines_of : List (List ℕ) → Option NodeLines
+node_lines_of lines = elim (read_each keyed_value (zip node_keys lines)) [ None ↦ None | Some values ↦ node_with values ]
 
 -- nodes and those of lines, five for each
 abbrev pub nodes_after : List NodeLines → List (List ℕ) → Option (List NodeLines)
 nodes_after nodes [] = Some nodes
 nodes_after nodes (id ∷ name ∷ sort ∷ shares ∷ children ∷ lines) =
-    elim (node_of (id ∷ name ∷ sort ∷ shares ∷ children ∷ [])) [ None ↦ None | Some node ↦ nodes_after (nodes ++ node ∷ []) lines ]
+    elim (node_lines_of (id ∷ name ∷ sort ∷ shares ∷ children ∷ [])) [ None ↦ None | Some node ↦ nodes_after (nodes ++ node ∷ []) lines ]
 nodes_after nodes _ = None
 
 -- the body of a share tree
@@ -158,26 +158,26 @@ complex_body lines = option_map ComplexRows (read_each complex_line lines)
 -- bodies
 
 -- the body that lines are; the lists of managers and operators have none
-abbrev pub body_in : ObjectKind → List (List ℕ) → Option Body
-body_in ObjectKind.Complexes lines = complex_body lines
-body_in ObjectKind.Shares lines = node_body lines
-body_in ObjectKind.Quota lines = rule_set_body lines
-body_in ObjectKind.Managers lines = None
-body_in ObjectKind.Operators lines = None
-body_in ObjectKind.Host lines = attribute_body ObjectKind.Host lines
-body_in ObjectKind.Group lines = attribute_body ObjectKind.Group lines
-body_in ObjectKind.Queue lines = attribute_body ObjectKind.Queue lines
-body_in ObjectKind.Pe lines = attribute_body ObjectKind.Pe lines
-body_in ObjectKind.Set lines = attribute_body ObjectKind.Set lines
-body_in ObjectKind.User lines = attribute_body ObjectKind.User lines
-body_in ObjectKind.Project lines = attribute_body ObjectKind.Project lines
-body_in ObjectKind.Sched lines = attribute_body ObjectKind.Sched lines
+abbrev pub body_of_lines : ObjectKind → List (List ℕ) → Option Body
+body_of_lines ObjectKind.Complexes lines = complex_body lines
+body_of_lines ObjectKind.Shares lines = node_body lines
+body_of_lines ObjectKind.Quota lines = rule_set_body lines
+body_of_lines ObjectKind.Managers lines = None
+body_of_lines ObjectKind.Operators lines = None
+body_of_lines ObjectKind.Host lines = attribute_body ObjectKind.Host lines
+body_of_lines ObjectKind.Group lines = attribute_body ObjectKind.Group lines
+body_of_lines ObjectKind.Queue lines = attribute_body ObjectKind.Queue lines
+body_of_lines ObjectKind.Pe lines = attribute_body ObjectKind.Pe lines
+body_of_lines ObjectKind.Set lines = attribute_body ObjectKind.Set lines
+body_of_lines ObjectKind.User lines = attribute_body ObjectKind.User lines
+body_of_lines ObjectKind.Project lines = attribute_body ObjectKind.Project lines
+body_of_lines ObjectKind.Sched lines = attribute_body ObjectKind.Sched lines
 
 -- a body of a kind of object, if it is in its grammar: no attribute twice, none unknown, none missing that names the object
 unfoldable pub body_of : ObjectKind → List ℕ → Option Body
-body_of kind text = if list_all is_plain_line (text_lines text) then body_in kind (body_lines text) else None
+body_of kind text = if list_all is_plain_line (text_lines text) then body_of_lines kind (body_lines text) else None
 
 -- all that a row of bodies computes through
 unfoldable pub grammar_of_bodies : Unit {0}
-unfolding body_of attribute_body rule_of rule_set_body node_body complex_body
+unfolding body_of attribute_body rule_line_of rule_set_body node_body complex_body
 grammar_of_bodies = tt

@@ -9,9 +9,9 @@ use Rattle.ge_model_value.specs.Pieces.{is_empty, before_byte, behind_byte, has_
 use Rattle.ge_model_grammar.specs.Lines.{is_plain_line, text_lines, begins_with, read_each}
 use Rattle.ge_model_grammar.specs.Bodies.{grammar_of_bodies}
 use Rattle.ge_model_grammar.specs.Options.{Given, has_option}
-use Rattle.ge_model_grammar.specs.Shapes.{qsub_shapes, qalter_shapes, qrsub_shapes, read_options, merged, merged_by}
-use Rattle.ge_model_grammar.specs.Targets.{job_of, wide_number, jobs_of, targets_of, holds_of}
-use Rattle.ge_model_grammar.specs.Configuring.{config_of}
+use Rattle.ge_model_grammar.specs.Shapes.{qsub_shapes, qalter_shapes, qrsub_shapes, read_options, merged_options, merged_by}
+use Rattle.ge_model_grammar.specs.Targets.{job_number_of, wide_number, job_numbers_of, targets_of, holds_of_letters}
+use Rattle.ge_model_grammar.specs.Configuring.{config_command}
 
 -- the words of a line of bytes that print, blanks and tabs
 abbrev pub line_words : List ℕ → Option (List (List ℕ))
@@ -46,11 +46,11 @@ script_options script = options_after [] (text_lines script)
 
 -- qsub with the options of its script and of its line
 abbrev pub submission : List ℕ → Given → Given × List (List ℕ) → Command
-submission script in_script read = Command.Submit (record { items = merged (in_script ++ read.0) }) read.1 script
+submission script in_script read = Command.Submit (record { items = merged_options (in_script ++ read.0) }) read.1 script
 
 -- qsub: options, the command and its arguments; the lines behind are the script
-unfoldable pub submit_of : List (List ℕ) → List ℕ → Option Command
-submit_of words script =
+unfoldable pub submit_command : List (List ℕ) → List ℕ → Option Command
+submit_command words script =
     elim (script_options script) [
       | None ↦ None
       | Some in_script ↦ option_map (submission script in_script) (read_options qsub_shapes words)
@@ -60,77 +60,77 @@ submit_of words script =
 
 -- qalter of these jobs with the options that count
 abbrev pub alteration : Given → List ℕ → Command
-alteration given jobs = Command.Alter (record { items = merged given }) jobs
+alteration given jobs = Command.Alter (record { items = merged_options given }) jobs
 
 -- qalter: options, and jobs
-unfoldable pub alter_of : List (List ℕ) → Option Command
-alter_of words =
+unfoldable pub alter_command : List (List ℕ) → Option Command
+alter_command words =
     elim (read_options qalter_shapes words) [
       | None ↦ None
-      | Some read ↦ option_map (alteration read.0) (jobs_of read.1)
+      | Some read ↦ option_map (alteration read.0) (job_numbers_of read.1)
     ]
 
 -- qdel, qmod -cj
 
 -- qdel, with -f by force
-unfoldable pub delete_of : List (List ℕ) → Option Command
-delete_of [] = None
-delete_of (word ∷ words) =
+unfoldable pub delete_command : List (List ℕ) → Option Command
+delete_command [] = None
+delete_command (word ∷ words) =
     if text_eq word (codes "-f") then option_map (Command.Delete true) (targets_of words)
     else option_map (Command.Delete false) (targets_of (word ∷ words))
 
 -- qmod, with -cj alone
-unfoldable pub clear_of : List (List ℕ) → Option Command
-clear_of [] = None
-clear_of (word ∷ words) = if text_eq word (codes "-cj") then option_map Command.Clear (targets_of words) else None
+unfoldable pub clear_command : List (List ℕ) → Option Command
+clear_command [] = None
+clear_command (word ∷ words) = if text_eq word (codes "-cj") then option_map Command.Clear (targets_of words) else None
 
 -- qhold, qrls
 
 -- letters behind -h, and jobs
 abbrev pub with_letters : (ℕ → List ℕ → Command) → List (List ℕ) → Option Command
 with_letters make [] = None
-with_letters make (letters ∷ words) = elim (holds_of letters) [ None ↦ None | Some bits ↦ option_map (make bits) (jobs_of words) ]
+with_letters make (letters ∷ words) = elim (holds_of_letters letters) [ None ↦ None | Some bits ↦ option_map (make bits) (job_numbers_of words) ]
 
 -- without letters it is the hold of users
-unfoldable pub hold_of : (ℕ → List ℕ → Command) → List (List ℕ) → Option Command
-hold_of make [] = None
-hold_of make (word ∷ words) = if text_eq word (codes "-h") then with_letters make words else option_map (make 1) (jobs_of (word ∷ words))
+unfoldable pub hold_command : (ℕ → List ℕ → Command) → List (List ℕ) → Option Command
+hold_command make [] = None
+hold_command make (word ∷ words) = if text_eq word (codes "-h") then with_letters make words else option_map (make 1) (job_numbers_of (word ∷ words))
 
 -- qstat
 
 -- qstat: jobs of all owners or of those that -u names, -j one job, -f instances, -pri priorities
-unfoldable pub show_of : List (List ℕ) → Option Command
-show_of [] = Some (Command.Show (Listing.All (codes "*")))
-show_of (word ∷ []) =
+unfoldable pub show_command : List (List ℕ) → Option Command
+show_command [] = Some (Command.Show (Listing.All (codes "*")))
+show_command (word ∷ []) =
     if text_eq word (codes "-f") then Some (Command.Show Listing.Queues)
     else (if text_eq word (codes "-pri") then Some (Command.Show Listing.Prios) else None)
-show_of (word ∷ of ∷ []) =
+show_command (word ∷ of ∷ []) =
     if text_eq word (codes "-u") then Some (Command.Show (Listing.All of))
-    else (if text_eq word (codes "-j") then option_map (λ job. Command.Show (Listing.One job)) (job_of of) else None)
-show_of (word ∷ of ∷ other ∷ words) = None
+    else (if text_eq word (codes "-j") then option_map (λ job. Command.Show (Listing.One job)) (job_number_of of) else None)
+show_command (word ∷ of ∷ other ∷ words) = None
 
 -- qacct
 
 -- qacct: sums, -o of an owner, -j the lines of a job
-unfoldable pub account_of : List (List ℕ) → Option Command
-account_of [] = Some (Command.Account Query.Total)
-account_of (word ∷ []) = None
-account_of (word ∷ of ∷ []) =
+unfoldable pub account_command : List (List ℕ) → Option Command
+account_command [] = Some (Command.Account Query.Total)
+account_command (word ∷ []) = None
+account_command (word ∷ of ∷ []) =
     if text_eq word (codes "-o") then (if is_name of then Some (Command.Account (Query.Owner of)) else None)
-    else (if text_eq word (codes "-j") then option_map (λ job. Command.Account (Query.Job job)) (job_of of) else None)
-account_of (word ∷ of ∷ other ∷ words) = None
+    else (if text_eq word (codes "-j") then option_map (λ job. Command.Account (Query.Job job)) (job_number_of of) else None)
+account_command (word ∷ of ∷ other ∷ words) = None
 
 -- load, end, orders, job
 
 -- name=value
-abbrev pub reported : List ℕ → Option (List ℕ × List ℕ)
-reported word = if has_byte 61 word && is_name (before_byte 61 word) then Some (before_byte 61 word, behind_byte 61 word) else None
+abbrev pub reported_pair : List ℕ → Option (List ℕ × List ℕ)
+reported_pair word = if has_byte 61 word && is_name (before_byte 61 word) then Some (before_byte 61 word, behind_byte 61 word) else None
 
 -- load: a host and its report
-unfoldable pub load_of : List (List ℕ) → Option Command
-load_of [] = None
-load_of (host ∷ []) = None
-load_of (host ∷ word ∷ words) = if is_name host then option_map (Command.Load host) (read_each reported (word ∷ words)) else None
+unfoldable pub load_command : List (List ℕ) → Option Command
+load_command [] = None
+load_command (host ∷ []) = None
+load_command (host ∷ word ∷ words) = if is_name host then option_map (Command.Load host) (read_each reported_pair (word ∷ words)) else None
 
 -- the end of a dispatch, by its five numbers
 abbrev pub end_with : List ℕ → Option Command
@@ -138,18 +138,18 @@ end_with (serial ∷ exit ∷ cpu ∷ mem ∷ io ∷ []) = Some (Command.End ser
 end_with _ = None
 
 -- end: serial, exit status, cpu, mem and io
-unfoldable pub end_of : List (List ℕ) → Option Command
-end_of words = elim (read_each wide_number words) [ None ↦ None | Some numbers ↦ end_with numbers ]
+unfoldable pub end_command : List (List ℕ) → Option Command
+end_command words = elim (read_each wide_number words) [ None ↦ None | Some numbers ↦ end_with numbers ]
 
 -- orders: a host
-unfoldable pub orders_of : List (List ℕ) → Option Command
-orders_of (host ∷ []) = if is_name host then Some (Command.Orders host) else None
-orders_of _ = None
+unfoldable pub orders_command : List (List ℕ) → Option Command
+orders_command (host ∷ []) = if is_name host then Some (Command.Orders host) else None
+orders_command _ = None
 
 -- job: a serial
-unfoldable pub dispatch_of : List (List ℕ) → Option Command
-dispatch_of (serial ∷ []) = option_map Command.JobOf (wide_number serial)
-dispatch_of _ = None
+unfoldable pub dispatch_command : List (List ℕ) → Option Command
+dispatch_command (serial ∷ []) = option_map Command.JobOf (wide_number serial)
+dispatch_command _ = None
 
 -- qrsub, qrdel, qrstat
 
@@ -165,55 +165,55 @@ abbrev pub booking : Given × List (List ℕ) → Option Command
 booking read = if is_empty read.1 then booking_by (merged_by qrsub_shapes read.0) else None
 
 -- qrsub: options alone
-unfoldable pub book_of : List (List ℕ) → Option Command
-book_of words = elim (read_options qrsub_shapes words) [ None ↦ None | Some read ↦ booking read ]
+unfoldable pub book_command : List (List ℕ) → Option Command
+book_command words = elim (read_options qrsub_shapes words) [ None ↦ None | Some read ↦ booking read ]
 
 -- qrdel: numbers of reservations, written as those of jobs
-unfoldable pub unbook_of : List (List ℕ) → Option Command
-unbook_of words = option_map Command.Unbook (jobs_of words)
+unfoldable pub unbook_command : List (List ℕ) → Option Command
+unbook_command words = option_map Command.Unbook (job_numbers_of words)
 
 -- the reservation that a number names
 abbrev pub shown_booked : ℕ → Command
 shown_booked number = Command.ShowBooked (Some number)
 
 -- qrstat: all reservations, or the one that -ar names
-unfoldable pub booked_of : List (List ℕ) → Option Command
-booked_of [] = Some (Command.ShowBooked None)
-booked_of (word ∷ []) = None
-booked_of (word ∷ of ∷ []) = if text_eq word (codes "-ar") then option_map shown_booked (job_of of) else None
-booked_of (word ∷ of ∷ other ∷ words) = None
+unfoldable pub show_booked_command : List (List ℕ) → Option Command
+show_booked_command [] = Some (Command.ShowBooked None)
+show_booked_command (word ∷ []) = None
+show_booked_command (word ∷ of ∷ []) = if text_eq word (codes "-ar") then option_map shown_booked (job_number_of of) else None
+show_booked_command (word ∷ of ∷ other ∷ words) = None
 
 -- sched
-abbrev pub run_of : List (List ℕ) → Option Command
-run_of words = if is_empty words then Some Command.Sched else None
+abbrev pub sched_command : List (List ℕ) → Option Command
+sched_command words = if is_empty words then Some Command.Sched else None
 
 -- all of them
 
 -- the commands that are one line
 abbrev pub line_command : List ℕ → List (List ℕ) → Option Command
 line_command verb words =
-    if text_eq verb (codes "qalter") then alter_of words
-    else (if text_eq verb (codes "qdel") then delete_of words
-    else (if text_eq verb (codes "qhold") then hold_of Command.Hold words
-    else (if text_eq verb (codes "qrls") then hold_of Command.Release words
-    else (if text_eq verb (codes "qmod") then clear_of words
-    else (if text_eq verb (codes "qstat") then show_of words
-    else (if text_eq verb (codes "qacct") then account_of words
-    else (if text_eq verb (codes "load") then load_of words
-    else (if text_eq verb (codes "end") then end_of words
-    else (if text_eq verb (codes "orders") then orders_of words
-    else (if text_eq verb (codes "job") then dispatch_of words
-    else (if text_eq verb (codes "qrsub") then book_of words
-    else (if text_eq verb (codes "qrdel") then unbook_of words
-    else (if text_eq verb (codes "qrstat") then booked_of words
-    else (if text_eq verb (codes "sched") then run_of words else None))))))))))))))
+    if text_eq verb (codes "qalter") then alter_command words
+    else (if text_eq verb (codes "qdel") then delete_command words
+    else (if text_eq verb (codes "qhold") then hold_command Command.Hold words
+    else (if text_eq verb (codes "qrls") then hold_command Command.Release words
+    else (if text_eq verb (codes "qmod") then clear_command words
+    else (if text_eq verb (codes "qstat") then show_command words
+    else (if text_eq verb (codes "qacct") then account_command words
+    else (if text_eq verb (codes "load") then load_command words
+    else (if text_eq verb (codes "end") then end_command words
+    else (if text_eq verb (codes "orders") then orders_command words
+    else (if text_eq verb (codes "job") then dispatch_command words
+    else (if text_eq verb (codes "qrsub") then book_command words
+    else (if text_eq verb (codes "qrdel") then unbook_command words
+    else (if text_eq verb (codes "qrstat") then show_booked_command words
+    else (if text_eq verb (codes "sched") then sched_command words else None))))))))))))))
 
 -- the command of the words of a command line and of the text behind it
 abbrev pub command_in : List (List ℕ) → List ℕ → Option Command
 command_in [] text = None
 command_in (verb ∷ words) text =
-    if text_eq verb (codes "qsub") then submit_of words text
-    else (if text_eq verb (codes "qconf") then config_of words text
+    if text_eq verb (codes "qsub") then submit_command words text
+    else (if text_eq verb (codes "qconf") then config_command words text
     else (if is_empty text then line_command verb words else None))
 
 -- the command that a text is, if it is in the grammar
@@ -222,5 +222,5 @@ command_of text = elim (line_words (before_byte 10 text)) [ None ↦ None | Some
 
 -- all that a row of commands computes through
 unfoldable pub grammar_of_commands : Unit {0}
-unfolding grammar_of_bodies read_options merged config_of script_options submit_of alter_of delete_of clear_of hold_of show_of account_of load_of end_of orders_of dispatch_of book_of unbook_of booked_of command_of
+unfolding grammar_of_bodies read_options merged_options config_command script_options submit_command alter_command delete_command clear_command hold_command show_command account_command load_command end_command orders_command dispatch_command book_command unbook_command show_booked_command command_of
 grammar_of_commands = tt

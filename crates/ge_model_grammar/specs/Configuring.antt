@@ -61,9 +61,9 @@ with_name make (Some kind) (word ∷ []) = if is_name_of kind word then Some (ma
 with_name make (Some kind) (word ∷ other ∷ words) = None
 
 -- the command of an object that has no name
-abbrev pub without_name : (Key → Command) → Option ObjectKind → Option Command
-without_name make None = None
-without_name make (Some kind) = Some (make (record { kind = kind; name = [] }))
+abbrev pub nameless_command : (Key → Command) → Option ObjectKind → Option Command
+nameless_command make None = None
+nameless_command make (Some kind) = Some (make (record { kind = kind; name = [] }))
 
 -- a name is added to a list
 abbrev pub add_name : Key → Command
@@ -71,12 +71,12 @@ add_name key = Command.Add key.kind key.name
 
 -- -d with a name, or -dstree
 abbrev pub removal : List ℕ → List (List ℕ) → Option Command
-removal word [] = if text_eq word (codes "stree") then without_name Command.Remove (Some ObjectKind.Shares) else None
+removal word [] = if text_eq word (codes "stree") then nameless_command Command.Remove (Some ObjectKind.Shares) else None
 removal word (name ∷ words) = with_name Command.Remove (at_text removed_kinds word) (name ∷ words)
 
 -- -s with a name, or of what there is one alone
 abbrev pub printing : List ℕ → List (List ℕ) → Option Command
-printing word [] = without_name Command.Print (at_text single_kinds word)
+printing word [] = nameless_command Command.Print (at_text single_kinds word)
 printing word (name ∷ words) = with_name Command.Print (at_text printed_kinds word) (name ∷ words)
 
 -- -km
@@ -92,9 +92,9 @@ bare_form option words =
     else (if begins_with (codes "-a") option then with_name add_name (at_text list_kinds (drop 2 option)) words else None)))
 
 -- the command of the words behind qconf and of the text behind the command line
-unfoldable pub config_of : List (List ℕ) → List ℕ → Option Command
-config_of [] body = None
-config_of (option ∷ words) body =
+unfoldable pub config_command : List (List ℕ) → List ℕ → Option Command
+config_command [] body = None
+config_command (option ∷ words) body =
     if begins_with (codes "-A") option then with_body Command.Add (at_text added_kinds (drop 2 option)) words body
     else (if begins_with (codes "-M") option then with_body Command.Modify (at_text modified_kinds (drop 2 option)) words body
     else (if is_empty body then bare_form option words else None))

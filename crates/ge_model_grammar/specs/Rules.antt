@@ -56,22 +56,22 @@ abbrev pub has_equals : List ℕ → Bool
 has_equals item = has_byte 61 item
 
 -- a resource and its limit, as they are written
-abbrev pub resource_of : List ℕ → List ℕ × List ℕ
-resource_of item = (before_byte 61 item, behind_byte 61 item)
+abbrev pub written_resource : List ℕ → List ℕ × List ℕ
+written_resource item = (before_byte 61 item, behind_byte 61 item)
 
 -- a rule with its resources: at least one, each with its =
 abbrev pub with_resources : RuleLine → List (List ℕ) → Option RuleLine
 with_resources rule items =
-    if not (is_empty items) && list_all has_equals items then Some (record rule { limits = map resource_of items }) else None
+    if not (is_empty items) && list_all has_equals items then Some (record rule { limits = map written_resource items }) else None
 
 -- the rest of a rule: filters in any order, each at most once, then `to` and resources
-abbrev pub rule_from : RuleLine → List (List ℕ) → Option RuleLine
-rule_from rule [] = None
-rule_from rule (word ∷ []) = None
-rule_from rule (word ∷ text ∷ words) =
+abbrev pub rule_with_rest : RuleLine → List (List ℕ) → Option RuleLine
+rule_with_rest rule [] = None
+rule_with_rest rule (word ∷ []) = None
+rule_with_rest rule (word ∷ text ∷ words) =
     elim (text_eq word (codes "to")) [
       | true ↦ with_resources rule (list_items (joined_by (codes " ") (text ∷ words)))
-      | false ↦ elim (filtered_by rule word text) [ None ↦ None | Some more ↦ rule_from more words ]
+      | false ↦ elim (filtered_by rule word text) [ None ↦ None | Some more ↦ rule_with_rest more words ]
     ]
 
 -- a rule's words: its name, where it has one, stands before its filters
@@ -79,8 +79,8 @@ abbrev pub rule_in : List (List ℕ) → Option RuleLine
 rule_in [] = None
 rule_in (word ∷ []) = None
 rule_in (word ∷ text ∷ words) =
-    if text_eq word (codes "name") then rule_from (bare_rule text) words else rule_from (bare_rule []) (word ∷ text ∷ words)
+    if text_eq word (codes "name") then rule_with_rest (bare_rule text) words else rule_with_rest (bare_rule []) (word ∷ text ∷ words)
 
 -- a rule as it is written behind `limit`
-unfoldable pub rule_of : List ℕ → Option RuleLine
-rule_of text = rule_in (blank_pieces text)
+unfoldable pub rule_line_of : List ℕ → Option RuleLine
+rule_line_of text = rule_in (blank_pieces text)

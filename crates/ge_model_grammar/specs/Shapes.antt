@@ -132,5 +132,5 @@ abbrev pub merged_by : List Shape → Given → Given
 merged_by known given = filter_map (item_in given) (filter is_effective known)
 
 -- the options of a job that count, each once: those of the command line, given behind the script's, replace them
-unfoldable pub merged : Given → Given
-merged given = merged_by shapes given
+unfoldable pub merged_options : Given → Given
+merged_options given = merged_by shapes given

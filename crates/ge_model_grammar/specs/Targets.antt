@@ -12,8 +12,8 @@ abbrev pub cut_number : ℕ → List ℕ → Option ℕ
 cut_number greatest word = option_map (min greatest) (digits_number word)
 
 -- the number of a job
-abbrev pub job_of : List ℕ → Option ℕ
-job_of word = cut_number (2 ^ 32 - 1) word
+abbrev pub job_number_of : List ℕ → Option ℕ
+job_number_of word = cut_number (2 ^ 32 - 1) word
 
 -- a number of 64 bits
 abbrev pub wide_number : List ℕ → Option ℕ
@@ -28,8 +28,8 @@ abbrev pub read_items : {T : Type 0} → (List ℕ → Option T) → List (List 
 read_items read words = if is_empty words then None else read_each read (items_of words)
 
 -- jobs
-abbrev pub jobs_of : List (List ℕ) → Option (List ℕ)
-jobs_of words = read_items job_of words
+abbrev pub job_numbers_of : List (List ℕ) → Option (List ℕ)
+job_numbers_of words = read_items job_number_of words
 
 -- a job with all its tasks
 abbrev pub whole_job : ℕ → Pick
@@ -42,7 +42,7 @@ some_tasks job range = record { job = job; tasks = Some (range_set range) }
 -- a job, or a job, a point and a range of its tasks
 abbrev pub target_of : List ℕ → Option Pick
 target_of item =
-    elim (job_of (before_byte 46 item)) [
+    elim (job_number_of (before_byte 46 item)) [
       | None ↦ None
       | Some job ↦ if has_byte 46 item then option_map (some_tasks job) (range_of (behind_byte 46 item)) else Some (whole_job job)
     ]
@@ -60,6 +60,6 @@ abbrev pub bit_of : ℕ → List ℕ → ℕ → ℕ
 bit_of letter letters bit = if has_byte letter letters then bit else 0
 
 -- the holds that letters stand for, at least one, each perhaps more than once
-abbrev pub holds_of : List ℕ → Option ℕ
-holds_of letters =
+abbrev pub holds_of_letters : List ℕ → Option ℕ
+holds_of_letters letters =
     if not (is_empty letters) && list_all is_hold_letter letters then Some (bit_of 117 letters 1 + bit_of 111 letters 2 + bit_of 115 letters 4) else None

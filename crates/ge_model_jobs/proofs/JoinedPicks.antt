@@ -10,7 +10,7 @@ use Rattle.ge_model_rows.specs.TaskRows.{TaskSpan, is_form}
 use Rattle.ge_model_tasks.specs.Sets.{has_number, union}
 use Rattle.ge_model_tasks.proofs.Together.{union_form, union_has}
 use Rattle.ge_model_tasks.proofs.Unique.{one_form}
-use Rattle.ge_model_jobs.specs.Picks.{names_task, named_in, unnamed_in, picked, both_named, with_named, join_pick, joined_picks}
+use Rattle.ge_model_jobs.specs.Picks.{picks_task, is_joined_name, names_task, named_in, unnamed_in, picked_tasks, both_named, with_named, join_pick, joined_picks}
 use Rattle.ge_model_jobs.specs.Holds.{live_tasks}
 use Rattle.ge_model_jobs.specs.Ending.{marked, is_unnamed, run_on, without_picked, cleared}
 use Rattle.ge_model_jobs.specs.Orderly.{KeysFrom, IsOrderly}
@@ -29,15 +29,6 @@ both_name t (Some first) None one two = or_true (has_number t first)
     or_true true = refl
     or_true false = refl
 both_name t (Some first) (Some tasks) one two = union_has t first tasks one two
-
--- whether a pick names a task of a job
-abbrev pub names : ℕ → ℕ → Pick → Bool
-names number t pick = number == pick.job && names_task pick.tasks t
-
--- whether what a table may have at a job names a task
-abbrev pub names_in : Option (Option (List TaskSpan)) → ℕ → Bool
-names_in None t = false
-names_in (Some tasks) t = names_task tasks t
 
 -- what a table has at a number, once a row is put in
 at_put : (n key : ℕ) (x : Option (List TaskSpan)) (rows : List (ℕ × Option (List TaskSpan))) → at_number (put_number rows key x) n ≡ cond (n == key) (Some x) (at_number rows n)
@@ -70,43 +61,43 @@ at_put n key x (row ∷ rows) = by (nat_cmp key row.0) refl (at_put n key x rows
 
 -- with one pick more, what is named at a job is what was, and what the pick names of that job
 join_names : (number t : ℕ) (rows : List (ℕ × Option (List TaskSpan))) (pick : Pick) → IsPick pick.tasks → AreJoined rows
-    → names_in (at_number (join_pick rows pick) number) t ≡ (names_in (at_number rows number) t || names number t pick)
+    → is_joined_name (at_number (join_pick rows pick) number) t ≡ (is_joined_name (at_number rows number) t || picks_task number t pick)
 join_names number t rows pick fit all =
-    ap (λ found. names_in found t) (at_put number pick.job (with_named (at_number rows pick.job) pick.tasks) rows) ∙ by (number == pick.job) refl
+    ap (λ found. is_joined_name found t) (at_put number pick.job (with_named (at_number rows pick.job) pick.tasks) rows) ∙ by (number == pick.job) refl
   where
     or_nothing : (u : Bool) → u ≡ (u || false)
     or_nothing true = refl
     or_nothing false = refl
 
-    with_names : (found : Option (Option (List TaskSpan))) → IfJoined found → names_task (with_named found pick.tasks) t ≡ (names_in found t || names_task pick.tasks t)
+    with_names : (found : Option (Option (List TaskSpan))) → IfJoined found → names_task (with_named found pick.tasks) t ≡ (is_joined_name found t || names_task pick.tasks t)
     with_names None one = refl
     with_names (Some tasks) one = both_name t tasks pick.tasks one fit
 
     by : (here : Bool) → (number == pick.job) ≡ here
-        → names_in (cond here (Some (with_named (at_number rows pick.job) pick.tasks)) (at_number rows number)) t ≡ (names_in (at_number rows number) t || (here && names_task pick.tasks t))
+        → is_joined_name (cond here (Some (with_named (at_number rows pick.job) pick.tasks)) (at_number rows number)) t ≡ (is_joined_name (at_number rows number) t || (here && names_task pick.tasks t))
     by true is =
         let e : pick.job ≡ number = grind arith in
-        with_names (at_number rows pick.job) (there_joined rows pick.job all) ∙ ap (λ n. names_in (at_number rows n) t || names_task pick.tasks t) e
-    by false is = or_nothing (names_in (at_number rows number) t)
+        with_names (at_number rows pick.job) (there_joined rows pick.job all) ∙ ap (λ n. is_joined_name (at_number rows n) t || names_task pick.tasks t) e
+    by false is = or_nothing (is_joined_name (at_number rows number) t)
 
 more_names : (number t : ℕ) (rows : List (ℕ × Option (List TaskSpan))) (picks : List Pick) → ArePicks picks → AreJoined rows
-    → names_in (at_number (fold join_pick rows picks) number) t ≡ (names_in (at_number rows number) t || list_any (names number t) picks)
-more_names number t rows [] fit all = or_nothing (names_in (at_number rows number) t)
+    → is_joined_name (at_number (fold join_pick rows picks) number) t ≡ (is_joined_name (at_number rows number) t || list_any (picks_task number t) picks)
+more_names number t rows [] fit all = or_nothing (is_joined_name (at_number rows number) t)
   where
     or_nothing : (u : Bool) → u ≡ (u || false)
     or_nothing true = refl
     or_nothing false = refl
 more_names number t rows (pick ∷ picks) fit all =
     more_names number t (join_pick rows pick) picks fit.1 (put_joined rows pick.job _ (with_fit (at_number rows pick.job) pick.tasks (there_joined rows pick.job all) fit.0) all)
-    ∙ ap (λ z. z || list_any (names number t) picks) (join_names number t rows pick fit.0 all)
-    ∙ regrouped (names_in (at_number rows number) t) (names number t pick) (list_any (names number t) picks)
+    ∙ ap (λ z. z || list_any (picks_task number t) picks) (join_names number t rows pick fit.0 all)
+    ∙ regrouped (is_joined_name (at_number rows number) t) (picks_task number t pick) (list_any (picks_task number t) picks)
   where
     regrouped : (a b c : Bool) → ((a || b) || c) ≡ (a || (b || c))
     regrouped true b c = refl
     regrouped false b c = refl
 
 -- a task of a job is named by the picks that are joined where one of them as written names it
-pub joined_names : (number t : ℕ) (picks : List Pick) → ArePicks picks → names_in (at_number (joined_picks picks) number) t ≡ list_any (names number t) picks
+pub joined_names : (number t : ℕ) (picks : List Pick) → ArePicks picks → is_joined_name (at_number (joined_picks picks) number) t ≡ list_any (picks_task number t) picks
 joined_names number t picks fit = more_names number t [] picks fit tt
 
 -- the jobs stand by number, each once
@@ -222,13 +213,13 @@ cleared_twice first tasks job one two orderly = λ i. record job { queued = wait
 
 -- the live tasks of a job that two picks together name are those of the one and those of the other
 pub picked_both : (first tasks : Option (List TaskSpan)) (job : Job) → IsPick first → IsPick tasks → is_form (live_tasks job) ≡ true
-    → picked job (both_named first tasks) ≡ union (picked job first) (picked job tasks)
+    → picked_tasks job (both_named first tasks) ≡ union (picked_tasks job first) (picked_tasks job tasks)
 picked_both first tasks job one two form =
-    one_form (picked job (both_named first tasks)) (union (picked job first) (picked job tasks))
-    (named_form (both_named first tasks) live both form) (union_form (picked job first) (picked job tasks) (named_form first live one form) (named_form tasks live two form))
+    one_form (picked_tasks job (both_named first tasks)) (union (picked_tasks job first) (picked_tasks job tasks))
+    (named_form (both_named first tasks) live both form) (union_form (picked_tasks job first) (picked_tasks job tasks) (named_form first live one form) (named_form tasks live two form))
     (λ t. named_has t (both_named first tasks) live both form ∙ ap (λ z. has_number t live && z) (both_name t first tasks one two)
     ∙ each (has_number t live) (names_task first t) (names_task tasks t)
-    ∙ sym (union_has t (picked job first) (picked job tasks) (named_form first live one form) (named_form tasks live two form)
+    ∙ sym (union_has t (picked_tasks job first) (picked_tasks job tasks) (named_form first live one form) (named_form tasks live two form)
     ∙ (λ i. named_has t first live one form i || named_has t tasks live two form i)))
   where
     live : List TaskSpan

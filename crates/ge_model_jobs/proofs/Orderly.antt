@@ -14,6 +14,7 @@ use Rattle.ge_model_tasks.proofs.Together.{union_form}
 use Rattle.ge_model_jobs.specs.declared.After.{After}
 use Rattle.ge_model_jobs.specs.declared.After.TheVariants as after
 use Rattle.ge_model_jobs.specs.Serials.{running_with}
+pub use Rattle.ge_model_jobs.specs.Picks.{ArePicks}
 use Rattle.ge_model_jobs.specs.Picks.{both_named, with_named, join_pick, joined_picks}
 use Rattle.ge_model_jobs.specs.Altering.{change_job, patched, alter_job, held, freed}
 use Rattle.ge_model_jobs.specs.Starting.{with_start, start_task}
@@ -120,11 +121,6 @@ started_orderly moment jobs (start ∷ starts) all =
     (changed_orderly (is_at (nat_cmp start.task.job)) (with_start moment start) (λ job one. (start_keeps moment start job one).0) jobs all)
 
 -- ---- tasks deleted and cleared
-
--- the tasks of all picks are in the form
-abbrev pub ArePicks : List Pick → Type 0
-ArePicks [] = Unit {0}
-ArePicks (pick ∷ picks) = IsPick pick.tasks × ArePicks picks
 
 pub both_fit : (first tasks : Option (List TaskSpan)) → IsPick first → IsPick tasks → IsPick (both_named first tasks)
 both_fit None tasks one two = tt

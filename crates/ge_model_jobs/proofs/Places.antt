@@ -9,6 +9,7 @@ use Rattle.ge_model_tasks.specs.Sets.{has_number, without_number}
 use Rattle.ge_model_tasks.proofs.Sets.{form_rises, with_number_form, with_number_has, without_number_form, without_number_has}
 use Rattle.ge_model_tasks.proofs.Merged.{above_low}
 use Rattle.ge_model_tasks.proofs.Together.{union_form, union_has, meet_form, meet_has, difference_form, difference_has}
+pub use Rattle.ge_model_jobs.specs.Picks.{IsPick}
 use Rattle.ge_model_jobs.specs.Picks.{names_task, named_in, unnamed_in}
 use Rattle.ge_model_jobs.specs.Starting.{with_start, running_from}
 use Rattle.ge_model_jobs.specs.Ending.{gone, again, in_error, marked, is_unnamed, without_picked, cleared}
@@ -106,11 +107,6 @@ in_error_keeps task job p runs orderly =
     (λ h. ap (λ z. has_key z job.running) (eqb-true t task h) ∙ runs) (orderly.places t)))
 
 -- ---- picks
-
--- a pick's tasks are in the form, where it names some
-abbrev pub IsPick : Option (List TaskSpan) → Type 0
-IsPick None = Unit {0}
-IsPick (Some tasks) = is_form tasks ≡ true
 
 pub named_form : (tasks : Option (List TaskSpan)) (set : List TaskSpan) → IsPick tasks → is_form set ≡ true → is_form (named_in tasks set) ≡ true
 named_form None set pick form = form

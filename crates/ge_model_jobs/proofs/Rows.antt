@@ -5,7 +5,7 @@ use Rattle.ge_model_rows.specs.EntryRows.{Entry, Submit, Alter, Hold, Release, D
 use Rattle.ge_model_rows.specs.EntryRows.{Run}
 use Rattle.ge_model_rows.specs.JobRows.{Job}
 use Rattle.ge_model_jobs.specs.Holds.{is_live_task, live_tasks, holds_of, eligible_tasks}
-use Rattle.ge_model_jobs.specs.Picks.{picked}
+use Rattle.ge_model_jobs.specs.Picks.{picked_tasks}
 use Rattle.ge_model_jobs.specs.Serials.{running_with}
 use Rattle.ge_model_jobs.specs.Applying.{after_entry, changes_in_full}
 use Rattle.ge_model_jobs.proofs.Samples.{span, array_job, plain_job, since, dying, start, line, no_patch, cluster, at}
@@ -26,10 +26,10 @@ all_live = refl
 six_is_gone : is_live_task mixed 6 ≡ false
 six_is_gone = refl
 
-whole_target : picked mixed None ≡ span 1 5 1 ∷ span 7 7 1 ∷ []
+whole_target : picked_tasks mixed None ≡ span 1 5 1 ∷ span 7 7 1 ∷ []
 whole_target = refl
 
-target_past_the_job : picked mixed (Some (span 4 80000 1 ∷ [])) ≡ span 4 5 1 ∷ span 7 7 1 ∷ []
+target_past_the_job : picked_tasks mixed (Some (span 4 80000 1 ∷ [])) ≡ span 4 5 1 ∷ span 7 7 1 ∷ []
 target_past_the_job = refl
 
 -- eligible tasks

@@ -5,18 +5,10 @@ use Rattle.std.specs.List.{list_any}
 use Rattle.std.proofs.lemmas.Bool.{true≢false}
 use Rattle.ge_model_rows.specs.JobRows.{Job, Running}
 use Rattle.ge_collections.specs.Keyed.{at_number}
-use Rattle.ge_model_jobs.specs.Serials.{has_serial, runs_serial, task_with, running_with}
+use Rattle.ge_model_jobs.specs.Serials.{met_with, has_serial, runs_serial, task_with, running_with}
 use Rattle.ge_model_jobs.specs.Orderly.{KeysFrom, IsOrderly, AllOrderly}
 use Rattle.ge_model_jobs.proofs.Keys.{IfAt, found_at}
 use Rattle.ge_model_jobs.proofs.Orderly.{IfOrderly, there_orderly}
-
--- the walk
-abbrev pub met_with : List (ℕ × Job) → ℕ → Option (ℕ × Job × ℕ × Running)
-met_with [] serial = None
-met_with (job ∷ jobs) serial = elim (find (has_serial serial) job.1.running) [
-  | Some task ↦ Some (job.0, job.1, task.0, task.1)
-  | None ↦ met_with jobs serial
-]
 
 some_found : {A : Type 0} (test : A → Bool) (rows : List A) → is_some (find test rows) ≡ list_any test rows
 some_found test [] = refl

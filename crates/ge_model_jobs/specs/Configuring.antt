@@ -63,9 +63,9 @@ without_item c ObjectKind.Managers name = record c { managers = without_name nam
 without_item c ObjectKind.Operators name = record c { operators = without_name name c.operators }
 
 -- a host's report replaces the values that it names
-abbrev pub reported : List (List ℕ × Value) → HostRow → HostRow
-reported report host = record host { load = fold (λ load value. put_text load value.0 value.1) host.load report }
+abbrev pub with_load_report : List (List ℕ × Value) → HostRow → HostRow
+with_load_report report host = record host { load = fold (λ load value. put_text load value.0 value.1) host.load report }
 
 -- a host reports its load; one that isn't there changes nothing
 unfoldable pub with_load : Cluster → List ℕ → List (List ℕ × Value) → Cluster
-with_load c name report = record c { hosts = change_value (is_at (text_cmp name)) (reported report) c.hosts }
+with_load c name report = record c { hosts = change_value (is_at (text_cmp name)) (with_load_report report) c.hosts }

@@ -9,3 +9,4 @@ pub mod Configuring
 pub mod Starting
 pub mod Applying
 pub mod Orderly
+pub mod Soundness

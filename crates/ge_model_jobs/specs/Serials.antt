@@ -1,5 +1,5 @@
 -- Running tasks by serial.
-use Rattle.std.specs.Prelude.{ℕ, ◌==◌, Bool, List, find, Option, option_map, option_and_then}
+use Rattle.std.specs.Prelude.{ℕ, ◌==◌, Bool, List, [], ◌∷◌, find, Option, Some, None, option_map, option_and_then}
 use Rattle.std.specs.List.{list_any}
 use Rattle.ge_model_rows.specs.JobRows.{Job, Running}
 
@@ -18,3 +18,11 @@ task_with serial job = option_map (λ task. (job.0, job.1, task.0, task.1)) (fin
 -- the running task that a serial names: in the least job that runs one, the least
 abbrev pub running_with : List (ℕ × Job) → ℕ → Option (ℕ × Job × ℕ × Running)
 running_with jobs serial = option_and_then (task_with serial) (find (runs_serial serial) jobs)
+
+-- the first running task with a serial that a walk over all jobs and their running tasks meets
+abbrev pub met_with : List (ℕ × Job) → ℕ → Option (ℕ × Job × ℕ × Running)
+met_with [] serial = None
+met_with (job ∷ jobs) serial = elim (find (has_serial serial) job.1.running) [
+  | Some task ↦ Some (job.0, job.1, task.0, task.1)
+  | None ↦ met_with jobs serial
+]

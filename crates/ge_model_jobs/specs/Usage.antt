@@ -52,9 +52,9 @@ usage_of sched cpu mem io =
     min (cut_sum (cut_sum (cut_product cpu sched.u_cpu) (cut_product mem sched.u_mem)) (cut_product io sched.u_io) / 1000000) (2 ^ 60 - 1)
 
 -- a row of usage, as it counts in an epoch, added to a table in an epoch of another halftime
-abbrev pub with_row : ℕ → ℕ → List (UsageKey × ℕ) → UsageKey × ℕ → List (UsageKey × ℕ)
-with_row epoch new_epoch rows row = with_usage rows (row.0.0, row.0.1, new_epoch) (decayed row.1 row.0.2 epoch)
+abbrev pub with_usage_row : ℕ → ℕ → List (UsageKey × ℕ) → UsageKey × ℕ → List (UsageKey × ℕ)
+with_usage_row epoch new_epoch rows row = with_usage rows (row.0.0, row.0.1, new_epoch) (decayed row.1 row.0.2 epoch)
 
 -- a table of usage at a moment at which the halftime changes: each row as it counts then, in the moment's epoch under the new halftime
 abbrev pub converted : ℕ → ℕ → ℕ → List (UsageKey × ℕ) → List (UsageKey × ℕ)
-converted moment halftime new_halftime rows = fold (with_row (epoch_of moment halftime) (epoch_of moment new_halftime)) [] rows
+converted moment halftime new_halftime rows = fold (with_usage_row (epoch_of moment halftime) (epoch_of moment new_halftime)) [] rows

@@ -9,9 +9,10 @@ use Rattle.ge_collections.specs.Keyed.{at_number, put_number}
 use Rattle.ge_model_rows.specs.ClusterRows.{Cluster}
 use Rattle.ge_model_order.specs.Amounts.{cut_total, portion}
 use Rattle.ge_model_order.specs.Share.{weight, weight_below, weights_by_node, tickets_below, with_tickets, tickets_by_node}
-use Rattle.ge_model_order.specs.ShareRule.{Charge, Weighed, charged_at, is_first, is_child_of, weighed, children_of, weight_with_jobs, tickets_below as tickets_by_rule, with_tickets as with_tickets_by_rule, node_tickets, jobs_at}
+use Rattle.ge_model_order.specs.ShareRule.{Charge, Weighed, charged_at, is_first, is_child_of, weighed, weighed_children, weight_with_jobs, tickets_below as tickets_by_rule, with_tickets as with_tickets_by_rule, node_tickets, jobs_at}
 use Rattle.ge_model_order.specs.ShareTables.{amount_at, children_sums}
-use Rattle.ge_model_order.specs.ShareTree.{Entered, has_id}
+use Rattle.ge_model_order.specs.ShareTree.{Entered}
+use Rattle.ge_model_value.specs.Pieces.{lists_number}
 use Rattle.ge_model_order.proofs.ShareTotals.{children_sums-at}
 use Rattle.ge_model_order.proofs.ShareNodes.{IsOnce, each_put}
 
@@ -30,16 +31,16 @@ module _ (usage jobs : List (ℕ × ℕ)) (charges : List Charge) (lines : List 
   abbrev weigh : Entered → Weighed
   weigh node = weighed charges lines node
 
-  children_kept : (id : ℕ) (tree : List Entered) → map weigh (filter (is_child_of id) tree) ≡ children_of (map weigh tree) id
+  children_kept : (id : ℕ) (tree : List Entered) → map weigh (filter (is_child_of id) tree) ≡ weighed_children (map weigh tree) id
   children_kept id [] = refl
   children_kept id (node ∷ tree) = by (is_child_of id node) (children_kept id tree)
     where
-      by : (b : Bool) → map weigh (filter (is_child_of id) tree) ≡ children_of (map weigh tree) id
-          → map weigh (cond b (node ∷ filter (is_child_of id) tree) (filter (is_child_of id) tree)) ≡ cond b (weigh node ∷ children_of (map weigh tree) id) (children_of (map weigh tree) id)
+      by : (b : Bool) → map weigh (filter (is_child_of id) tree) ≡ weighed_children (map weigh tree) id
+          → map weigh (cond b (node ∷ filter (is_child_of id) tree) (filter (is_child_of id) tree)) ≡ cond b (weigh node ∷ weighed_children (map weigh tree) id) (weighed_children (map weigh tree) id)
       by true later = ap (λ (rest : List Weighed). weigh node ∷ rest) later
       by false later = later
 
-  module _ (usage_is : (q : ℕ) → amount_at usage q ≡ cut_total (charged_at q) charges) (jobs_is : (q : ℕ) → amount_at jobs q ≡ count_by (λ line. has_id line q) lines) (tree : List Entered) where
+  module _ (usage_is : (q : ℕ) → amount_at usage q ≡ cut_total (charged_at q) charges) (jobs_is : (q : ℕ) → amount_at jobs q ≡ count_by (λ line. lists_number line q) lines) (tree : List Entered) where
     abbrev used : List (ℕ × ℕ)
     used = children_sums (λ node. amount_at usage node.id) tree
 
@@ -48,7 +49,7 @@ module _ (usage jobs : List (ℕ × ℕ)) (charges : List Charge) (lines : List 
 
     -- the usage of all children of a node, as the rule adds it up
     abbrev all_usage : ℕ → ℕ
-    all_usage id = cut_total (λ other. other.usage) (children_of (map weigh tree) id)
+    all_usage id = cut_total (λ other. other.usage) (weighed_children (map weigh tree) id)
 
     used_is : (id : ℕ) → amount_at used id ≡ all_usage id
     used_is id =
@@ -87,7 +88,7 @@ module _ (usage jobs : List (ℕ × ℕ)) (charges : List Charge) (lines : List 
     sums = children_sums (λ node. amount_at weights node.id) tree
 
     -- and so is the sum of the weights of all children
-    sums_is : AllByRecursion IsWeighed tree → (id : ℕ) → amount_at sums id ≡ cut_total (weight_with_jobs (all_usage id)) (children_of (map weigh tree) id)
+    sums_is : AllByRecursion IsWeighed tree → (id : ℕ) → amount_at sums id ≡ cut_total (weight_with_jobs (all_usage id)) (weighed_children (map weigh tree) id)
     sums_is all id =
         children_sums-at (λ node. amount_at weights node.id) tree id
         ∙ total_same (λ node. amount_at weights node.id) (weight_with_jobs (all_usage id)) weigh (filter (is_child_of id) tree) 0 (children_weighed id tree all)

@@ -17,7 +17,8 @@ use Rattle.ge_collections.specs.Keyed.{text_cmp, text_eq, at_text}
 use Rattle.ge_model_value.specs.Pieces.{is_empty}
 use Rattle.ge_model_order.specs.ShareRule.{is_leaf, is_leaf_named, project_node, user_leaf, if_leaf, leaf_under, leaf_of}
 use Rattle.ge_model_order.specs.ShareTables.{amount_at, child_counts, scopes_below, LeafKey, leaf_cmp, at_leaf, with_leaf, with_scopes, with_node, with_project, places_of, leaf_in, project_at, if_childless, leaf_below, leaf_at}
-use Rattle.ge_model_order.specs.ShareTree.{Entered, has_id}
+use Rattle.ge_model_order.specs.ShareTree.{Entered}
+use Rattle.ge_model_value.specs.Pieces.{lists_number}
 use Rattle.ge_model_order.proofs.ShareTotals.{equal, put_in, is_leaf-counted}
 
 or_none : {X : Type 0} (o : Option X) → option_or o None ≡ o
@@ -83,13 +84,13 @@ exact_leaf = exact_pairs nat_cmp text_cmp exact_unsigned exact_bytes
 
 -- a leaf is put in each of these scopes
 scopes_at : (id : ℕ) (name : List ℕ) (scopes : List ℕ) (rows : List (LeafKey × ℕ)) (s : ℕ) (n : List ℕ)
-    → at_leaf (fold (with_leaf id name) rows scopes) (s, n) ≡ option_or (at_leaf rows (s, n)) (cond (has_id scopes s && text_eq name n) (Some id) None)
+    → at_leaf (fold (with_leaf id name) rows scopes) (s, n) ≡ option_or (at_leaf rows (s, n)) (cond (lists_number scopes s && text_eq name n) (Some id) None)
 scopes_at id name [] rows s n = sym (or_none (at_leaf rows (s, n)))
 scopes_at id name (scope ∷ scopes) rows s n =
     scopes_at id name scopes (with_leaf id name rows scope) s n
-    ∙ ap (λ (o : Option ℕ). option_or o (cond (has_id scopes s && text_eq name n) (Some id) None))
+    ∙ ap (λ (o : Option ℕ). option_or o (cond (lists_number scopes s && text_eq name n) (Some id) None))
     (first_stays leaf_cmp exact_leaf rows (scope, name) (s, n) id ∙ ap (λ (b : Bool). option_or (at_leaf rows (s, n)) (cond b (Some id) None)) (same_key s scope n name))
-    ∙ by (at_leaf rows (s, n)) (scope == s) (has_id scopes s) (text_eq name n)
+    ∙ by (at_leaf rows (s, n)) (scope == s) (lists_number scopes s) (text_eq name n)
   where
     by : (o : Option ℕ) (a h t : Bool) → option_or (option_or o (cond (a && t) (Some id) None)) (cond (h && t) (Some id) None) ≡ option_or o (cond ((a || h) && t) (Some id) None)
     by (Some x) a h t = refl
@@ -101,14 +102,14 @@ scopes_at id name (scope ∷ scopes) rows s n =
 
 -- whether a node stands at a scope and a name
 abbrev stands : (Entered → Bool) → ℕ → List ℕ → Entered → Bool
-stands leaf s n node = not node.row.project && (leaf node && (has_id (scopes_below node.projects) s && text_eq node.row.name n))
+stands leaf s n node = not node.row.project && (leaf node && (lists_number (scopes_below node.projects) s && text_eq node.row.name n))
 
 node_at : (children : List (ℕ × ℕ)) (s : ℕ) (n : List ℕ) (rows : List (LeafKey × ℕ)) (node : Entered)
     → at_leaf (with_node children rows node) (s, n) ≡ option_or (at_leaf rows (s, n)) (cond (stands (λ node. amount_at children node.id == 0) s n node) (Some node.id) None)
 node_at children s n rows node = by node.row.project (amount_at children node.id == 0)
   where
     by : (p l : Bool) → at_leaf (if p then rows else if l then with_scopes rows node else rows) (s, n)
-        ≡ option_or (at_leaf rows (s, n)) (cond (not p && (l && (has_id (scopes_below node.projects) s && text_eq node.row.name n))) (Some node.id) None)
+        ≡ option_or (at_leaf rows (s, n)) (cond (not p && (l && (lists_number (scopes_below node.projects) s && text_eq node.row.name n))) (Some node.id) None)
     by true l = sym (or_none (at_leaf rows (s, n)))
     by false true = scopes_at node.id node.row.name (scopes_below node.projects) rows s n
     by false false = sym (or_none (at_leaf rows (s, n)))
@@ -135,13 +136,13 @@ shuffled false l true t = refl
 shuffled false l false t = refl
 
 -- a leaf in a scope is the first that the rule finds there
-leaf_found : (tree : List Entered) (in_scope : Entered → Bool) (s : ℕ) (n : List ℕ) → ((node : Entered) → has_id (scopes_below node.projects) s ≡ in_scope node)
+leaf_found : (tree : List Entered) (in_scope : Entered → Bool) (s : ℕ) (n : List ℕ) → ((node : Entered) → lists_number (scopes_below node.projects) s ≡ in_scope node)
     → at_leaf (places_of tree).leaves (s, n) ≡ option_map (λ node. node.id) (find (is_leaf_named tree n) (filter in_scope tree))
 leaf_found tree in_scope s n scoped =
     first_found (λ rows. at_leaf rows (s, n)) (with_node (child_counts tree)) (stands (λ node. amount_at (child_counts tree) node.id == 0) s n) (node_at (child_counts tree) s n) tree []
     ∙ ap (λ (o : Option Entered). option_map (λ (node : Entered). node.id) o)
     (find_same (stands (λ node. amount_at (child_counts tree) node.id == 0) s n) (λ node. in_scope node && is_leaf_named tree n node)
-    (λ node. ap (λ (l : Bool). not node.row.project && (l && (has_id (scopes_below node.projects) s && text_eq node.row.name n))) (is_leaf-counted tree node)
+    (λ node. ap (λ (l : Bool). not node.row.project && (l && (lists_number (scopes_below node.projects) s && text_eq node.row.name n))) (is_leaf-counted tree node)
     ∙ ap (λ (h : Bool). not node.row.project && (is_leaf tree node && (h && text_eq node.row.name n))) (scoped node)
     ∙ shuffled (not node.row.project) (is_leaf tree node) (in_scope node) (text_eq node.row.name n)) tree
     ∙ find_filter (is_leaf_named tree n) in_scope tree)
@@ -150,7 +151,7 @@ or_mapped : (a b : Option Entered) → option_or (option_map (λ node. node.id) 
 or_mapped None b = refl
 or_mapped (Some node) b = refl
 
-user_found : (tree : List Entered) (in_scope : Entered → Bool) (s : ℕ) (user : List ℕ) → ((node : Entered) → has_id (scopes_below node.projects) s ≡ in_scope node)
+user_found : (tree : List Entered) (in_scope : Entered → Bool) (s : ℕ) (user : List ℕ) → ((node : Entered) → lists_number (scopes_below node.projects) s ≡ in_scope node)
     → leaf_in (places_of tree) s user ≡ option_map (λ node. node.id) (user_leaf tree (filter in_scope tree) user)
 user_found tree in_scope s user scoped =
     ap (λ (o : Option ℕ). option_or o (at_leaf (places_of tree).leaves (s, codes "default"))) (leaf_found tree in_scope s user scoped)
@@ -161,13 +162,13 @@ something : (first : ℕ) (rest : List ℕ) → is_empty (first ∷ rest) ≡ fa
 something first rest = grind (arith, nat_tests)
 
 -- a node below no project stands outside of all, and nowhere else
-outside_of_all : (projects : List ℕ) → has_id (scopes_below projects) 0 ≡ is_empty projects
+outside_of_all : (projects : List ℕ) → lists_number (scopes_below projects) 0 ≡ is_empty projects
 outside_of_all [] = refl
 outside_of_all (project ∷ projects) = none (project ∷ projects) ∙ sym (something project projects)
   where
-    none : (ids : List ℕ) → has_id (map (λ id. suc id) ids) 0 ≡ false
+    none : (ids : List ℕ) → lists_number (map (λ id. suc id) ids) 0 ≡ false
     none [] = refl
-    none (id ∷ ids) = let other : (suc id == 0) ≡ false = grind (arith, nat_tests) in ap (λ (b : Bool). b || has_id (map (λ n. suc n) ids) 0) other ∙ none ids
+    none (id ∷ ids) = let other : (suc id == 0) ≡ false = grind (arith, nat_tests) in ap (λ (b : Bool). b || lists_number (map (λ n. suc n) ids) 0) other ∙ none ids
 
 next_same : (a b : ℕ) → (suc a == suc b) ≡ (a == b)
 next_same a b = by (a == b) same
@@ -176,14 +177,14 @@ next_same a b = by (a == b) same
     by true is = eq-eqb (suc a) (suc b) (ap suc (eqb-true a b is))
     by false is = grind (arith, nat_tests)
 
-below_project : (id : ℕ) (projects : List ℕ) → has_id (scopes_below projects) (suc id) ≡ has_id projects id
+below_project : (id : ℕ) (projects : List ℕ) → lists_number (scopes_below projects) (suc id) ≡ lists_number projects id
 below_project id [] = let other : (0 == suc id) ≡ false = grind (arith, nat_tests) in ap (λ (b : Bool). b || false) other
 below_project id (project ∷ projects) = each (project ∷ projects)
   where
-    each : (ids : List ℕ) → has_id (map (λ id. suc id) ids) (suc id) ≡ has_id ids id
+    each : (ids : List ℕ) → lists_number (map (λ id. suc id) ids) (suc id) ≡ lists_number ids id
     each [] = refl
     each (other ∷ ids) =
-        ap (λ (b : Bool). b || has_id (map (λ n. suc n) ids) (suc id)) (next_same other id) ∙ ap (λ (b : Bool). (other == id) || b) (each ids)
+        ap (λ (b : Bool). b || lists_number (map (λ n. suc n) ids) (suc id)) (next_same other id) ∙ ap (λ (b : Bool). (other == id) || b) (each ids)
 
 -- the node of a project is the first one of its name
 abbrev is_named : List ℕ → Entered → Bool
@@ -224,6 +225,6 @@ leaf_at-rule tree user project = ap (λ (o : Option ℕ). leaf_below (places_of 
     by : (o : Option Entered) → leaf_below (places_of tree) (option_map (λ node. node.id) o) user ≡ option_map (λ node. node.id) (leaf_under tree o user)
     by None = user_found tree (λ node. is_empty node.projects) 0 user (λ node. outside_of_all node.projects)
     by (Some node) =
-        ap (λ (o : Option ℕ). option_or o (if_childless (places_of tree) node.id)) (user_found tree (λ other. has_id other.projects node.id) (suc node.id) user (λ other. below_project node.id other.projects))
-        ∙ ap (λ (o : Option ℕ). option_or (option_map (λ (node : Entered). node.id) (user_leaf tree (filter (λ (other : Entered). has_id other.projects node.id) tree) user)) o) (childless tree node)
-        ∙ or_mapped (user_leaf tree (filter (λ other. has_id other.projects node.id) tree) user) (if_leaf tree node)
+        ap (λ (o : Option ℕ). option_or o (if_childless (places_of tree) node.id)) (user_found tree (λ other. lists_number other.projects node.id) (suc node.id) user (λ other. below_project node.id other.projects))
+        ∙ ap (λ (o : Option ℕ). option_or (option_map (λ (node : Entered). node.id) (user_leaf tree (filter (λ (other : Entered). lists_number other.projects node.id) tree) user)) o) (childless tree node)
+        ∙ or_mapped (user_leaf tree (filter (λ other. lists_number other.projects node.id) tree) user) (if_leaf tree node)

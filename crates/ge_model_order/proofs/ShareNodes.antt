@@ -7,9 +7,10 @@ use Rattle.std.specs.Cmp.{unsigned_ties}
 use Rattle.std.proofs.lemmas.Bool.{eq-eqb}
 use Rattle.ge_collections.specs.Keyed.{at_number, put_number}
 use Rattle.ge_model_value.specs.Pieces.{is_empty}
-use Rattle.ge_model_order.specs.ShareRule.{is_leaf, is_leaf_named, is_project_named, project_node, user_leaf, if_leaf, leaf_under, leaf_of, line_to, line_of}
+use Rattle.ge_model_order.specs.ShareRule.{is_leaf, is_leaf_named, is_project_named, project_node, user_leaf, if_leaf, leaf_under, leaf_of, line_to, node_line}
 use Rattle.ge_model_order.specs.ShareTables.{places_of, line_up, line_from, line_at}
-use Rattle.ge_model_order.specs.ShareTree.{Entered, has_id}
+use Rattle.ge_model_order.specs.ShareTree.{Entered}
+use Rattle.ge_model_value.specs.Pieces.{lists_number}
 use Rattle.ge_model_order.proofs.ShareTotals.{put_at}
 use Rattle.ge_model_order.proofs.ShareLeaves.{leaf_at-rule}
 
@@ -81,11 +82,11 @@ module _ (P : Entered → Type 0) where
       under : (found : Option Entered) → IfFound found → IfFound (leaf_under tree found user)
       under None here = among (λ node. is_empty node.projects)
       under (Some node) here =
-          either_found (user_leaf tree (filter (λ other. has_id other.projects node.id) tree) user) (if_leaf tree node)
-          (among (λ other. has_id other.projects node.id)) (itself node (is_leaf tree node) here)
+          either_found (user_leaf tree (filter (λ other. lists_number other.projects node.id) tree) user) (if_leaf tree node)
+          (among (λ other. lists_number other.projects node.id)) (itself node (is_leaf tree node) here)
 
 -- where something of a user and project counts by tables is where it counts by the rule
-pub line_at-rule : (tree : List Entered) (user project : List ℕ) → IsOnce tree → line_at (places_of tree) user project ≡ line_of tree user project
+pub line_at-rule : (tree : List Entered) (user project : List ℕ) → IsOnce tree → line_at (places_of tree) user project ≡ node_line tree user project
 line_at-rule tree user project once =
     ap (λ (leaf : Option ℕ). line_from (places_of tree) leaf) (leaf_at-rule tree user project)
     ∙ by (leaf_of tree user project) (leaf_has (λ node. at_number (places_of tree).nodes node.id ≡ Some node) tree user project (each_put (λ node. node) tree [] once))
@@ -95,7 +96,7 @@ line_at-rule tree user project once =
     by (Some node) here = ap (λ (found : Option Entered). line_up found) here
 
 -- and its nodes are different
-pub line_of-distinct : (tree : List Entered) (user project : List ℕ) → AllByRecursion (λ node. IsDistinct nat_eq (node.id ∷ node.above)) tree → IsDistinct nat_eq (line_of tree user project)
+pub line_of-distinct : (tree : List Entered) (user project : List ℕ) → AllByRecursion (λ node. IsDistinct nat_eq (node.id ∷ node.above)) tree → IsDistinct nat_eq (node_line tree user project)
 unfolding IsDistinct
 line_of-distinct tree user project lined = by (leaf_of tree user project) (leaf_has (λ node. IsDistinct nat_eq (node.id ∷ node.above)) tree user project lined)
   where

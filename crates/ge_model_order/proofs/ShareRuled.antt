@@ -12,10 +12,11 @@ use Rattle.ge_model_rows.specs.ClusterRows.{Cluster}
 use Rattle.ge_model_rows.specs.JobRows.{Job}
 use Rattle.ge_model_jobs.specs.Usage.{UsageKey, epoch_of, decayed}
 use Rattle.ge_model_order.specs.Amounts.{cut_total, cut_at_64, equal_part}
-use Rattle.ge_model_order.specs.Share.{with_charge, usage_by_node, with_job, jobs_by_node, leaf_tickets, job_share_tickets, share_tickets_of}
-use Rattle.ge_model_order.specs.ShareRule.{Charge, Weighed, charge_of, charges_of, charged_at, line_of, leaf_of, weighed_tree, node_tickets, jobs_at, share_tickets_at, leaf_tickets as leaf_tickets_by_rule, share_tickets_by_rule}
+use Rattle.ge_model_order.specs.Share.{with_charge, usage_by_node, with_job_counted, jobs_by_node, leaf_tickets, job_share_tickets, share_tickets_of}
+use Rattle.ge_model_order.specs.ShareRule.{Charge, Weighed, charge_of, charges_of, charged_at, node_line, leaf_of, weighed_tree, node_tickets, jobs_at, share_tickets_at, leaf_tickets as leaf_tickets_by_rule, share_tickets_by_rule}
 use Rattle.ge_model_order.specs.ShareTables.{amount_at, raised_along, places_of}
-use Rattle.ge_model_order.specs.ShareTree.{Entered, has_id, tree_of}
+use Rattle.ge_model_order.specs.ShareTree.{Entered, tree_of}
+use Rattle.ge_model_value.specs.Pieces.{lists_number}
 use Rattle.ge_model_order.specs.Tickets.{jobs_of}
 use Rattle.ge_model_order.proofs.ShareDivided.{tickets_by_node-rule, jobs_at-rule}
 use Rattle.ge_model_order.proofs.ShareLeaves.{leaf_at-rule}
@@ -32,7 +33,7 @@ charges_put : (c : Cluster) (now : ℕ) (tree : List Entered) → IsOnce tree �
 charges_put c now tree once [] amounts = refl
 charges_put c now tree once (row ∷ rows) amounts =
     ap (λ (line : List ℕ). fold (with_charge (epoch_of now c.sched.halftime) (places_of tree)) (raised_along amounts line (decayed row.1 row.0.2 (epoch_of now c.sched.halftime))) rows) (line_at-rule tree row.0.0 row.0.1 once)
-    ∙ charges_put c now tree once rows (raised_along amounts (line_of tree row.0.0 row.0.1) (decayed row.1 row.0.2 (epoch_of now c.sched.halftime)))
+    ∙ charges_put c now tree once rows (raised_along amounts (node_line tree row.0.0 row.0.1) (decayed row.1 row.0.2 (epoch_of now c.sched.halftime)))
 
 charges_apart : (c : Cluster) (now : ℕ) (tree : List Entered) → AreLined tree → (rows : List (UsageKey × ℕ)) → AllByRecursion (λ charge. IsDistinct nat_eq charge.nodes) (map (charge_of c now tree) rows)
 charges_apart c now tree lined [] = tt
@@ -48,13 +49,13 @@ abbrev one_at : List ℕ → Charge
 one_at line = record { nodes = line; amount = 1 }
 
 abbrev line_of_job : List Entered → Job → List ℕ
-line_of_job tree job = line_of tree job.owner job.project
+line_of_job tree job = node_line tree job.owner job.project
 
-jobs_put : (tree : List Entered) → IsOnce tree → (jobs : List Job) (amounts : List (ℕ × ℕ)) → fold (with_job (places_of tree)) amounts jobs ≡ put_along amounts (map one_at (map (line_of_job tree) jobs))
+jobs_put : (tree : List Entered) → IsOnce tree → (jobs : List Job) (amounts : List (ℕ × ℕ)) → fold (with_job_counted (places_of tree)) amounts jobs ≡ put_along amounts (map one_at (map (line_of_job tree) jobs))
 jobs_put tree once [] amounts = refl
 jobs_put tree once (job ∷ jobs) amounts =
-    ap (λ (line : List ℕ). fold (with_job (places_of tree)) (raised_along amounts line 1) jobs) (line_at-rule tree job.owner job.project once)
-    ∙ jobs_put tree once jobs (raised_along amounts (line_of tree job.owner job.project) 1)
+    ap (λ (line : List ℕ). fold (with_job_counted (places_of tree)) (raised_along amounts line 1) jobs) (line_at-rule tree job.owner job.project once)
+    ∙ jobs_put tree once jobs (raised_along amounts (node_line tree job.owner job.project) 1)
 
 jobs_apart : (tree : List Entered) → AreLined tree → (jobs : List Job) → AllByRecursion (λ charge. IsDistinct nat_eq charge.nodes) (map one_at (map (line_of_job tree) jobs))
 jobs_apart tree lined [] = tt
@@ -62,13 +63,13 @@ jobs_apart tree lined (job ∷ jobs) = (line_of-distinct tree job.owner job.proj
 
 -- a count that isn't cut is how many there are
 counted : (q : ℕ) (lines : List (List ℕ)) (n : ℕ) → n + length lines ≤ 2 ^ 128 - 1
-    → fold (λ total charge. cut_sum total (charged_at q charge)) n (map one_at lines) ≡ n + count_by (λ line. has_id line q) lines
+    → fold (λ total charge. cut_sum total (charged_at q charge)) n (map one_at lines) ≡ n + count_by (λ line. lists_number line q) lines
 counted q [] n fits = omega arith
 counted q (line ∷ lines) n fits =
-    by (has_id line q) (counted q lines) ∙ sym (ap (λ (m : ℕ). n + m) (sum_by-cons (λ other. cond (has_id other q) 1 0) line lines))
+    by (lists_number line q) (counted q lines) ∙ sym (ap (λ (m : ℕ). n + m) (sum_by-cons (λ other. cond (lists_number other q) 1 0) line lines))
   where
-    by : (b : Bool) → ((m : ℕ) → m + length lines ≤ 2 ^ 128 - 1 → fold (λ total charge. cut_sum total (charged_at q charge)) m (map one_at lines) ≡ m + count_by (λ other. has_id other q) lines)
-        → fold (λ total charge. cut_sum total (charged_at q charge)) (cut_sum n (cond b 1 0)) (map one_at lines) ≡ n + (cond b 1 0 + count_by (λ other. has_id other q) lines)
+    by : (b : Bool) → ((m : ℕ) → m + length lines ≤ 2 ^ 128 - 1 → fold (λ total charge. cut_sum total (charged_at q charge)) m (map one_at lines) ≡ m + count_by (λ other. lists_number other q) lines)
+        → fold (λ total charge. cut_sum total (charged_at q charge)) (cut_sum n (cond b 1 0)) (map one_at lines) ≡ n + (cond b 1 0 + count_by (λ other. lists_number other q) lines)
     by true later =
         let whole : cut_sum n 1 ≡ n + 1 = omega arith in
         let rest = later (n + 1) (omega arith) in
@@ -89,7 +90,7 @@ fewer_jobs c (number ∷ numbers) = by (at_number c.jobs number) (fewer_jobs c n
 
 -- the count of jobs of each node by tables is that of the rule
 pub jobs_by_node-rule : (tree : List Entered) → IsOnce tree → AreLined tree → (jobs : List Job) → length jobs ≤ 2 ^ 128 - 1
-    → (q : ℕ) → amount_at (jobs_by_node (places_of tree) jobs) q ≡ count_by (λ line. has_id line q) (map (line_of_job tree) jobs)
+    → (q : ℕ) → amount_at (jobs_by_node (places_of tree) jobs) q ≡ count_by (λ line. lists_number line q) (map (line_of_job tree) jobs)
 jobs_by_node-rule tree once lined jobs fits q =
     let same_length = length-map jobs (line_of_job tree) in
     ap (λ (amounts : List (ℕ × ℕ)). amount_at amounts q) (jobs_put tree once jobs [])

@@ -17,7 +17,7 @@ use Rattle.ge_collections.specs.Keyed.{at_number, put_number}
 use Rattle.ge_model_order.specs.Amounts.{cut_total}
 use Rattle.ge_model_order.specs.ShareRule.{is_first, is_child_of, is_leaf}
 use Rattle.ge_model_order.specs.ShareTree.{Entered}
-use Rattle.ge_model_order.specs.ShareTables.{amount_at, raised, with_part, children_sums, child_counts}
+use Rattle.ge_model_order.specs.ShareTables.{amount_at, raised_amount, with_part, children_sums, child_counts}
 
 pub equal : (o : Ordering) → is_eq o ≡ true → o ≡ Equal
 equal Less e = absurd (true≢false (sym e))
@@ -63,7 +63,7 @@ pub none_cut : AreCut []
 none_cut q = omega arith
 
 -- what is put at an id is added there, and nowhere else
-pub raised_at : (rows : List (ℕ × ℕ)) (id q amount : ℕ) → AreCut rows → amount_at (raised amount rows id) q ≡ cut_sum (amount_at rows q) (cond (is_eq (nat_cmp id q)) amount 0)
+pub raised_at : (rows : List (ℕ × ℕ)) (id q amount : ℕ) → AreCut rows → amount_at (raised_amount amount rows id) q ≡ cut_sum (amount_at rows q) (cond (is_eq (nat_cmp id q)) amount 0)
 raised_at rows id q amount cut = ap (λ (o : Option ℕ). unwrap_or o 0) (put_at rows id q (cut_sum (amount_at rows id) amount)) ∙ by (is_eq (nat_cmp q id)) same (is_eq (nat_cmp id q)) same
   where
     by : (b : Bool) → is_eq (nat_cmp q id) ≡ b → (d : Bool) → is_eq (nat_cmp id q) ≡ d → unwrap_or (cond b (Some (cut_sum (amount_at rows id) amount)) (at_number rows q)) 0 ≡ cut_sum (amount_at rows q) (cond d amount 0)
@@ -72,7 +72,7 @@ raised_at rows id q amount cut = ap (λ (o : Option ℕ). unwrap_or o 0) (put_at
     by false at true there = absurd (true≢false (sym (ap (λ (n : ℕ). is_eq (nat_cmp n id)) (sym (exact_unsigned id q (equal (nat_cmp id q) there))) ∙ ap (λ (n : ℕ). is_eq (nat_cmp id n)) (exact_unsigned id q (equal (nat_cmp id q) there)) ∙ there) ∙ at))
     by false at false there = let least = cut q in omega arith
 
-pub raised_cut : (rows : List (ℕ × ℕ)) (id amount : ℕ) → AreCut rows → AreCut (raised amount rows id)
+pub raised_cut : (rows : List (ℕ × ℕ)) (id amount : ℕ) → AreCut rows → AreCut (raised_amount amount rows id)
 raised_cut rows id amount cut q = let is = raised_at rows id q amount cut in omega arith
 
 -- the sums of the children of each node are what every child would sum itself

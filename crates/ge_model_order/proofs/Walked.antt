@@ -9,7 +9,7 @@ use Rattle.ge_collections.specs.Keyed.{at_number}
 use Rattle.ge_model_rows.specs.ClusterRows.{Cluster}
 use Rattle.ge_model_rows.specs.PeopleRows.{ShareNode}
 use Rattle.ge_model_order.specs.ShareRule.{row_unless_entered, walked_by_rule, tree_by_rule}
-use Rattle.ge_model_order.specs.ShareTree.{Entered, Walk, with_entered, nothing_walked, most_levels, root_id, entered, row_to_enter, projects_below, walked, tree_of}
+use Rattle.ge_model_order.specs.ShareTree.{Entered, NodeWalk, with_entered, nothing_walked, most_levels, root_id, entered, row_to_enter, projects_below, walked, tree_of}
 use Rattle.ge_model_order.proofs.ShareTotals.{put_at}
 
 abbrev ids : List Entered → List ℕ
@@ -147,7 +147,7 @@ unfolding tree_by_rule IsDistinct
 tree_by_rule-lined c = walked_lined most_levels c.shares [] [] [] root_id tt tt tt
 
 -- what the walk has by id is what it entered
-abbrev IsKept : Walk → Type 0
+abbrev IsKept : NodeWalk → Type 0
 IsKept walk = (q : ℕ) → is_some (at_number walk.by_id q) ≡ list_any (λ node. node.id == q) walk.order
 
 any_at_end : (q : ℕ) (nodes : List Entered) (node : Entered) → list_any (λ other. other.id == q) (nodes ++ node ∷ []) ≡ (node.id == q || list_any (λ other. other.id == q) nodes)
@@ -159,7 +159,7 @@ any_at_end q (first ∷ nodes) node = ap (λ (b : Bool). first.id == q || b) (an
     by true false = refl
     by false b = refl
 
-kept_with : (walk : Walk) (node : Entered) → IsKept walk → IsKept (with_entered walk node)
+kept_with : (walk : NodeWalk) (node : Entered) → IsKept walk → IsKept (with_entered walk node)
 kept_with walk node kept q =
     ap (λ (found : Option Entered). is_some found) (put_at walk.by_id node.id q node)
     ∙ ap (λ (b : Bool). is_some (cond b (Some node) (at_number walk.by_id q))) (sym (unsigned_ties q node.id) ∙ nat_eq_equiv.symm q node.id)
@@ -172,35 +172,35 @@ kept_with walk node kept q =
     by false = refl
 
 -- a walk by id entered the nodes of the rule's walk
-abbrev IsSame : Walk → List Entered → Type 0
+abbrev IsSame : NodeWalk → List Entered → Type 0
 IsSame walk nodes = (walk.order ≡ nodes) × IsKept walk
 
-same_folded : (step : Walk → ℕ → Walk) (by_rule : List Entered → ℕ → List Entered) → ((walk : Walk) (child : ℕ) → IsKept walk → IsSame (step walk child) (by_rule walk.order child))
-    → (children : List ℕ) (walk : Walk) → IsKept walk → IsSame (fold step walk children) (fold by_rule walk.order children)
+same_folded : (step : NodeWalk → ℕ → NodeWalk) (by_rule : List Entered → ℕ → List Entered) → ((walk : NodeWalk) (child : ℕ) → IsKept walk → IsSame (step walk child) (by_rule walk.order child))
+    → (children : List ℕ) (walk : NodeWalk) → IsKept walk → IsSame (fold step walk children) (fold by_rule walk.order children)
 same_folded step by_rule each [] walk kept = (refl, kept)
 same_folded step by_rule each (child ∷ children) walk kept =
     let here = each walk child kept in
     let later = same_folded step by_rule each children (step walk child) here.1 in
     (later.0 ∙ ap (λ (nodes : List Entered). fold by_rule nodes children) here.0, later.1)
 
-same_on_row : (rows : List (ℕ × ShareNode)) (walk : Walk) (id : ℕ) (more : ShareNode → Walk) (by_rule : ShareNode → List Entered) → IsKept walk
+same_on_row : (rows : List (ℕ × ShareNode)) (walk : NodeWalk) (id : ℕ) (more : ShareNode → NodeWalk) (by_rule : ShareNode → List Entered) → IsKept walk
     → ((row : ShareNode) → IsSame (more row) (by_rule row))
-    → IsSame (elim (row_to_enter rows walk id) as (λ o. Walk) [ None ↦ walk | Some row ↦ more row ])
+    → IsSame (elim (row_to_enter rows walk id) as (λ o. NodeWalk) [ None ↦ walk | Some row ↦ more row ])
     (elim (row_unless_entered rows walk.order id) as (λ o. List Entered) [ None ↦ walk.order | Some row ↦ by_rule row ])
 same_on_row rows walk id more by_rule kept each = by (is_some (at_number walk.by_id id)) (list_any (λ node. node.id == id) walk.order) (kept id)
   where
-    found : (o : Option ShareNode) → IsSame (elim o as (λ o. Walk) [ None ↦ walk | Some row ↦ more row ]) (elim o as (λ o. List Entered) [ None ↦ walk.order | Some row ↦ by_rule row ])
+    found : (o : Option ShareNode) → IsSame (elim o as (λ o. NodeWalk) [ None ↦ walk | Some row ↦ more row ]) (elim o as (λ o. List Entered) [ None ↦ walk.order | Some row ↦ by_rule row ])
     found None = (refl, kept)
     found (Some row) = each row
 
-    by : (a b : Bool) → a ≡ b → IsSame (elim (if a then None else at_number rows id) as (λ o. Walk) [ None ↦ walk | Some row ↦ more row ])
+    by : (a b : Bool) → a ≡ b → IsSame (elim (if a then None else at_number rows id) as (λ o. NodeWalk) [ None ↦ walk | Some row ↦ more row ])
         (elim (if b then None else at_number rows id) as (λ o. List Entered) [ None ↦ walk.order | Some row ↦ by_rule row ])
     by true true is = (refl, kept)
     by true false is = absurd (true≢false is)
     by false true is = absurd (false≢true is)
     by false false is = found (at_number rows id)
 
-walked_same : (levels : ℕ) (rows : List (ℕ × ShareNode)) (above projects : List ℕ) (walk : Walk) (id : ℕ) → IsKept walk
+walked_same : (levels : ℕ) (rows : List (ℕ × ShareNode)) (above projects : List ℕ) (walk : NodeWalk) (id : ℕ) → IsKept walk
     → IsSame (walked levels rows above projects walk id) (walked_by_rule levels rows above projects walk.order id)
 walked_same zero rows above projects walk id kept =
     same_on_row rows walk id (λ row. with_entered walk (entered id row above projects)) (λ row. walk.order ++ entered id row above projects ∷ []) kept

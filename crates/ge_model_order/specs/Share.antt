@@ -21,11 +21,11 @@ abbrev pub usage_by_node : Cluster → ℕ → Places → List (ℕ × ℕ)
 usage_by_node c now places = fold (with_charge (epoch_of now c.sched.halftime) places) [] c.usage
 
 -- how many of these jobs are at each node or below it
-abbrev pub with_job : Places → List (ℕ × ℕ) → Job → List (ℕ × ℕ)
-with_job places amounts job = raised_along amounts (line_at places job.owner job.project) 1
+abbrev pub with_job_counted : Places → List (ℕ × ℕ) → Job → List (ℕ × ℕ)
+with_job_counted places amounts job = raised_along amounts (line_at places job.owner job.project) 1
 
 abbrev pub jobs_by_node : Places → List Job → List (ℕ × ℕ)
-jobs_by_node places jobs = fold (with_job places) [] jobs
+jobs_by_node places jobs = fold (with_job_counted places) [] jobs
 
 -- how a child is weighed: its shares, divided by its part of the usage of all children of its parent, with one hundredth added
 abbrev pub weight : ℕ → ℕ → ℕ → ℕ

@@ -12,7 +12,8 @@ use Rattle.ge_model_rows.specs.ValueRows.{million}
 use Rattle.ge_model_value.specs.Pieces.{is_empty}
 use Rattle.ge_model_jobs.specs.Usage.{epoch_of, decayed}
 use Rattle.ge_model_order.specs.Amounts.{cut_total, cut_at_64, portion, equal_part}
-use Rattle.ge_model_order.specs.ShareTree.{Entered, has_id, root_id, most_levels, projects_below, entered}
+use Rattle.ge_model_order.specs.ShareTree.{Entered, root_id, most_levels, projects_below, entered}
+use Rattle.ge_model_value.specs.Pieces.{lists_number}
 use Rattle.ge_model_order.specs.Tickets.{jobs_of}
 
 -- the row of a node that may be entered: it is there, and is none of those that the walk entered
@@ -68,7 +69,7 @@ if_leaf tree node = if is_leaf tree node then Some node else None
 -- the leaf of a user and project: below the project's node, or that node where it is a leaf; without such a node outside of all projects
 abbrev pub leaf_under : List Entered → Option Entered → List ℕ → Option Entered
 leaf_under tree None user = user_leaf tree (filter (λ node. is_empty node.projects) tree) user
-leaf_under tree (Some project) user = option_or (user_leaf tree (filter (λ node. has_id node.projects project.id) tree) user) (if_leaf tree project)
+leaf_under tree (Some project) user = option_or (user_leaf tree (filter (λ node. lists_number node.projects project.id) tree) user) (if_leaf tree project)
 
 abbrev pub leaf_of : List Entered → List ℕ → List ℕ → Option Entered
 leaf_of tree user project = leaf_under tree (project_node tree project) user
@@ -78,8 +79,8 @@ abbrev pub line_to : Option Entered → List ℕ
 line_to None = []
 line_to (Some leaf) = leaf.id ∷ leaf.above
 
-abbrev pub line_of : List Entered → List ℕ → List ℕ → List ℕ
-line_of tree user project = line_to (leaf_of tree user project)
+abbrev pub node_line : List Entered → List ℕ → List ℕ → List ℕ
+node_line tree user project = line_to (leaf_of tree user project)
 
 -- an amount of usage now, and where it counts
 pub record Charge : Type 0 where
@@ -87,14 +88,14 @@ pub record Charge : Type 0 where
   pub amount : ℕ
 
 abbrev pub charge_of : Cluster → ℕ → List Entered → (List ℕ × List ℕ × ℕ) × ℕ → Charge
-charge_of c now tree row = record { nodes = line_of tree row.0.0 row.0.1; amount = decayed row.1 row.0.2 (epoch_of now c.sched.halftime) }
+charge_of c now tree row = record { nodes = node_line tree row.0.0 row.0.1; amount = decayed row.1 row.0.2 (epoch_of now c.sched.halftime) }
 
 abbrev pub charges_of : Cluster → ℕ → List Entered → List Charge
 charges_of c now tree = map (charge_of c now tree) c.usage
 
 -- what one charge adds to a node
 abbrev pub charged_at : ℕ → Charge → ℕ
-charged_at id charge = if has_id charge.nodes id then charge.amount else 0
+charged_at id charge = if lists_number charge.nodes id then charge.amount else 0
 
 -- a node with its usage and the number of jobs at it or below
 pub record Weighed : Type 0 where
@@ -103,26 +104,26 @@ pub record Weighed : Type 0 where
   pub jobs : ℕ
 
 abbrev pub weighed : List Charge → List (List ℕ) → Entered → Weighed
-weighed charges lines node = record { node = node; usage = cut_total (charged_at node.id) charges; jobs = count_by (λ line. has_id line node.id) lines }
+weighed charges lines node = record { node = node; usage = cut_total (charged_at node.id) charges; jobs = count_by (λ line. lists_number line node.id) lines }
 
 -- the nodes of a tree, with the usage at a moment and these jobs
 abbrev pub weighed_tree : Cluster → List Job → ℕ → List Entered → List Weighed
 weighed_tree c jobs now tree =
     let charges = charges_of c now tree in
-    let lines = map (λ job. line_of tree job.owner job.project) jobs in
+    let lines = map (λ job. node_line tree job.owner job.project) jobs in
     map (weighed charges lines) tree
 
-abbrev pub children_of : List Weighed → ℕ → List Weighed
-children_of nodes id = filter (λ child. is_child_of id child.node) nodes
+abbrev pub weighed_children : List Weighed → ℕ → List Weighed
+weighed_children nodes id = filter (λ child. is_child_of id child.node) nodes
 
 -- how a child is weighed: its shares, divided by its part of the usage of all children, with one hundredth added
-abbrev pub weight_of : ℕ → Weighed → ℕ
-weight_of usage child =
+abbrev pub weight_of_child : ℕ → Weighed → ℕ
+weight_of_child usage child =
     cut_product child.node.row.shares (10 ^ 12) / cut_sum (10 ^ 4) (cut_product child.usage million / max 1 usage)
 
 -- the weight of a child where a job lies below it, else 0
 abbrev pub weight_with_jobs : ℕ → Weighed → ℕ
-weight_with_jobs usage child = if child.jobs == 0 then 0 else weight_of usage child
+weight_with_jobs usage child = if child.jobs == 0 then 0 else weight_of_child usage child
 
 -- what a child has of the tickets of its parent, whose children these are
 abbrev pub part_of_child : ℕ → List Weighed → Weighed → ℕ
@@ -133,7 +134,7 @@ part_of_child tickets children child =
 -- the tickets of a node where those of the nodes before it are known
 abbrev pub tickets_below : Cluster → List Weighed → List (ℕ × ℕ) → Weighed → List ℕ → ℕ
 tickets_below c nodes known node [] = c.sched.share
-tickets_below c nodes known node (parent ∷ above) = part_of_child (unwrap_or (at_number known parent) 0) (children_of nodes parent) node
+tickets_below c nodes known node (parent ∷ above) = part_of_child (unwrap_or (at_number known parent) 0) (weighed_children nodes parent) node
 
 abbrev pub with_tickets : Cluster → List Weighed → List (ℕ × ℕ) → Weighed → List (ℕ × ℕ)
 with_tickets c nodes known node = put_number known node.node.id (tickets_below c nodes known node node.node.above)

@@ -15,17 +15,17 @@ abbrev pub amount_at : List (ℕ × ℕ) → ℕ → ℕ
 amount_at amounts id = unwrap_or (at_number amounts id) 0
 
 -- an amount more at a node
-abbrev pub raised : ℕ → List (ℕ × ℕ) → ℕ → List (ℕ × ℕ)
-raised amount amounts id = put_number amounts id (cut_sum (amount_at amounts id) amount)
+abbrev pub raised_amount : ℕ → List (ℕ × ℕ) → ℕ → List (ℕ × ℕ)
+raised_amount amount amounts id = put_number amounts id (cut_sum (amount_at amounts id) amount)
 
 -- an amount more at each of these nodes
 abbrev pub raised_along : List (ℕ × ℕ) → List ℕ → ℕ → List (ℕ × ℕ)
-raised_along amounts ids amount = fold (raised amount) amounts ids
+raised_along amounts ids amount = fold (raised_amount amount) amounts ids
 
 -- what a node has of something, more at its parent
 abbrev pub with_part : (Entered → ℕ) → List (ℕ × ℕ) → Entered → List ℕ → List (ℕ × ℕ)
 with_part part sums node [] = sums
-with_part part sums node (parent ∷ above) = raised (part node) sums parent
+with_part part sums node (parent ∷ above) = raised_amount (part node) sums parent
 
 -- at each node what its children have of something, added up
 abbrev pub children_sums : (Entered → ℕ) → List Entered → List (ℕ × ℕ)

@@ -14,7 +14,7 @@ use Rattle.ge_model_bookings.specs.Bookings.{peak}
 use Rattle.ge_model_place.specs.Limits.{capacity_of, counted_at, demands_of}
 use Rattle.ge_model_place.specs.Opening.{is_open}
 use Rattle.ge_model_place.specs.Placement.{Cell, room_of, cell_of, slot_asks, cell_asks, asked_so_far, slots_given, spread, grant_of, granted, placed_with, placed_by, placement_of, job_placement, has_room, have_room, are_open, are_admissible}
-use Rattle.ge_model_place.specs.Windows.{end_from, is_in_time}
+use Rattle.ge_model_place.specs.Windows.{window_end_from, is_in_time}
 use Rattle.ge_model_place.proofs.Once.{Each}
 use Rattle.ge_model_place.proofs.Demanded.{IsBelow, demands_below, grant_counts, grants_count}
 use Rattle.ge_model_place.proofs.Taken.{together}
@@ -80,12 +80,12 @@ module _ (c : Cluster) (groups : Groups) (job : Job) (bookings : List Booking) (
   unfolding are_admissible
   sound_is_admissible cells sound in_time =
       let ds = demands_of c groups job (filter_map grant_of cells) in
-      and_from (is_in_time c job from && are_open c groups job (filter_map grant_of cells)) (have_room c groups bookings from (end_from c job from) ds)
+      and_from (is_in_time c job from && are_open c groups job (filter_map grant_of cells)) (have_room c groups bookings from (window_end_from c job from) ds)
       (and_from (is_in_time c job from) (are_open c groups job (filter_map grant_of cells)) in_time (opened_all cells sound.whole sound.opened))
-      (elim (cases_Bool (nat_le (end_from c job from) from)) [
-        | inl empty ↦ or_left (nat_le (end_from c job from) from) (list_all (has_room c groups bookings from (end_from c job from)) ds) empty
-        | inr ever ↦ or_right (nat_le (end_from c job from) from) (list_all (has_room c groups bookings from (end_from c job from)) ds)
-            (rooms_for (leb-false (end_from c job from) from ever) cells sound ds (demands_below c groups job (filter_map grant_of cells)))
+      (elim (cases_Bool (nat_le (window_end_from c job from) from)) [
+        | inl empty ↦ or_left (nat_le (window_end_from c job from) from) (list_all (has_room c groups bookings from (window_end_from c job from)) ds) empty
+        | inr ever ↦ or_right (nat_le (window_end_from c job from) from) (list_all (has_room c groups bookings from (window_end_from c job from)) ds)
+            (rooms_for (leb-false (window_end_from c job from) from ever) cells sound ds (demands_below c groups job (filter_map grant_of cells)))
       ])
 
   granted_is : (low : ℕ) (cells : List Cell) (grants : List Grant) → granted low cells ≡ Some grants → grants ≡ filter_map grant_of cells
@@ -123,7 +123,7 @@ module _ (c : Cluster) (groups : Groups) (job : Job) (bookings : List Booking) (
   none_in_time order (Some grants) e late =
       let admissible = job_placed_admissible order grants e in
       let ds = demands_of c groups job grants in
-      let may = and_parts (is_in_time c job from && are_open c groups job grants) (have_room c groups bookings from (end_from c job from) ds) admissible in
+      let may = and_parts (is_in_time c job from && are_open c groups job grants) (have_room c groups bookings from (window_end_from c job from) ds) admissible in
       absurd (true≢false (sym (and_parts (is_in_time c job from) (are_open c groups job grants) may.0).0 ∙ late))
 
   -- a job has no placement before the reservation that it is sent into, nor after it

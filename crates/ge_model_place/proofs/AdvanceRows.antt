@@ -12,7 +12,7 @@ use Rattle.ge_model_value.specs.Complexes.{opening}
 use Rattle.ge_model_place.specs.Advances.{stand_in, advance_grants}
 use Rattle.ge_model_place.specs.Limits.{capacity_of}
 use Rattle.ge_model_place.specs.Running.{run_of}
-use Rattle.ge_model_place.specs.Windows.{end_from, base_bookings}
+use Rattle.ge_model_place.specs.Windows.{window_end_from, base_bookings}
 use Rattle.ge_model_place.proofs.Site.{runs, local, lasting, job, reserving, task, at, start, running, pe}
 
 -- a reservation of ann for what is asked, from a moment until before another
@@ -112,7 +112,7 @@ unfolding reserved runs
 slots_granted = refl
 
 -- windows end with the reservation, and no later than they would
-ends_with_it : map (λ j. end_from (reserved 1 []) j 110) (d.1 ∷ lasting 10 d.1 ∷ lasting 10 (job 5 (codes "ann")) ∷ job 6 (codes "ann") ∷ sent_into 2 (job 7 (codes "ann")) ∷ []) ≡ 150 ∷ 120 ∷ 120 ∷ forever ∷ forever ∷ []
+ends_with_it : map (λ j. window_end_from (reserved 1 []) j 110) (d.1 ∷ lasting 10 d.1 ∷ lasting 10 (job 5 (codes "ann")) ∷ job 6 (codes "ann") ∷ sent_into 2 (job 7 (codes "ann")) ∷ []) ≡ 150 ∷ 120 ∷ 120 ∷ forever ∷ forever ∷ []
 unfolding reserved d runs
 ends_with_it = refl
 

@@ -11,8 +11,8 @@ use Rattle.ge_model_rows.specs.ScheduleRows.{LimitId, Booking}
 use Rattle.ge_model_bookings.specs.Bookings.{peak}
 use Rattle.ge_model_place.specs.Limits.{Counted, greatest_demand, counted_at, demands_of}
 use Rattle.ge_model_place.specs.Opening.{is_open}
-use Rattle.ge_model_place.specs.Placement.{Cell, room_of, slot_asks, asked_so_far, asked_with_one, fits_one_more, takes_one_more, with_slot, one_more, grant_of, are_open, have_room, are_admissible}
-use Rattle.ge_model_place.specs.Windows.{end_from, is_in_time}
+use Rattle.ge_model_place.specs.Placement.{Cell, room_of, slot_asks, asked_so_far, asked_with_one, fits_one_more, takes_one_more, with_slot, next_slot, grant_of, are_open, have_room, are_admissible}
+use Rattle.ge_model_place.specs.Windows.{window_end_from, is_in_time}
 use Rattle.ge_model_place.specs.Choosing.{grants_in, one_slot_more, chosen_from, chosen}
 use Rattle.ge_model_place.proofs.Admitted.{sound_is_admissible}
 use Rattle.ge_model_place.proofs.Exact.{admissible_keeps}
@@ -85,7 +85,7 @@ module _ (c : Cluster) (groups : Groups) (job : Job) (bookings : List Booking) (
 
   opened_of : (grants : List Grant) → are_admissible c groups job bookings from grants ≡ true → (is_in_time c job from ≡ true) × (are_open c groups job grants ≡ true)
   unfolding are_admissible
-  opened_of grants e = and_parts (is_in_time c job from) (are_open c groups job grants) (and_parts (is_in_time c job from && are_open c groups job grants) (have_room c groups bookings from (end_from c job from) (demands_of c groups job grants)) e).0
+  opened_of grants e = and_parts (is_in_time c job from) (are_open c groups job grants) (and_parts (is_in_time c job from && are_open c groups job grants) (have_room c groups bookings from (window_end_from c job from) (demands_of c groups job grants)) e).0
 
   -- admissible grants with one more slot at a cell: it takes the slot
   admissible_takes : (before : List Cell) (cell : Cell) (behind : List Cell) → IsSound c groups job bookings from (before ++ cell ∷ behind)
@@ -159,5 +159,5 @@ module _ (c : Cluster) (groups : Groups) (job : Job) (bookings : List Booking) (
       ]
 
   -- the slot that is chosen is the one that is given
-  pub chosen_is_one_more : (here : InstanceId → Bool) (cells : List Cell) → IsSound c groups job bookings from cells → chosen c groups job bookings from here (tally cells) ≡ option_map tally (one_more here cells)
+  pub chosen_is_one_more : (here : InstanceId → Bool) (cells : List Cell) → IsSound c groups job bookings from cells → chosen c groups job bookings from here (tally cells) ≡ option_map tally (next_slot here cells)
   chosen_is_one_more here cells sound = chosen_is here [] cells sound

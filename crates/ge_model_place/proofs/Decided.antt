@@ -14,7 +14,8 @@ use Rattle.ge_model_rows.specs.ScheduleRows.{Booking}
 use Rattle.ge_model_rows.specs.TaskRows.{TaskId}
 use Rattle.ge_model_place.specs.InstanceOrder.{instance_order}
 use Rattle.ge_model_place.specs.Windows.{base_bookings}
-use Rattle.ge_model_place.specs.Running.{last_serial, serial_after, is_held_back, may_reserve, booked_by, reserve_at, placed_at, first_moment, reserve_from, later_decision, decision_with, decision_of, decide, decided, run_of}
+use Rattle.ge_model_place.specs.Running.{serial_after, is_held_back, may_reserve, booked_by, reserve_at, placed_at, first_moment, reserve_from, later_decision, decision_with, decision_of, decide, decided, run_of}
+use Rattle.ge_limits.specs.Limits.{last_serial}
 use Rattle.ge_model_place.specs.Runs.{bookings_after, placed_after, MustWait, IsDecided, IsRunAfter, IsRun}
 use Rattle.ge_model_place.proofs.Earliest.{earliest_does, none_sooner, none_passes}
 

@@ -12,8 +12,8 @@ use Rattle.ge_model_rows.specs.ScheduleRows.{LimitId, Booking}
 use Rattle.ge_model_bookings.specs.Bookings.{peak}
 use Rattle.ge_model_place.specs.Limits.{Counted, greatest_demand, capacity_of, counted_at}
 use Rattle.ge_model_place.specs.Opening.{is_open}
-use Rattle.ge_model_place.specs.Placement.{Cell, room_of, rooms_in, cell_of, slot_asks, cell_asks, asked_so_far, asked_with_one, fits_one_more, takes_one_more, one_more, filled, everywhere, is_on, slots_given, hosts_in, fuller, with_block, with_turn, with_round, with_rounds, spread}
-use Rattle.ge_model_place.specs.Windows.{end_from, is_in_time}
+use Rattle.ge_model_place.specs.Placement.{Cell, room_of, rooms_in, cell_of, slot_asks, cell_asks, asked_so_far, asked_with_one, fits_one_more, takes_one_more, next_slot, filled, everywhere, is_on, slots_given, hosts_in, fuller, with_block, with_turn, with_round, with_rounds, spread}
+use Rattle.ge_model_place.specs.Windows.{window_end_from, is_in_time}
 use Rattle.ge_model_place.proofs.Once.{Each, each_of_both, asks, asks_once}
 use Rattle.ge_model_place.proofs.Taken.{Takes, with_one, IsCounted, counted_at_apart, counted_at_each, together, together_none, asked_with_one_is, one_more_takes}
 
@@ -44,7 +44,7 @@ asked_more before cell behind limit =
 
 module _ (c : Cluster) (groups : Groups) (job : Job) (bookings : List Booking) (from : ℕ) where
   abbrev pub until : ℕ
-  until = end_from c job from
+  until = window_end_from c job from
 
   -- a cell of the placement, with any slots
   pub record IsCell (cell : Cell) : Type 0 where
@@ -121,7 +121,7 @@ module _ (c : Cluster) (groups : Groups) (job : Job) (bookings : List Booking) (
   more_sound cells more sound t =
       subst IsSound (sym t.is) (takes_sound t.before t.cell t.behind (subst IsSound t.was sound) (subst (λ xs. takes_one_more xs t.cell ≡ true) t.was t.takes))
 
-  pub one_more_sound : (here : InstanceId → Bool) (cells more : List Cell) → IsSound cells → one_more here cells ≡ Some more → IsSound more
+  pub one_more_sound : (here : InstanceId → Bool) (cells more : List Cell) → IsSound cells → next_slot here cells ≡ Some more → IsSound more
   one_more_sound here cells more sound e = more_sound cells more sound (one_more_takes here cells more e)
 
   go_on_sound : (here : InstanceId → Bool) (slots : ℕ) (cells : List Cell) (found : Option (List Cell)) → IsSound cells → ((more : List Cell) → found ≡ Some more → IsSound more)
@@ -132,7 +132,7 @@ module _ (c : Cluster) (groups : Groups) (job : Job) (bookings : List Booking) (
   pub filled_sound : (here : InstanceId → Bool) (slots : ℕ) (cells : List Cell) → IsSound cells → IsSound (filled here slots cells)
   filled_sound here zero cells sound = sound
   filled_sound here (suc slots) cells sound =
-      go_on_sound here slots cells (one_more here cells) sound (λ more e. one_more_sound here cells more sound e) (λ more is. filled_sound here slots more is)
+      go_on_sound here slots cells (next_slot here cells) sound (λ more e. one_more_sound here cells more sound e) (λ more is. filled_sound here slots more is)
 
   on_hosts_sound : (high : ℕ) (cells best : List Cell) (hosts : List (List ℕ)) → IsSound cells → IsSound best → IsSound (fold (λ best host. fuller best (filled (is_on host) high cells)) best hosts)
   on_hosts_sound high cells best [] sound is = is
@@ -155,8 +155,8 @@ module _ (c : Cluster) (groups : Groups) (job : Job) (bookings : List Booking) (
   turns_sound high cells [] sound = sound
   turns_sound high cells (host ∷ hosts) sound =
       turns_sound high (with_turn high cells host) hosts
-      (cond_both (nat_lt (slots_given cells) high) (unwrap_or (one_more (is_on host) cells) cells) cells IsSound
-      (λ _. unless_none_sound cells (one_more (is_on host) cells) sound (λ more e. one_more_sound (is_on host) cells more sound e))
+      (cond_both (nat_lt (slots_given cells) high) (unwrap_or (next_slot (is_on host) cells) cells) cells IsSound
+      (λ _. unless_none_sound cells (next_slot (is_on host) cells) sound (λ more e. one_more_sound (is_on host) cells more sound e))
       (λ _. sound))
 
   until_none_sound : (rounds high : ℕ) (hosts : List (List ℕ)) (cells more : List Cell) (done : Bool) → IsSound cells → IsSound (with_rounds rounds high hosts more)

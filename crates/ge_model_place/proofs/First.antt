@@ -8,7 +8,7 @@ use Rattle.ge_model_rows.specs.HostRows.{Groups, InstanceId}
 use Rattle.ge_model_rows.specs.JobRows.{Job, PeRequest, Grant}
 use Rattle.ge_model_rows.specs.ScheduleRows.{Booking}
 use Rattle.ge_model_place.specs.Choosing.{no_slots, grants_in, one_slot_more, chosen_from, chosen}
-use Rattle.ge_model_place.specs.Placement.{Cell, one_more, filled, slots_given, everywhere, grant_of, granted, are_admissible, placed_by, placement_of, job_placement}
+use Rattle.ge_model_place.specs.Placement.{Cell, next_slot, filled, slots_given, everywhere, grant_of, granted, are_admissible, placed_by, placement_of, job_placement}
 use Rattle.ge_model_place.specs.Runs.{one_slot}
 use Rattle.ge_model_place.proofs.Chosen.{tally, grants_of_tally, chosen_is_one_more}
 use Rattle.ge_model_place.proofs.Filled.{start_sound}
@@ -38,7 +38,7 @@ module _ (c : Cluster) (groups : Groups) (job : Job) (bookings : List Booking) (
             ∙ sym (ap (λ o. option_map one_slot o) (cond-false _ _ _ isnt))
       ]
 
-  one_filled : (cells : List Cell) (found : Option (List Cell)) → slots_given cells ≡ 0 → one_more everywhere cells ≡ found
+  one_filled : (cells : List Cell) (found : Option (List Cell)) → slots_given cells ≡ 0 → next_slot everywhere cells ≡ found
       → granted 1 (elim found [ None ↦ cells | Some more ↦ more ]) ≡ option_map (λ more. filter_map grant_of more) found
   one_filled cells None none e = cond-false _ _ _ (false_from_ne_true (nat_le 1 (slots_given cells)) (λ some. let least = leb-true 1 (slots_given cells) some in absurd (omega (arith, least, none))))
   one_filled cells (Some more) none e = let one = gives_one everywhere cells more e in cond-true _ _ _ (le-leb 1 (slots_given more) (omega (arith, one)))
@@ -51,8 +51,8 @@ module _ (c : Cluster) (groups : Groups) (job : Job) (bookings : List Booking) (
   one_anywhere : (order : List InstanceId) → granted 1 (filled everywhere 1 (start c groups job bookings from order)) ≡ option_map one_slot (find takes_one order)
   one_anywhere order =
       let cells = start c groups job bookings from order in
-      one_filled cells (one_more everywhere cells) (none_given c groups job bookings from order order) refl
-      ∙ grants_mapped (one_more everywhere cells)
+      one_filled cells (next_slot everywhere cells) (none_given c groups job bookings from order order) refl
+      ∙ grants_mapped (next_slot everywhere cells)
       ∙ ap (λ o. option_map grants_in o) (sym (chosen_is_one_more c groups job bookings from everywhere cells (start_sound c groups job bookings from order)))
       ∙ ap (λ gs. option_map grants_in (chosen c groups job bookings from everywhere gs)) (start_is c groups job bookings from order order)
       ∙ first_chosen [] order (λ behind. refl)

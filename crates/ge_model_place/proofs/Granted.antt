@@ -16,7 +16,7 @@ use Rattle.ge_model_place.specs.Advances.{stand_in, advance_grants, IsBookable, 
 use Rattle.ge_model_place.specs.InstanceOrder.{instance_order}
 use Rattle.ge_model_place.specs.Limits.{capacity_of}
 use Rattle.ge_model_place.specs.StandIns.{asked_for}
-use Rattle.ge_model_place.specs.Windows.{least_asked, duration_of, no_later_than, end_from, booking_of, advance_booking, base_bookings}
+use Rattle.ge_model_place.specs.Windows.{least_asked, duration_of, no_later_than, window_end_from, booking_of, advance_booking, base_bookings}
 use Rattle.ge_model_place.proofs.Admitted.{job_placed_admissible}
 use Rattle.ge_model_place.proofs.Sums.{one_booked}
 
@@ -59,7 +59,7 @@ module _ (c : Cluster) (a : Advance) (is : IsBookable c a) where
       ap (λ n. max 1 n) asked ∙ omega (arith, lasts)
 
   -- its window is the reservation's
-  pub ends_with_it : end_from c (stand_in a) a.from ≡ a.until
+  pub ends_with_it : window_end_from c (stand_in a) a.from ≡ a.until
   ends_with_it =
       let lasts = is.lasts in
       let ends = is.ends in
@@ -76,6 +76,6 @@ grants_keep c now number a is apart granted limit moment =
     let admissible = job_placed_admissible c g (stand_in a) booked a.from (instance_order c g) a.grants granted in
     let task : TaskId = record { job = 0; task = number } in
     let keeps = one_booked c g limit moment (stand_in a) task booked a.from a.grants admissible in
-    let until : end_from c (stand_in a) a.from ≡ (advance_booking c g now (number, a)).until = ends_with_it c a is ∙ sym (cond-false _ _ _ apart) in
+    let until : window_end_from c (stand_in a) a.from ≡ (advance_booking c g now (number, a)).until = ends_with_it c a is ∙ sym (cond-false _ _ _ apart) in
     let same : booking_of c g (stand_in a) task a.grants a.from ≡ advance_booking c g now (number, a) = ap (λ n. record (advance_booking c g now (number, a)) { until = n }) until in
     subst (λ b. plain_sum (booked ++ b ∷ []) limit moment ≤ max (capacity_of c g limit) (plain_sum booked limit moment)) same keeps

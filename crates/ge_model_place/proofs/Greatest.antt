@@ -10,14 +10,14 @@ use Rattle.ge_model_rows.specs.HostRows.{Groups, InstanceId}
 use Rattle.ge_model_rows.specs.JobRows.{Job, Grant}
 use Rattle.ge_model_rows.specs.PeRows.{Allocation, PeSlots, FillUp}
 use Rattle.ge_model_rows.specs.ScheduleRows.{Booking}
-use Rattle.ge_model_place.specs.Placement.{Cell, cell_of, one_more, filled, slots_given, everywhere, is_on, hosts_in, fuller, on_one_host, spread, grant_of, granted}
+use Rattle.ge_model_place.specs.Placement.{Cell, cell_of, next_slot, filled, slots_given, everywhere, is_on, hosts_in, fuller, on_one_host, spread, grant_of, granted}
 use Rattle.ge_model_place.specs.Choosing.{no_slots, grants_in, chosen, chosen_times, on_first_host, chosen_by, IsPlacedBy}
 use Rattle.ge_model_place.proofs.Chosen.{tally, grants_of_tally, chosen_is_one_more}
 use Rattle.ge_model_place.proofs.Filled.{IsSound, one_more_sound, start_sound}
 use Rattle.ge_model_place.proofs.Taken.{with_one, one_more_takes}
 
 -- one more slot is one more
-pub gives_one : (here : InstanceId → Bool) (cells more : List Cell) → one_more here cells ≡ Some more → slots_given more ≡ slots_given cells + 1
+pub gives_one : (here : InstanceId → Bool) (cells more : List Cell) → next_slot here cells ≡ Some more → slots_given more ≡ slots_given cells + 1
 gives_one here cells more e =
     let t = one_more_takes here cells more e in
     let was = ap slots_given t.was ∙ sum_by-append (λ (x : Cell). x.slots) t.before (t.cell ∷ t.behind) in
@@ -47,7 +47,7 @@ module _ (c : Cluster) (groups : Groups) (job : Job) (bookings : List Booking) (
     pub are : times here some (tally cells) ≡ Some (tally result)
     pub no_more : some < count → (more : ℕ) → some < more → times here more (tally cells) ≡ None
 
-  none_more : (here : InstanceId → Bool) (cells : List Cell) → Sound cells → one_more here cells ≡ None → (more : ℕ) → 0 < more → times here more (tally cells) ≡ None
+  none_more : (here : InstanceId → Bool) (cells : List Cell) → Sound cells → next_slot here cells ≡ None → (more : ℕ) → 0 < more → times here more (tally cells) ≡ None
   none_more here cells sound e zero less = absurd (omega (arith, less))
   none_more here cells sound e (suc more) less = times_none here more (tally cells) (chosen_is_one_more c groups job bookings from here cells sound ∙ ap (λ o. option_map tally o) e)
 
@@ -56,7 +56,7 @@ module _ (c : Cluster) (groups : Groups) (job : Job) (bookings : List Booking) (
   beyond here some slots next e rest zero less = absurd (omega (arith, less))
   beyond here some slots next e rest (suc more) less = times_some here more slots next e ∙ rest more (omega (arith, less))
 
-  fills_by : (here : InstanceId → Bool) (count : ℕ) (cells : List Cell) (found : Option (List Cell)) → Sound cells → one_more here cells ≡ found
+  fills_by : (here : InstanceId → Bool) (count : ℕ) (cells : List Cell) (found : Option (List Cell)) → Sound cells → next_slot here cells ≡ found
       → ((more : List Cell) → Sound more → Fills here count more (filled here count more)) → Fills here (suc count) cells (elim found [ None ↦ cells | Some more ↦ filled here count more ])
   fills_by here count cells None sound e rest =
       record { some = 0; within = omega arith; given = omega arith; are = refl; no_more = λ _ more less. none_more here cells sound e more less }
@@ -74,7 +74,7 @@ module _ (c : Cluster) (groups : Groups) (job : Job) (bookings : List Booking) (
 
   pub fills : (here : InstanceId → Bool) (count : ℕ) (cells : List Cell) → Sound cells → Fills here count cells (filled here count cells)
   fills here zero cells sound = record { some = 0; within = omega arith; given = omega arith; are = refl; no_more = λ fewer. absurd (omega (arith, fewer)) }
-  fills here (suc count) cells sound = fills_by here count cells (one_more here cells) sound refl (λ more is. fills here count more is)
+  fills here (suc count) cells sound = fills_by here count cells (next_slot here cells) sound refl (λ more is. fills here count more is)
 
   module _ (order : List InstanceId) where
     abbrev pub start : List Cell

@@ -12,7 +12,8 @@ use Rattle.ge_model_rows.specs.JobRows.{Grant}
 use Rattle.ge_model_rows.specs.ScheduleRows.{Booking, Start as Starting, Reservation}
 use Rattle.ge_model_rows.specs.TaskRows.{TaskId}
 use Rattle.ge_model_place.specs.Windows.{base_bookings}
-use Rattle.ge_model_place.specs.Running.{last_serial, task_of, serial_after, is_held_back, may_reserve, booked_by, reserve_at, placed_at, first_moment, reserve_from, later_decision, decision_with, decision_of, decide, run_of}
+use Rattle.ge_model_place.specs.Running.{task_of, serial_after, is_held_back, may_reserve, booked_by, reserve_at, placed_at, first_moment, reserve_from, later_decision, decision_with, decision_of, decide, run_of}
+use Rattle.ge_limits.specs.Limits.{last_serial}
 use Rattle.ge_model_place.specs.Runs.{bookings_after, placed_after, IsEnd, IsUnplaced, IsSkipped, IsStarted, IsReserved, IsDecided, IsRunAfter, IsRun, DecidesEach, BookingsGrow}
 use Rattle.ge_model_place.proofs.Earliest.{earliest_does, none_sooner, none_passes}
 use Rattle.ge_model_place.proofs.Decided.{groups, order, one_more}

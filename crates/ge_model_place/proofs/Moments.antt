@@ -12,7 +12,7 @@ use Rattle.ge_model_bookings.proofs.Peaks.{within_peak}
 use Rattle.ge_model_place.specs.Limits.{capacity_of, demands_of}
 use Rattle.ge_model_place.specs.Placement.{has_room, have_room, are_open, are_admissible}
 use Rattle.ge_model_place.specs.Choosing.{has_room_at, AreAdmissible}
-use Rattle.ge_model_place.specs.Windows.{end_from, is_in_time}
+use Rattle.ge_model_place.specs.Windows.{window_end_from, is_in_time}
 
 -- the greatest sum of a window is at most what each of its moments is at most
 raised_within : (bookings : List Booking) (limit : LimitId) (from until most n : ℕ) (bs : List Booking) → most ≤ n → ((moment : ℕ) → from ≤ moment → moment < until → plain_sum bookings limit moment ≤ n)
@@ -32,21 +32,21 @@ peak_within : (bookings : List Booking) (limit : LimitId) (from until n : ℕ) �
 peak_within bookings limit from until n h each = raised_within bookings limit from until (plain_sum bookings limit from) n bookings (each from (omega arith) h) each
 
 module _ (c : Cluster) (groups : Groups) (job : Job) (bookings : List Booking) where
-  room_at : (from moment : ℕ) (ds : List Demand) → from ≤ moment → moment < end_from c job from → list_all (has_room c groups bookings from (end_from c job from)) ds ≡ true
+  room_at : (from moment : ℕ) (ds : List Demand) → from ≤ moment → moment < window_end_from c job from → list_all (has_room c groups bookings from (window_end_from c job from)) ds ≡ true
       → list_all (has_room_at c groups job bookings from moment) ds ≡ true
   room_at from moment [] since before all = refl
   room_at from moment (d ∷ ds) since before all =
-      let parts = and_parts (has_room c groups bookings from (end_from c job from) d) (list_all (has_room c groups bookings from (end_from c job from)) ds) all in
-      let room = leb-true (peak bookings d.limit from (end_from c job from) + d.amount) (capacity_of c groups d.limit) parts.0 in
-      let within = within_peak bookings d.limit from (end_from c job from) moment since before in
+      let parts = and_parts (has_room c groups bookings from (window_end_from c job from) d) (list_all (has_room c groups bookings from (window_end_from c job from)) ds) all in
+      let room = leb-true (peak bookings d.limit from (window_end_from c job from) + d.amount) (capacity_of c groups d.limit) parts.0 in
+      let within = within_peak bookings d.limit from (window_end_from c job from) moment since before in
       and_from (has_room_at c groups job bookings from moment d) (list_all (has_room_at c groups job bookings from moment) ds)
       (le-leb (plain_sum bookings d.limit moment + d.amount) (capacity_of c groups d.limit) (omega (arith, room, within))) (room_at from moment ds since before parts.1)
 
-  room_over : (from : ℕ) (ds : List Demand) → from < end_from c job from → ((moment : ℕ) → from ≤ moment → moment < end_from c job from → list_all (has_room_at c groups job bookings from moment) ds ≡ true)
-      → list_all (has_room c groups bookings from (end_from c job from)) ds ≡ true
+  room_over : (from : ℕ) (ds : List Demand) → from < window_end_from c job from → ((moment : ℕ) → from ≤ moment → moment < window_end_from c job from → list_all (has_room_at c groups job bookings from moment) ds ≡ true)
+      → list_all (has_room c groups bookings from (window_end_from c job from)) ds ≡ true
   room_over from [] ever each = refl
   room_over from (d ∷ ds) ever each =
-      let until = end_from c job from in
+      let until = window_end_from c job from in
       let parts : (moment : ℕ) → from ≤ moment → moment < until → (has_room_at c groups job bookings from moment d ≡ true) × (list_all (has_room_at c groups job bookings from moment) ds ≡ true) =
       λ moment since before. and_parts (has_room_at c groups job bookings from moment d) (list_all (has_room_at c groups job bookings from moment) ds) (each moment since before) in
       let here : (moment : ℕ) → from ≤ moment → moment < until → plain_sum bookings d.limit moment + d.amount ≤ capacity_of c groups d.limit =
@@ -62,7 +62,7 @@ module _ (c : Cluster) (groups : Groups) (job : Job) (bookings : List Booking) w
   unfolding are_admissible
   admissible_is from grants e =
       let ds = demands_of c groups job grants in
-      let until = end_from c job from in
+      let until = window_end_from c job from in
       let parts = and_parts (is_in_time c job from && are_open c groups job grants) (have_room c groups bookings from until ds) e in
       let may = and_parts (is_in_time c job from) (are_open c groups job grants) parts.0 in
       record {
@@ -78,7 +78,7 @@ module _ (c : Cluster) (groups : Groups) (job : Job) (bookings : List Booking) w
   unfolding are_admissible
   is_admissible from grants are =
       let ds = demands_of c groups job grants in
-      let until = end_from c job from in
+      let until = window_end_from c job from in
       and_from (is_in_time c job from && are_open c groups job grants) (have_room c groups bookings from until ds) (and_from (is_in_time c job from) (are_open c groups job grants) are.in_time are.opened)
       (elim (cases_Bool (nat_le until from)) [
         | inl empty ↦ or_left (nat_le until from) (list_all (has_room c groups bookings from until) ds) empty

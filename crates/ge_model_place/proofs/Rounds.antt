@@ -6,7 +6,7 @@ use Rattle.ge_model_rows.specs.HostRows.{Groups, InstanceId}
 use Rattle.ge_model_rows.specs.JobRows.{Job, Grant}
 use Rattle.ge_model_rows.specs.PeRows.{RoundRobin}
 use Rattle.ge_model_rows.specs.ScheduleRows.{Booking}
-use Rattle.ge_model_place.specs.Placement.{Cell, one_more, slots_given, is_on, hosts_in, with_turn, with_round, with_rounds, spread, granted}
+use Rattle.ge_model_place.specs.Placement.{Cell, next_slot, slots_given, is_on, hosts_in, with_turn, with_round, with_rounds, spread, granted}
 use Rattle.ge_model_place.specs.Choosing.{chosen, taking_turn, in_rounds, no_slots, chosen_by, IsPlacedBy}
 use Rattle.ge_model_place.proofs.Chosen.{tally, chosen_is_one_more}
 use Rattle.ge_model_place.proofs.Filled.{IsSound, turns_sound, start_sound}
@@ -31,7 +31,7 @@ grown_both a b d first second =
 held : (limit : ℕ) (cells : List Cell) (host : List ℕ) → limit ≤ slots_given cells → with_turn limit cells host ≡ cells
 held limit cells host full = cond-false _ _ _ (le-ltb (slots_given cells) limit full)
 
-free : (limit : ℕ) (cells : List Cell) (host : List ℕ) → slots_given cells < limit → with_turn limit cells host ≡ unwrap_or (one_more (is_on host) cells) cells
+free : (limit : ℕ) (cells : List Cell) (host : List ℕ) → slots_given cells < limit → with_turn limit cells host ≡ unwrap_or (next_slot (is_on host) cells) cells
 free limit cells host less = cond-true _ _ _ (lt-ltb (slots_given cells) limit less)
 
 -- where one is given it is one more, within the limit
@@ -39,7 +39,7 @@ record Turns (limit : ℕ) (cells next : List Cell) : Type 0 where
   grown : Grown cells next
   within : slots_given cells ≤ limit → slots_given next ≤ limit
 
-turns_by : (limit : ℕ) (cells : List Cell) (host : List ℕ) (found : Option (List Cell)) → one_more (is_on host) cells ≡ found → slots_given cells < limit → Turns limit cells (unwrap_or found cells)
+turns_by : (limit : ℕ) (cells : List Cell) (host : List ℕ) (found : Option (List Cell)) → next_slot (is_on host) cells ≡ found → slots_given cells < limit → Turns limit cells (unwrap_or found cells)
 turns_by limit cells host None e less = record { grown = grown_none cells cells refl; within = λ h. h }
 turns_by limit cells host (Some more) e less =
     let one = gives_one (is_on host) cells more e in
@@ -48,7 +48,7 @@ turns_by limit cells host (Some more) e less =
 turn_turns : (limit : ℕ) (cells : List Cell) (host : List ℕ) → Turns limit cells (with_turn limit cells host)
 turn_turns limit cells host =
     elim (cases_lt (slots_given cells) limit) [
-      | inl less ↦ subst (λ x. Turns limit cells x) (sym (free limit cells host less)) (turns_by limit cells host (one_more (is_on host) cells) refl less)
+      | inl less ↦ subst (λ x. Turns limit cells x) (sym (free limit cells host less)) (turns_by limit cells host (next_slot (is_on host) cells) refl less)
       | inr full ↦ subst (λ x. Turns limit cells x) (sym (held limit cells host full)) (record { grown = grown_none cells cells refl; within = λ h. h })
     ]
 
@@ -180,7 +180,7 @@ module _ (c : Cluster) (groups : Groups) (job : Job) (bookings : List Booking) (
   turn_some : (fewer : ℕ) (slots next : List Grant) (host : List ℕ) → chosen c groups job bookings from (is_on host) slots ≡ Some next → turn (suc fewer, slots) host ≡ (fewer, next)
   turn_some fewer slots next host e = rw (e, taking_turn) refl
 
-  free_turn : (limit : ℕ) (cells : List Cell) (host : List ℕ) (found : Option (List Cell)) → slots_given cells < limit → one_more (is_on host) cells ≡ found
+  free_turn : (limit : ℕ) (cells : List Cell) (host : List ℕ) (found : Option (List Cell)) → slots_given cells < limit → next_slot (is_on host) cells ≡ found
       → chosen c groups job bookings from (is_on host) (tally cells) ≡ option_map tally found → turn (left_of limit cells) host ≡ left_of limit (unwrap_or found cells)
   free_turn limit cells host None less one e =
       let fewer : limit - slots_given cells ≡ suc (limit - (slots_given cells + 1)) = omega (arith, less) in
@@ -196,7 +196,7 @@ module _ (c : Cluster) (groups : Groups) (job : Job) (bookings : List Booking) (
   turn_is limit cells host sound =
       elim (cases_lt (slots_given cells) limit) [
         | inl less ↦
-            free_turn limit cells host (one_more (is_on host) cells) less refl (chosen_is_one_more c groups job bookings from (is_on host) cells sound) ∙ ap (λ x. left_of limit x) (sym (free limit cells host less))
+            free_turn limit cells host (next_slot (is_on host) cells) less refl (chosen_is_one_more c groups job bookings from (is_on host) cells sound) ∙ ap (λ x. left_of limit x) (sym (free limit cells host less))
         | inr full ↦
             let none : limit - slots_given cells ≡ 0 = omega (arith, full) in
             subst (λ n. turn (n, tally cells) host ≡ (n, tally cells)) (sym none) refl ∙ ap (λ x. left_of limit x) (sym (held limit cells host full))

@@ -24,7 +24,7 @@ use Rattle.ge_model_place.specs.Limits.{capacity_of, demands_of}
 use Rattle.ge_model_place.specs.Placement.{everywhere, are_admissible, placement}
 use Rattle.ge_model_place.specs.Running.{is_reserve, asks_reservation, may_reserve, booked_by}
 use Rattle.ge_model_place.specs.Runs.{ends_at, bookings_after, placed_after, one_slot, IsEarliest}
-use Rattle.ge_model_place.specs.Windows.{duration_of, advance_of, no_later_than, end_from, lasts_at, next_moment, job_bookings, runs_in, advance_booking, base_bookings}
+use Rattle.ge_model_place.specs.Windows.{duration_of, advance_of, no_later_than, window_end_from, lasts_at, next_moment, job_bookings, runs_in_advance, advance_booking, base_bookings}
 use Rattle.ge_model_place.proofs.Moments.{admissible_is, is_admissible}
 use Rattle.ge_model_place.proofs.Once.{Each}
 use Rattle.ge_model_place.proofs.Placed.{places_task}
@@ -61,7 +61,7 @@ no_later_grows None n m h = h
 no_later_grows (Some a) n m h = omega (arith, h)
 
 -- a window that begins sooner ends no later
-ends_no_later : (c : Cluster) (job : Job) (first moment : ℕ) → first ≤ moment → end_from c job first ≤ end_from c job moment
+ends_no_later : (c : Cluster) (job : Job) (first moment : ℕ) → first ≤ moment → window_end_from c job first ≤ window_end_from c job moment
 ends_no_later c job first moment h =
     no_later_grows (advance_of c job) (window_end first (duration_of c job)) (window_end moment (duration_of c job))
     (elim (cases_Bool (duration_of c job == infinity)) [ inl endless ↦ rw endless (omega arith) | inr some ↦ rw some (omega (arith, h)) ])
@@ -73,7 +73,7 @@ lasts_on c job moment h =
 
 -- the window at the later moment has a moment, or that at the first has none
 abbrev Lasts : Cluster → Job → ℕ → ℕ → Type 0
-Lasts c job first moment = (moment < end_from c job moment) ⊎ (end_from c job first ≤ first)
+Lasts c job first moment = (moment < window_end_from c job moment) ⊎ (window_end_from c job first ≤ first)
 
 module _ (c : Cluster) (groups : Groups) (job : Job) (bookings : List Booking) where
   room_on : (first between moment : ℕ) (ds : List Demand) → first ≤ between → between ≤ moment → Each (EndsApart first moment) bookings → list_all (has_room_at c groups job bookings moment moment) ds ≡ true
@@ -229,7 +229,7 @@ advance_ends c groups now number a (row ∷ rows) found later =
           let same : row.1 ≡ a = cc in
           let end = ap (λ (x : Advance). x.until) same in
           let until : booking.until ≡ a.until =
-          cond_both (list_any (runs_in row.0) c.jobs) (max row.1.until (next_moment now)) row.1.until (λ n. n ≡ a.until) (λ _. omega (arith, end, later)) (λ _. end) in
+          cond_both (list_any (runs_in_advance row.0) c.jobs) (max row.1.until (next_moment now)) row.1.until (λ n. n ≡ a.until) (λ _. omega (arith, end, later)) (λ _. end) in
           or_left (booking.until == a.until) (ends_at (map (advance_booking c groups now) rows) a.until) (eq-eqb booking.until a.until until)
       | inr there ↦
           or_right (booking.until == a.until) (ends_at (map (advance_booking c groups now) rows) a.until)

@@ -17,8 +17,9 @@ use Rattle.ge_model_bookings.specs.Bookings.{is_within, taken_by, demand_on, pla
 use Rattle.ge_model_bookings.proofs.Peaks.{within_peak}
 use Rattle.ge_model_place.specs.Limits.{capacity_of, demands_of}
 use Rattle.ge_model_place.specs.Placement.{has_room, have_room, are_open, are_admissible, job_placement, placement}
-use Rattle.ge_model_place.specs.Windows.{end_from, is_in_time, booking_of, base_bookings}
-use Rattle.ge_model_place.specs.Running.{last_serial, serial_after, is_held_back, may_reserve, booking_at, booked_by, reserve_at, placed_at, first_moment, reserve_from, later_decision, decision_with, decision_of, decide, run_of}
+use Rattle.ge_model_place.specs.Windows.{window_end_from, is_in_time, booking_of, base_bookings}
+use Rattle.ge_model_place.specs.Running.{serial_after, is_held_back, may_reserve, booking_at, booked_by, reserve_at, placed_at, first_moment, reserve_from, later_decision, decision_with, decision_of, decide, run_of}
+use Rattle.ge_limits.specs.Limits.{last_serial}
 use Rattle.ge_model_place.specs.Runs.{IsRun, KeepsLimits}
 use Rattle.ge_model_place.proofs.Once.{Each, asks_once}
 use Rattle.ge_model_place.proofs.Demanded.{demands_apart}
@@ -42,11 +43,11 @@ module _ (c : Cluster) (g : Groups) (limit : LimitId) (moment : ℕ) where
       let parts = and_parts (has_room c g booked from until d) (list_all (has_room c g booked from until) ds) all in
       (leb-true (peak booked d.limit from until + d.amount) (capacity_of c g d.limit) parts.0, each_has_room booked from until ds parts.1)
 
-  pub room_or_none : (job : Job) (booked : List Booking) (from : ℕ) (grants : List Grant) → from < end_from c job from → are_admissible c g job booked from grants ≡ true
-      → (demand_on (demands_of c g job grants) limit ≡ 0) ⊎ (peak booked limit from (end_from c job from) + demand_on (demands_of c g job grants) limit ≤ capacity_of c g limit)
+  pub room_or_none : (job : Job) (booked : List Booking) (from : ℕ) (grants : List Grant) → from < window_end_from c job from → are_admissible c g job booked from grants ≡ true
+      → (demand_on (demands_of c g job grants) limit ≡ 0) ⊎ (peak booked limit from (window_end_from c job from) + demand_on (demands_of c g job grants) limit ≤ capacity_of c g limit)
   unfolding are_admissible
   room_or_none job booked from grants ever admissible =
-      let until = end_from c job from in
+      let until = window_end_from c job from in
       let ds = demands_of c g job grants in
       let rooms = (and_parts (is_in_time c job from && are_open c g job grants) (have_room c g booked from until ds) admissible).1 in
       elim (or_cases (nat_le until from) (list_all (has_room c g booked from until) ds) rooms) [
@@ -63,13 +64,13 @@ module _ (c : Cluster) (g : Groups) (limit : LimitId) (moment : ℕ) where
       let whole = sum_by_push (taken_by limit moment) booked b in
       elim (cases_Bool (is_within b moment)) [
         | inl on ↦
-            let parts = and_parts (nat_le from moment) (nat_lt moment (end_from c job from)) on in
+            let parts = and_parts (nat_le from moment) (nat_lt moment (window_end_from c job from)) on in
             let since = leb-true from moment parts.0 in
-            let before = ltb-true moment (end_from c job from) parts.1 in
+            let before = ltb-true moment (window_end_from c job from) parts.1 in
             let takes : taken_by limit moment b ≡ demand_on (demands_of c g job grants) limit = rw on refl in
             elim (room_or_none job booked from grants (omega (arith, since, before)) admissible) [
               | inl nothing ↦ omega (arith, whole, takes, nothing)
-              | inr room ↦ let within = within_peak booked limit from (end_from c job from) moment since before in omega (arith, whole, takes, room, within)
+              | inr room ↦ let within = within_peak booked limit from (window_end_from c job from) moment since before in omega (arith, whole, takes, room, within)
             ]
         | inr off ↦ let takes : taken_by limit moment b ≡ 0 = rw off refl in omega (arith, whole, takes)
       ]

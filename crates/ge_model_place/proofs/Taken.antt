@@ -9,8 +9,8 @@ use Rattle.ge_model_rows.specs.HostRows.{Groups, InstanceId}
 use Rattle.ge_model_rows.specs.JobRows.{Job}
 use Rattle.ge_model_rows.specs.ScheduleRows.{LimitId}
 use Rattle.ge_model_bookings.specs.Bookings.{same_limit}
-use Rattle.ge_model_place.specs.Limits.{Counted, capacity_of, limits_at, with_limit, each_limit_once, counted, counted_at, per_slot, is_per_job, resource_of, asked_by}
-use Rattle.ge_model_place.specs.Placement.{Cell, asked_so_far, asked_with_one, takes_one_more, with_slot, one_more}
+use Rattle.ge_model_place.specs.Limits.{Counted, capacity_of, limits_at, with_limit_once, each_limit_once, counted, counted_at, per_slot, is_per_job, resource_of, asked_by}
+use Rattle.ge_model_place.specs.Placement.{Cell, asked_so_far, asked_with_one, takes_one_more, with_slot, next_slot}
 use Rattle.ge_model_place.proofs.Once.{Each, each_of_both, differs, Apart, apart_push}
 
 -- what a grant counts for: each limit once, with its capacity
@@ -21,10 +21,10 @@ CountedApart xs = Apart (λ (x : Counted). x.limit) (λ (x : Counted). x.amount)
 abbrev pub LimitsApart : List LimitId → Type 0
 LimitsApart xs = Apart (λ (x : LimitId). x) (λ (x : LimitId). 0) xs
 
-pub once_apart : (limits so_far : List LimitId) → LimitsApart so_far → LimitsApart (fold with_limit so_far limits)
+pub once_apart : (limits so_far : List LimitId) → LimitsApart so_far → LimitsApart (fold with_limit_once so_far limits)
 once_apart [] so_far apart = apart
 once_apart (limit ∷ limits) so_far apart =
-    once_apart limits (with_limit so_far limit)
+    once_apart limits (with_limit_once so_far limit)
     (cond_both (list_any (same_limit limit) so_far) so_far (so_far ++ limit ∷ []) LimitsApart (λ _. apart) (λ new. apart_push (λ (x : LimitId). x) (λ (x : LimitId). 0) so_far limit apart new))
 
 module _ (c : Cluster) (groups : Groups) (job : Job) where
@@ -161,5 +161,5 @@ module _ (here : InstanceId → Bool) (cells : List Cell) where
       ]
 
   -- the first that takes a slot has one more
-  pub one_more_takes : (more : List Cell) → one_more here cells ≡ Some more → Takes cells cells more
+  pub one_more_takes : (more : List Cell) → next_slot here cells ≡ Some more → Takes cells cells more
   one_more_takes more e = slot_takes cells more e

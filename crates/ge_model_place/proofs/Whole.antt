@@ -11,7 +11,7 @@ use Rattle.ge_model_rows.specs.JobRows.{Job, Grant}
 use Rattle.ge_model_rows.specs.ScheduleRows.{LimitId, Demand}
 use Rattle.ge_model_bookings.specs.Bookings.{same_limit, demand_on}
 use Rattle.ge_model_place.specs.Demands.{counts_for, slots_for, amount_for, DemandsEach}
-use Rattle.ge_model_place.specs.Limits.{greatest_demand, capacity_of, limits_at, with_limit, each_limit_once, counted, counted_at, per_slot, is_per_job, resource_of, demands_of}
+use Rattle.ge_model_place.specs.Limits.{greatest_demand, capacity_of, limits_at, with_limit_once, each_limit_once, counted, counted_at, per_slot, is_per_job, resource_of, demands_of}
 use Rattle.ge_model_place.proofs.Demanded.{counts, IsBelow, demands_apart, demands_below, grant_counts, grants_count}
 use Rattle.ge_model_place.proofs.Exact.{asks_of, demands_reach}
 use Rattle.ge_model_place.proofs.Once.{Each, differs, asks_once}
@@ -45,7 +45,7 @@ module _ (limit : LimitId) where
   same_bools false false to back = refl
 
   -- one more is there, and those before
-  one_among : (limits : List LimitId) (x : LimitId) → among limit (with_limit limits x) ≡ (among limit limits || same_limit x limit)
+  one_among : (limits : List LimitId) (x : LimitId) → among limit (with_limit_once limits x) ≡ (among limit limits || same_limit x limit)
   one_among limits x =
       cond_both (list_any (same_limit x) limits) limits (limits ++ x ∷ []) (λ ls. among limit ls ≡ (among limit limits || same_limit x limit))
       (λ found. same_bools (among limit limits) (among limit limits || same_limit x limit) (λ e. or_left (among limit limits) (same_limit x limit) e)
@@ -53,10 +53,10 @@ module _ (limit : LimitId) where
       (λ _. list_any-append (λ other. same_limit other limit) limits (x ∷ []) ∙ ap (λ b. among limit limits || b) (or-false (same_limit x limit)))
 
   -- each limit once are all of them
-  once_among : (limits so_far : List LimitId) → among limit (fold with_limit so_far limits) ≡ (among limit so_far || among limit limits)
+  once_among : (limits so_far : List LimitId) → among limit (fold with_limit_once so_far limits) ≡ (among limit so_far || among limit limits)
   once_among [] so_far = sym (or-false (among limit so_far))
   once_among (x ∷ xs) so_far =
-      once_among xs (with_limit so_far x) ∙ ap (λ b. b || among limit xs) (one_among so_far x) ∙ or_assoc (among limit so_far) (same_limit x limit) (among limit xs)
+      once_among xs (with_limit_once so_far x) ∙ ap (λ b. b || among limit xs) (one_among so_far x) ∙ or_assoc (among limit so_far) (same_limit x limit) (among limit xs)
 
   module _ (c : Cluster) (groups : Groups) (job : Job) where
     abbrev amount : ℕ

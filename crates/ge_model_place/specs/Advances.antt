@@ -10,7 +10,7 @@ use Rattle.ge_model_rows.specs.JobRows.{Grant, Advance}
 use Rattle.ge_model_rows.specs.ScheduleRows.{LimitId}
 use Rattle.ge_model_place.specs.InstanceOrder.{instance_order}
 use Rattle.ge_model_place.specs.Limits.{capacity_of}
-use Rattle.ge_model_place.specs.Windows.{runs_in, advance_booking, base_bookings}
+use Rattle.ge_model_place.specs.Windows.{runs_in_advance, advance_booking, base_bookings}
 pub use Rattle.ge_model_place.specs.StandIns.{stand_in}
 unfoldable pub use Rattle.ge_model_place.specs.Placement.{placement_of}
 
@@ -33,4 +33,4 @@ KeepsBeside c now number a = (limit : LimitId) (moment : ℕ)
     ≤ max (capacity_of c (expanded c) limit) (plain_sum (base_bookings c (expanded c) now) limit moment)
 
 abbrev pub KeepsWhatIsBooked : Cluster → ℕ → ℕ → Advance → Type 0
-KeepsWhatIsBooked c now number a = IsBookable c a → list_any (runs_in number) c.jobs ≡ false → advance_grants c now a ≡ Some a.grants → KeepsBeside c now number a
+KeepsWhatIsBooked c now number a = IsBookable c a → list_any (runs_in_advance number) c.jobs ≡ false → advance_grants c now a ≡ Some a.grants → KeepsBeside c now number a

@@ -13,7 +13,7 @@ use Rattle.ge_model_rows.specs.ScheduleRows.{Demand, Booking}
 use Rattle.ge_model_rows.specs.TaskRows.{TaskId}
 use Rattle.ge_collections.specs.Keyed.{at_text, at_number}
 use Rattle.ge_model_place.specs.Limits.{capacity_of, demands_of}
-use Rattle.ge_model_place.specs.Windows.{end_from, is_in_time}
+use Rattle.ge_model_place.specs.Windows.{window_end_from, is_in_time}
 use Rattle.ge_model_place.specs.Placement.{are_open, everywhere, is_on, are_admissible, placement}
 
 -- no slot of any instance yet
@@ -40,7 +40,7 @@ module _ (c : Cluster) (groups : Groups) (job : Job) (bookings : List Booking) (
   pub record AreAdmissible (grants : List Grant) : Type 0 where
     pub in_time : is_in_time c job from ≡ true
     pub opened : are_open c groups job grants ≡ true
-    pub room : (moment : ℕ) → from ≤ moment → moment < end_from c job from → list_all (has_room_at moment) (demands_of c groups job grants) ≡ true
+    pub room : (moment : ℕ) → from ≤ moment → moment < window_end_from c job from → list_all (has_room_at moment) (demands_of c groups job grants) ≡ true
 
   -- one more slot at the first of the last instances that is one of these, and at which the grants so far and it are admissible
   abbrev pub chosen_from : (InstanceId → Bool) → List Grant → List Grant → Option (List Grant)

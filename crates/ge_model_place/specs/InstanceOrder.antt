@@ -11,7 +11,7 @@ use Rattle.ge_model_rows.specs.HostRows.{Groups, InstanceId}
 use Rattle.ge_model_rows.specs.QueueRows.{QueueRow}
 use Rattle.ge_model_rows.specs.SettingRows.{SortMethod, Load, Seqno}
 use Rattle.ge_model_rows.specs.ValueRows.{Value, Amount, Flag, Word, infinity}
-use Rattle.ge_model_place.specs.Opening.{reported}
+use Rattle.ge_model_place.specs.Opening.{reported_load}
 
 -- a report that is no amount counts as none
 abbrev pub amount_reported : Option Value → Option ℕ
@@ -22,7 +22,7 @@ amount_reported (Some (Word word)) = None
 
 -- the amount that a host reports of the load formula, if it is an amount
 abbrev pub load_at : Cluster → List ℕ → Option ℕ
-load_at c host = amount_reported (reported (at_text c.hosts host) c.sched.load_formula)
+load_at c host = amount_reported (reported_load (at_text c.hosts host) c.sched.load_formula)
 
 -- a host that reports none is as loaded as can be
 abbrev pub load_or_most : Option ℕ → ℕ
@@ -41,19 +41,19 @@ seq_no_at c groups at = seq_no_in groups at.host (at_text c.queues at.queue)
 abbrev pub Rank : Type 0
 Rank = ℕ × ℕ × List ℕ × List ℕ
 
-abbrev pub rank_cmp : Rank → Rank → Ordering
-rank_cmp a b = ordering_then (nat_cmp a.0 b.0) (ordering_then (nat_cmp a.1 b.1) (ordering_then (text_cmp a.2 b.2) (text_cmp a.3 b.3)))
+abbrev pub instance_rank_cmp : Rank → Rank → Ordering
+instance_rank_cmp a b = ordering_then (nat_cmp a.0 b.0) (ordering_then (nat_cmp a.1 b.1) (ordering_then (text_cmp a.2 b.2) (text_cmp a.3 b.3)))
 
 -- by load and then by sequence number, or the other way round: sched_conf, queue_sort_method
 abbrev pub rank_by : SortMethod → ℕ → ℕ → InstanceId → Rank
 rank_by Load load seq_no at = (load, seq_no, at.queue, at.host)
 rank_by Seqno load seq_no at = (seq_no, load, at.queue, at.host)
 
-abbrev pub rank_of : Cluster → Groups → InstanceId → Rank
-rank_of c groups at = rank_by c.sched.sort (load_or_most (load_at c at.host)) (seq_no_at c groups at) at
+abbrev pub instance_rank : Cluster → Groups → InstanceId → Rank
+instance_rank c groups at = rank_by c.sched.sort (load_or_most (load_at c at.host)) (seq_no_at c groups at) at
 
 abbrev pub with_ranked : Cluster → Groups → List (Rank × InstanceId) → InstanceId → List (Rank × InstanceId)
-with_ranked c groups ranked at = insert_entry rank_cmp ranked (rank_of c groups at) at
+with_ranked c groups ranked at = insert_entry instance_rank_cmp ranked (instance_rank c groups at) at
 
 -- the instances in the order in which a run tries them
 unfoldable pub instance_order : Cluster → Groups → List InstanceId

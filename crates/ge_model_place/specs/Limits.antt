@@ -4,6 +4,7 @@ use Rattle.std.specs.List.{list_any}
 use Rattle.std.specs.Map.{keys_of}
 use Rattle.ge_collections.specs.Keyed.{text_eq, at_text, at_number}
 use Rattle.ge_model_bookings.specs.Bookings.{same_instance, same_limit}
+use Rattle.ge_model_jobs.specs.Accounts.{pe_name}
 use Rattle.ge_model_site.specs.Queues.{attr_at, slots_at}
 use Rattle.ge_model_value.specs.Complexes.{complex_at, is_consumable}
 use Rattle.ge_model_value.specs.Values.{amount_in}
@@ -108,10 +109,6 @@ abbrev pub pe_limits : Option PeRequest → List LimitId
 pe_limits None = []
 pe_limits (Some request) = Pe request.name ∷ []
 
-abbrev pub pe_name : Option PeRequest → List ℕ
-pe_name None = []
-pe_name (Some request) = request.name
-
 -- who asks, where a job's grant is at an instance
 abbrev pub who_at : Job → InstanceId → Who
 who_at job at = record { user = job.owner; group = job.group; project = job.project; pe = pe_name job.request.pe; queue = at.queue; host = at.host }
@@ -127,12 +124,12 @@ abbrev pub limits_at : Cluster → Groups → Job → InstanceId → List LimitI
 limits_at c groups job at = if job.advance == 0 then configured_limits c groups job at else Booked job.advance at ∷ []
 
 -- the limits with one more, unless it is there
-abbrev pub with_limit : List LimitId → LimitId → List LimitId
-with_limit limits limit = if list_any (same_limit limit) limits then limits else limits ++ limit ∷ []
+abbrev pub with_limit_once : List LimitId → LimitId → List LimitId
+with_limit_once limits limit = if list_any (same_limit limit) limits then limits else limits ++ limit ∷ []
 
 -- each limit once
 abbrev pub each_limit_once : List LimitId → List LimitId
-each_limit_once limits = fold with_limit [] limits
+each_limit_once limits = fold with_limit_once [] limits
 
 -- what a job asks of a consumable for one slot
 

@@ -113,13 +113,13 @@ reaches threshold None there = false
 reaches threshold (Some complex) None = false
 reaches threshold (Some complex) (Some there) = holds_between complex.kind complex.relop there threshold
 
-abbrev pub reported : Option HostRow → List ℕ → Option Value
-reported None name = None
-reported (Some row) name = at_text row.load name
+abbrev pub reported_load : Option HostRow → List ℕ → Option Value
+reported_load None name = None
+reported_load (Some row) name = at_text row.load name
 
 -- whether what the host reports reaches one threshold
 abbrev pub reaches_one : Cluster → InstanceId → List ℕ × Value → Bool
-reaches_one c at threshold = reaches threshold.1 (complex_at c threshold.0) (reported (at_text c.hosts at.host) threshold.0)
+reaches_one c at threshold = reaches threshold.1 (complex_at c threshold.0) (reported_load (at_text c.hosts at.host) threshold.0)
 
 abbrev pub reaches_one_of : Cluster → Groups → InstanceId → Option QueueRow → Bool
 reaches_one_of c groups at None = false

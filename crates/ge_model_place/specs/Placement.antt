@@ -13,7 +13,7 @@ use Rattle.ge_model_rows.specs.ScheduleRows.{LimitId, Demand, Booking}
 use Rattle.ge_model_rows.specs.TaskRows.{TaskId}
 use Rattle.ge_model_place.specs.Limits.{Counted, greatest_demand, capacity_of, counted_at, demands_of}
 use Rattle.ge_model_place.specs.Opening.{is_open}
-use Rattle.ge_model_place.specs.Windows.{end_from, is_in_time}
+use Rattle.ge_model_place.specs.Windows.{window_end_from, is_in_time}
 
 -- whether there is room for a demand at each moment of a window
 abbrev pub has_room : Cluster → Groups → List Booking → ℕ → ℕ → Demand → Bool
@@ -29,7 +29,7 @@ are_open c groups job grants = list_all (λ grant. is_open c groups job grant.at
 
 -- whether grants are admissible from a moment on, over what is booked; of a job that is sent into a reservation only while that lasts
 unfoldable pub are_admissible : Cluster → Groups → Job → List Booking → ℕ → List Grant → Bool
-are_admissible c groups job bookings from grants = is_in_time c job from && are_open c groups job grants && have_room c groups bookings from (end_from c job from) (demands_of c groups job grants)
+are_admissible c groups job bookings from grants = is_in_time c job from && are_open c groups job grants && have_room c groups bookings from (window_end_from c job from) (demands_of c groups job grants)
 
 -- a limit that a slot at an instance counts for, with the most that is booked of it in the window
 pub record Room : Type 0 where
@@ -53,7 +53,7 @@ rooms_in bookings from until counted = if nat_lt from until then map (room_of bo
 -- an instance before any slot is given
 abbrev pub cell_of : Cluster → Groups → Job → List Booking → ℕ → InstanceId → Cell
 cell_of c groups job bookings from at =
-    record { at = at; opened = is_in_time c job from && is_open c groups job at; rooms = rooms_in bookings from (end_from c job from) (counted_at c groups job at); slots = 0 }
+    record { at = at; opened = is_in_time c job from && is_open c groups job at; rooms = rooms_in bookings from (window_end_from c job from) (counted_at c groups job at); slots = 0 }
 
 -- what one room counts of a limit for one slot
 abbrev pub slot_asks : LimitId → Room → ℕ
@@ -89,13 +89,13 @@ with_slot here cells (cell ∷ rest) =
     ]
 
 -- one more slot at the first of these instances that takes it
-abbrev pub one_more : (InstanceId → Bool) → List Cell → Option (List Cell)
-one_more here cells = with_slot here cells cells
+abbrev pub next_slot : (InstanceId → Bool) → List Cell → Option (List Cell)
+next_slot here cells = with_slot here cells cells
 
 -- so many more slots at these instances, or as many as they take
 abbrev pub filled : (InstanceId → Bool) → ℕ → List Cell → List Cell
 filled here zero cells = cells
-filled here (suc slots) cells = elim (one_more here cells) [ None ↦ cells | Some more ↦ filled here slots more ]
+filled here (suc slots) cells = elim (next_slot here cells) [ None ↦ cells | Some more ↦ filled here slots more ]
 
 -- how many slots were given
 abbrev pub slots_given : List Cell → ℕ
@@ -129,7 +129,7 @@ in_blocks size high cells = fold (λ given host. with_block size high given (fil
 
 -- one slot on a host, where it takes one and the greatest number aren't given yet
 abbrev pub with_turn : ℕ → List Cell → List ℕ → List Cell
-with_turn high cells host = if nat_lt (slots_given cells) high then unwrap_or (one_more (is_on host) cells) cells else cells
+with_turn high cells host = if nat_lt (slots_given cells) high then unwrap_or (next_slot (is_on host) cells) cells else cells
 
 -- one slot on each host in turn
 abbrev pub with_round : ℕ → List (List ℕ) → List Cell → List Cell

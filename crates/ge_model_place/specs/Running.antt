@@ -17,10 +17,6 @@ use Rattle.ge_model_place.specs.Opening.{is_open, reaches_threshold}
 use Rattle.ge_model_place.specs.Placement.{are_admissible, placement}
 use Rattle.ge_model_place.specs.Windows.{booking_of, base_bookings}
 
--- the last number that a dispatch gets
-abbrev pub last_serial : ℕ
-last_serial = limit.last_serial
-
 -- the task of a decision
 abbrev pub task_of : Decision → TaskId
 task_of (Decision.Start start) = start.task
@@ -110,7 +106,7 @@ booked_by c groups now (Decision.Skip task) = []
 
 -- a start with these grants and the next number, where there is one left
 abbrev pub start_with : TaskId → ℕ → List Grant → Decision
-start_with task serial grants = if nat_lt last_serial serial then Decision.Skip task else Decision.Start (record { task = task; serial = serial; grants = grants })
+start_with task serial grants = if nat_lt limit.last_serial serial then Decision.Skip task else Decision.Start (record { task = task; serial = serial; grants = grants })
 
 -- a reservation from a moment on with the grants that there are then
 abbrev pub reserve_at : TaskId → ℕ → Option (List Grant) → Decision

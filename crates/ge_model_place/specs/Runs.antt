@@ -14,7 +14,8 @@ use Rattle.ge_model_place.specs.InstanceOrder.{instance_order}
 use Rattle.ge_model_place.specs.Limits.{capacity_of}
 use Rattle.ge_model_place.specs.Placement.{are_admissible, placement}
 use Rattle.ge_model_place.specs.Windows.{base_bookings}
-use Rattle.ge_model_place.specs.Running.{last_serial, serial_after, task_of, is_held_back, may_reserve, booked_by}
+use Rattle.ge_model_place.specs.Running.{serial_after, task_of, is_held_back, may_reserve, booked_by}
+use Rattle.ge_limits.specs.Limits.{last_serial}
 
 -- whether a booking ends at a moment
 abbrev pub ends_at : List Booking → ℕ → Bool

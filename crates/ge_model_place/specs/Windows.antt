@@ -34,8 +34,8 @@ no_later_than None end = end
 no_later_than (Some a) end = min end a.until
 
 -- where the window of a job's task from a moment on ends: after its duration, and no later than the reservation that the job is sent into
-abbrev pub end_from : Cluster → Job → ℕ → ℕ
-end_from c job from = no_later_than (advance_of c job) (window_end from (duration_of c job))
+abbrev pub window_end_from : Cluster → Job → ℕ → ℕ
+window_end_from c job from = no_later_than (advance_of c job) (window_end from (duration_of c job))
 
 abbrev pub lasts_at : ℕ → Option Advance → Bool
 lasts_at moment None = false
@@ -47,7 +47,7 @@ is_in_time c job moment = job.advance == 0 || lasts_at moment (advance_of c job)
 
 -- what a task books with these grants from a moment on
 abbrev pub booking_of : Cluster → Groups → Job → TaskId → List Grant → ℕ → Booking
-booking_of c groups job task grants from = record { task = task; demands = demands_of c groups job grants; from = from; until = end_from c job from }
+booking_of c groups job task grants from = record { task = task; demands = demands_of c groups job grants; from = from; until = window_end_from c job from }
 
 -- the moment after a moment, cut at the end of its type
 abbrev pub next_moment : ℕ → ℕ
@@ -62,12 +62,12 @@ abbrev pub job_bookings : Cluster → Groups → ℕ → ℕ × Job → List Boo
 job_bookings c groups now job = map (running_booking c groups now job) job.1.running
 
 -- whether a task of a job that was sent into a reservation runs
-abbrev pub runs_in : ℕ → ℕ × Job → Bool
-runs_in number job = job.1.advance == number && not (is_empty job.1.running)
+abbrev pub runs_in_advance : ℕ → ℕ × Job → Bool
+runs_in_advance number job = job.1.advance == number && not (is_empty job.1.running)
 
 -- until when a reservation books: up to the next moment where a task in it overran
 abbrev pub booked_until : Cluster → ℕ → ℕ → ℕ → ℕ
-booked_until c now number until = if list_any (runs_in number) c.jobs then max until (next_moment now) else until
+booked_until c now number until = if list_any (runs_in_advance number) c.jobs then max until (next_moment now) else until
 
 -- what a reservation books: the demands of its grants, as those of the job that stands for it; its task has the job 0
 abbrev pub advance_booking : Cluster → Groups → ℕ → ℕ × Advance → Booking

@@ -18,10 +18,11 @@ use Rattle.ge_model_rows.specs.JobRows.{Job, Advance}
 use Rattle.ge_model_rows.specs.ScheduleRows.{Start}
 use Rattle.ge_model_script.specs.Lines.{is_too_long}
 use Rattle.ge_model_cluster.specs.Applying.{with_start, start_task, serial_past, next_number, with_job, with_run, changed_by, after_entry}
-use Rattle.ge_model_cluster.specs.Soundness.{IsSound, IsBooked, has_advance, is_under, HasTask, IsSpanned, IsParted, HasStarted, is_in_span, at_most_one, serial_of, job_serials, serials_of}
+use Rattle.ge_model_jobs.specs.Soundness.{IsSound, IsBooked, has_advance, is_under, HasTask, IsSpanned, IsParted, HasStarted, is_in_span, at_most_one, serial_of, job_serials, serials_of}
 use Rattle.ge_model_run.specs.Running.{run_of}
-use Rattle.ge_model_plan.specs.Plan.{plan_of, timely_plan, command_plan, event_command, is_cut}
-use Rattle.ge_model_plan.specs.Refusals.{refused, first_refusal, unless_refused}
+use Rattle.ge_model_plan.specs.Plan.{plan_of, timely_plan, command_plan, event_command}
+use Rattle.ge_model_core.specs.Forms.{is_cut}
+use Rattle.ge_model_core.specs.Refusals.{refused, first_refusal, unless_refused}
 use Rattle.ge_model_plan.specs.Sched.{sched_plan, sched_refusal, starts_of, dispatch_order}
 use Rattle.ge_model_plan.specs.Submit.{one_task, job_of, submit_plan, submit_refusal}
 use Rattle.ge_model_plan.proofs.SoundnessLists.{all_append, all_weaker, all_changed, all_put, put_last}

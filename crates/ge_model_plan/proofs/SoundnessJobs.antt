@@ -10,7 +10,7 @@ use Rattle.ge_model_rows.specs.JobRows.{Job, Running}
 use Rattle.ge_model_rows.specs.ScheduleRows.{Start}
 use Rattle.ge_model_rows.specs.TaskRows.{TaskSpan}
 use Rattle.ge_model_cluster.specs.Applying.{is_alone, running_from, with_start}
-use Rattle.ge_model_cluster.specs.Soundness.{is_in_span, is_under, waits, is_broken, runs, has_task, at_most_one, HasTask, IsSpanned, IsParted, HasStarted, serial_of, job_serials}
+use Rattle.ge_model_jobs.specs.Soundness.{is_in_span, is_under, waits, is_broken, runs, has_task, at_most_one, HasTask, IsSpanned, IsParted, HasStarted, serial_of, job_serials}
 use Rattle.ge_model_plan.proofs.SoundnessLists.{IsJoined, under_put, all_put}
 use Rattle.ge_model_plan.proofs.SoundnessLists.IsJoined.{same, here, behind}
 

@@ -6,7 +6,7 @@ use Rattle.std.specs.Ordering.{nat_cmp, match_ordering}
 use Rattle.std.proofs.lemmas.Bool.{ne_eqb, eqb-true, le-ltb}
 use Rattle.ge_collections.specs.Changed.{change_value}
 use Rattle.ge_collections.specs.Keyed.{put_number}
-use Rattle.ge_model_cluster.specs.Soundness.{is_under}
+use Rattle.ge_model_jobs.specs.Soundness.{is_under}
 
 module _ {X : Type 0} (P : X → Type 0) where
   -- what holds of the entries of two lists holds of those of both together

@@ -8,7 +8,7 @@ use Rattle.ge_collections.specs.Changed.{change_value}
 use Rattle.ge_model_rows.specs.JobRows.{Job}
 use Rattle.ge_model_rows.specs.ScheduleRows.{Start}
 use Rattle.ge_model_cluster.specs.Applying.{with_start, start_task, greater_serial, serial_past}
-use Rattle.ge_model_cluster.specs.Soundness.{HasTask, IsSpanned, IsParted, HasStarted, job_serials, serials_of}
+use Rattle.ge_model_jobs.specs.Soundness.{HasTask, IsSpanned, IsParted, HasStarted, job_serials, serials_of}
 use Rattle.ge_model_plan.proofs.SoundnessLists.{IsJoined, joined_all, joined_distinct, joined_after, joined_before, all_changed, all_weaker}
 use Rattle.ge_model_plan.proofs.SoundnessLists.IsJoined.{same}
 use Rattle.ge_model_plan.proofs.SoundnessJobs.{start-HasTask, start-IsSpanned, start-IsParted, start-submitted, start-HasStarted, start-job_serials}

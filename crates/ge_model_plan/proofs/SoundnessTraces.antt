@@ -5,7 +5,7 @@ use Rattle.ge_model_rows.specs.ClusterRows.{Cluster}
 use Rattle.ge_model_rows.specs.EntryRows.{Entry}
 use Rattle.ge_model_rows.specs.EventRows.{Event}
 use Rattle.ge_model_cluster.specs.Applying.{after_entry}
-use Rattle.ge_model_cluster.specs.Soundness.{IsSound}
+use Rattle.ge_model_jobs.specs.Soundness.{IsSound}
 use Rattle.ge_model_plan.specs.Plan.{plan_of}
 use Rattle.ge_model_plan.specs.Trace.{answer_of, after_entries, cluster_after}
 use Rattle.ge_model_plan.proofs.Soundness.{keeps_sound}

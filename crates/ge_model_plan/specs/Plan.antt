@@ -6,16 +6,11 @@ use Rattle.ge_model_rows.specs.CommandRows.{Command}
 use Rattle.ge_model_rows.specs.EventRows.{Event, Form, Planned}
 use Rattle.ge_model_script.specs.Lines.{is_too_long}
 use Rattle.ge_model_command.specs.Commands.{command_of}
-use Rattle.ge_model_plan.specs.Refusals.{refused}
+use Rattle.ge_model_core.specs.Forms.{is_cut}
+use Rattle.ge_model_core.specs.Refusals.{refused}
 use Rattle.ge_model_listing.specs.Listing.{listing_of}
 use Rattle.ge_model_plan.specs.Submit.{submit_plan}
 use Rattle.ge_model_plan.specs.Sched.{sched_plan}
-
--- whether the form says that the request was too long
-abbrev pub is_cut : Form → Bool
-is_cut Form.TooLong = true
-is_cut Form.Good = false
-is_cut Form.BadHeader = false
 
 -- the command that an event is
 abbrev pub event_command : Form → List ℕ → Option Command

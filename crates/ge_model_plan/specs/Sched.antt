@@ -11,7 +11,7 @@ use Rattle.ge_model_rows.specs.ScheduleRows.{Start}
 use Rattle.ge_model_rows.specs.TaskRows.{TaskId, TaskSpan}
 use Rattle.ge_model_run.specs.Running.{run_of}
 use Rattle.ge_model_plan.specs.Access.{is_manager}
-use Rattle.ge_model_plan.specs.Refusals.{first_refusal, unless_refused}
+use Rattle.ge_model_core.specs.Refusals.{first_refusal, unless_refused}
 
 abbrev pub task_at : ℕ → TaskSpan → TaskId
 task_at number span = record { job = number; task = span.first }

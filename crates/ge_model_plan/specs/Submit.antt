@@ -9,7 +9,7 @@ use Rattle.ge_model_rows.specs.EntryRows.{Submit}
 use Rattle.ge_model_rows.specs.EventRows.{Event, Planned}
 use Rattle.ge_model_rows.specs.JobRows.{Job, Request}
 use Rattle.ge_model_rows.specs.TaskRows.{TaskSpan}
-use Rattle.ge_model_plan.specs.Refusals.{first_refusal, unless_refused}
+use Rattle.ge_model_core.specs.Refusals.{first_refusal, unless_refused}
 
 -- what -N gives (qsub)
 abbrev pub first_word : List (List ℕ) → List ℕ

@@ -7,9 +7,9 @@ use Rattle.ge_model_rows.specs.ClusterRows.{Cluster}
 use Rattle.ge_model_rows.specs.EntryRows.{Entry}
 use Rattle.ge_model_rows.specs.EventRows.{Event, Planned}
 use Rattle.ge_model_cluster.specs.Applying.{after_entry}
-use Rattle.ge_model_plan.specs.Refusals.{refused}
+use Rattle.ge_model_core.specs.Refusals.{refused}
 use Rattle.ge_model_plan.specs.Plan.{plan_of}
-use Rattle.ge_model_plan.specs.Render.{rendered}
+use Rattle.ge_model_core.specs.Render.{rendered}
 
 -- what an event with this mark is answered with
 abbrev pub answer_of : Cluster → Event → Bool → Planned

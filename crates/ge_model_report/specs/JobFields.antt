@@ -28,26 +28,26 @@ pe_text None = []
 pe_text (Some pe) = pe.name ++ codes " " ++ decimal pe.low ++ codes "-" ++ decimal pe.high
 
 -- a name with its value behind a blank
-abbrev pub field : List ℕ → List ℕ → List ℕ
-field name value = name ++ codes " " ++ or_none value
+abbrev pub field_line : List ℕ → List ℕ → List ℕ
+field_line name value = name ++ codes " " ++ or_none value
 
 -- the fields of a job
 abbrev pub job_fields : Cluster → ℕ → Job → List (List ℕ)
 job_fields c number job =
-    field (codes "job_number") (decimal number)
-    ∷ field (codes "job_name") job.name
-    ∷ field (codes "owner") job.owner
-    ∷ field (codes "group") job.group
-    ∷ field (codes "account") job.account
-    ∷ field (codes "submission_time") (decimal job.submitted)
-    ∷ field (codes "priority") (signed_decimal job.priority)
-    ∷ field (codes "project") job.project
-    ∷ field (codes "hold") (hold_text job.hold)
-    ∷ field (codes "hard_resource_list") (list_text (map (pair_text c) job.request.asked))
-    ∷ field (codes "parallel_environment") (pe_text job.request.pe)
-    ∷ field (codes "predecessors") (list_text (map decimal job.after))
-    ∷ field (codes "array_predecessors") (list_text (map decimal job.after_each))
-    ∷ field (codes "tasks") (set_text (live_tasks job))
+    field_line (codes "job_number") (decimal number)
+    ∷ field_line (codes "job_name") job.name
+    ∷ field_line (codes "owner") job.owner
+    ∷ field_line (codes "group") job.group
+    ∷ field_line (codes "account") job.account
+    ∷ field_line (codes "submission_time") (decimal job.submitted)
+    ∷ field_line (codes "priority") (signed_decimal job.priority)
+    ∷ field_line (codes "project") job.project
+    ∷ field_line (codes "hold") (hold_text job.hold)
+    ∷ field_line (codes "hard_resource_list") (list_text (map (pair_text c) job.request.asked))
+    ∷ field_line (codes "parallel_environment") (pe_text job.request.pe)
+    ∷ field_line (codes "predecessors") (list_text (map decimal job.after))
+    ∷ field_line (codes "array_predecessors") (list_text (map decimal job.after_each))
+    ∷ field_line (codes "tasks") (set_text (live_tasks job))
     ∷ []
 
 -- the fields of the job with a number; a job that isn't there has no lines

@@ -24,14 +24,14 @@ abbrev pub running_state : Running → List ℕ
 running_state task = if task.deleting then codes "dr" else codes "r"
 
 -- where the first grant is, or a dash
-abbrev pub first_instance : List Grant → List ℕ
-first_instance [] = codes "-"
-first_instance (grant ∷ grants) = instance_text grant.at
+abbrev pub first_instance_text : List Grant → List ℕ
+first_instance_text [] = codes "-"
+first_instance_text (grant ∷ grants) = instance_text grant.at
 
 -- the line of one running task
 abbrev pub running_line : ℕ → Job → ℕ × Running → List ℕ
 running_line number job task =
-    job_line number job (running_state task.1) task.1.start (first_instance task.1.grants) (granted_slots task.1.grants) (one task.0 ∷ [])
+    job_line number job (running_state task.1) task.1.start (first_instance_text task.1.grants) (granted_slots task.1.grants) (one task.0 ∷ [])
 
 -- the least slots that a task needs to start
 abbrev pub least_slots : Option PeRequest → ℕ

@@ -26,12 +26,12 @@ abbrev pub with_task : List ℕ → ℕ → List ((ℕ × ℕ × ℕ) × Running
 with_task host job rows task = if is_run_at host task.1.grants then insert_entry order_cmp rows (task.1.serial, job, task.0) task.1 else rows
 
 -- with those of one more job
-abbrev pub with_job : List ℕ → List ((ℕ × ℕ × ℕ) × Running) → ℕ × Job → List ((ℕ × ℕ × ℕ) × Running)
-with_job host rows job = fold (with_task host job.0) rows job.1.running
+abbrev pub with_runs_of : List ℕ → List ((ℕ × ℕ × ℕ) × Running) → ℕ × Job → List ((ℕ × ℕ × ℕ) × Running)
+with_runs_of host rows job = fold (with_task host job.0) rows job.1.running
 
 -- the running tasks of a host, as a range of rows by serial, then job, then task
 abbrev pub tasks_at : Cluster → List ℕ → List ((ℕ × ℕ × ℕ) × Running)
-tasks_at c host = fold (with_job host) [] c.jobs
+tasks_at c host = fold (with_runs_of host) [] c.jobs
 
 -- to run a task, or to kill one that is marked for deletion
 abbrev pub order_text : (ℕ × ℕ × ℕ) × Running → List ℕ
@@ -59,12 +59,27 @@ seconds_within seconds start (Some booked) = min seconds (booked.until - start)
 abbrev pub seconds_of : Cluster → Job → Running → ℕ
 seconds_of c job task = seconds_within (duration_of c job) task.start (advance_of c job)
 
-abbrev pub lines_of : Cluster → Job → Running → List (List ℕ)
-lines_of c job task =
+abbrev pub serial_lines : Cluster → Job → Running → List (List ℕ)
+serial_lines c job task =
     worded (codes "limit" ∷ limit_text (seconds_of c job task) ∷ [])
     ∷ worded (codes "words" ∷ decimal (length job.words) ∷ [])
     ∷ (job.words ++ script_lines job.script)
 
 -- the limit, the words and the script of the running task with a serial
 unfoldable pub task_lines : Cluster → ℕ → List (List ℕ)
-task_lines c serial = elim (running_with c.jobs serial) [ None ↦ [] | Some task ↦ lines_of c task.1 task.3 ]
+task_lines c serial = elim (running_with c.jobs serial) [ None ↦ [] | Some task ↦ serial_lines c task.1 task.3 ]
+
+-- the keys of orders, and a table of texts
+abbrev pub OrderKey : Type 0
+OrderKey = ℕ × ℕ × ℕ
+
+abbrev pub OrderTexts : Type 0
+OrderTexts = List (OrderKey × List ℕ)
+
+-- with the text of one more task
+abbrev pub with_text_of : List ℕ → ℕ → OrderTexts → ℕ × Running → OrderTexts
+with_text_of host job texts task =
+    if is_run_at host task.1.grants then insert_entry order_cmp texts (task.1.serial, job, task.0) (order_text ((task.1.serial, job, task.0), task.1)) else texts
+
+abbrev pub with_texts_of : List ℕ → OrderTexts → ℕ × Job → OrderTexts
+with_texts_of host texts job = fold (with_text_of host job.0) texts job.1.running

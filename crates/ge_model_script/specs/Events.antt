@@ -2,7 +2,7 @@
 use Rattle.std.specs.Prelude.{ℕ, if◌then◌else◌, List, [], ◌∷◌, map, Option, Some, None}
 use Rattle.ge_model_rows.specs.EventRows.{Event, Form, Good, BadHeader, TooLong}
 use Rattle.ge_model_script.specs.Lines.{lines_of, bare, is_too_long, text_of, requests_of}
-use Rattle.ge_model_script.specs.Header.{header_of}
+use Rattle.ge_model_script.specs.Header.{header_parts}
 
 -- the event of a request that can't be read
 abbrev pub unread : Form → Event
@@ -16,7 +16,7 @@ with_header (Some (moment, user, group)) texts = record { moment = moment; user 
 -- the first line of a request is its header
 abbrev pub event_in : List (List ℕ) → Event
 event_in [] = unread BadHeader
-event_in (header ∷ texts) = with_header (header_of (bare header)) texts
+event_in (header ∷ texts) = with_header (header_parts (bare header)) texts
 
 -- a request that is too long is read no further
 abbrev pub event_of : List ℕ → Event

@@ -3,11 +3,8 @@ use Rattle.std.specs.Prelude.{ℕ, ◌+◌, ◌-◌, ◌*◌, ◌^◌, Bool, fal
 use Rattle.std.specs.List.{list_all, before_first, after_first}
 use Rattle.std.specs.Char.{is_ascii_digit}
 use Rattle.ge_limits.specs.Limits as limit
+use Rattle.ge_model_text.specs.Words.{is_blank}
 use Rattle.ge_model_script.specs.Names.{is_name}
-
--- a space or a tab
-abbrev pub is_blank : ℕ → Bool
-is_blank b = b == 32 || b == 9
 
 -- digits, without a leading zero but in zero itself
 abbrev pub is_decimal : List ℕ → Bool
@@ -29,14 +26,14 @@ fields_of None user group = None
 fields_of (Some moment) user group = if is_name user && is_name group then Some (moment, user, group) else None
 
 -- what stands before the first blank, and after it
-abbrev pub field : List ℕ → List ℕ
-field text = before_first is_blank text
+abbrev pub header_field : List ℕ → List ℕ
+header_field text = before_first is_blank text
 
 abbrev pub after_field : List ℕ → List ℕ
 after_field text = after_first is_blank text
 
 -- a header is an at sign, a moment, a user and a group, with one blank between
-abbrev pub header_of : List ℕ → Option (ℕ × List ℕ × List ℕ)
-header_of [] = None
-header_of (b ∷ text) =
-    if b == 64 then fields_of (moment_of (field text)) (field (after_field text)) (after_field (after_field text)) else None
+abbrev pub header_parts : List ℕ → Option (ℕ × List ℕ × List ℕ)
+header_parts [] = None
+header_parts (b ∷ text) =
+    if b == 64 then fields_of (moment_of (header_field text)) (header_field (after_field text)) (after_field (after_field text)) else None

@@ -30,14 +30,14 @@ abbrev pub put_line : List ℕ → List ℕ × List (List ℕ) → List ℕ × L
 put_line line (text, requests) = if is_header line then ([], (line ++ text) ∷ requests) else (line ++ text, requests)
 
 -- the text that stands before the first header, and the requests from there on
-abbrev pub cut : List (List ℕ) → List ℕ × List (List ℕ)
-cut [] = ([], [])
-cut (line ∷ lines) = put_line line (cut lines)
+abbrev pub cut_requests : List (List ℕ) → List ℕ × List (List ℕ)
+cut_requests [] = ([], [])
+cut_requests (line ∷ lines) = put_line line (cut_requests lines)
 
 -- the first line begins a request, whatever it is
 abbrev pub requests_in : List (List ℕ) → List (List ℕ)
 requests_in [] = []
-requests_in (line ∷ lines) = (line ++ (cut lines).0) ∷ (cut lines).1
+requests_in (line ∷ lines) = (line ++ (cut_requests lines).0) ∷ (cut_requests lines).1
 
 -- the requests of a script, each with all its bytes
 abbrev pub requests_of : List ℕ → List (List ℕ)

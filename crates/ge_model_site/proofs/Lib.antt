@@ -1,3 +1,3 @@
 mod GroupRows
 mod Rows
-mod OverrideLaws
+pub mod OverrideLaws

@@ -7,7 +7,7 @@ use Rattle.std.proofs.lemmas.Bool.{eqb-true, eq-eqb, true≢false}
 use Rattle.std.proofs.lemmas.List.Folds.{list_any-append}
 use Rattle.std.proofs.lemmas.List.Splits.{slice_split_at, slice_split_none}
 use Rattle.std.proofs.lemmas.Nat.{div-add-mod'}
-use Rattle.ge_model_text.specs.Value.{is_digit, number, number_after}
+use Rattle.ge_model_text.specs.Value.{is_digit, number, number_with_digits}
 use Rattle.ge_model_value.specs.Pieces.{is_digits, greatest_number, number_of, has_byte, before_byte, behind_byte, pieces_at, joined_by, is_empty}
 
 -- ---- digits
@@ -49,22 +49,22 @@ some_digit (suc k) n b rest = by (n / 10 == 0) (some_digit k (n / 10) (digit_gly
     by true again = some_byte (digit_glyph false (n % 10)) (b ∷ rest)
     by false again = again
 
-digits_worth : (k n : ℕ) (rest : List ℕ) → n < 10 ^ k → number_after 0 (digits_onto k 10 false n rest) ≡ number_after n rest
-digits_worth zero n rest small = ap (λ x. number_after x rest) (let s : n < 1 = small in omega arith)
+digits_worth : (k n : ℕ) (rest : List ℕ) → n < 10 ^ k → number_with_digits 0 (digits_onto k 10 false n rest) ≡ number_with_digits n rest
+digits_worth zero n rest small = ap (λ x. number_with_digits x rest) (let s : n < 1 = small in omega arith)
 digits_worth (suc k) n rest small = by (n / 10 == 0) refl (digits_worth k (n / 10) (digit_glyph false (n % 10) ∷ rest))
   where
     whole : n / 10 * 10 + n % 10 ≡ n
     whole = div-add-mod' n 10
 
     by : (last : Bool) → (n / 10 == 0) ≡ last
-        → (n / 10 < 10 ^ k → number_after 0 (digits_onto k 10 false (n / 10) (digit_glyph false (n % 10) ∷ rest)) ≡ number_after (n / 10) (digit_glyph false (n % 10) ∷ rest))
-        → number_after 0 (if last then digit_glyph false (n % 10) ∷ rest else digits_onto k 10 false (n / 10) (digit_glyph false (n % 10) ∷ rest)) ≡ number_after n rest
-    by true is again = ap (λ x. number_after (10 * 0 + (x - 48)) rest) (glyph n)
-        ∙ ap (λ x. number_after x rest) (let w = whole in let e = eqb-true (n / 10) 0 is in omega arith)
+        → (n / 10 < 10 ^ k → number_with_digits 0 (digits_onto k 10 false (n / 10) (digit_glyph false (n % 10) ∷ rest)) ≡ number_with_digits (n / 10) (digit_glyph false (n % 10) ∷ rest))
+        → number_with_digits 0 (if last then digit_glyph false (n % 10) ∷ rest else digits_onto k 10 false (n / 10) (digit_glyph false (n % 10) ∷ rest)) ≡ number_with_digits n rest
+    by true is again = ap (λ x. number_with_digits (10 * 0 + (x - 48)) rest) (glyph n)
+        ∙ ap (λ x. number_with_digits x rest) (let w = whole in let e = eqb-true (n / 10) 0 is in omega arith)
     by false is again =
         again (let p = pow-suc 10 k in let s = small in omega arith)
-        ∙ ap (λ x. number_after (10 * (n / 10) + (x - 48)) rest) (glyph n)
-        ∙ ap (λ x. number_after x rest) (let w = whole in omega arith)
+        ∙ ap (λ x. number_with_digits (10 * (n / 10) + (x - 48)) rest) (glyph n)
+        ∙ ap (λ x. number_with_digits x rest) (let w = whole in omega arith)
 
 pub decimal_digits : (n : ℕ) → is_digits (decimal n) ≡ true
 unfolding digits

@@ -3,7 +3,7 @@ use Rattle.std.proofs.Common.{◌≡◌, ℕ, ◌+◌, ◌-◌, ◌%◌, ◌≤�
 use Rattle.std.proofs.Math.Nat.{zero-mod, mod-one}
 use Rattle.std.proofs.lemmas.Bool.{eqb-true, false≢true}
 use Rattle.ge_model_rows.specs.TaskRows.{TaskSpan}
-use Rattle.ge_model_tasks.specs.Spans.{in_span, goes_on, lengthened, behind_first}
+use Rattle.ge_model_tasks.specs.Spans.{in_span, run_goes_on, lengthened, behind_first}
 use Rattle.ge_model_tasks.proofs.Steps.{raw, from_there, step_more, next_step, joined, alone, span_of_numbers}
 
 -- a span of at least one number, from 1 on; its steps reach its last number
@@ -46,12 +46,12 @@ extended m a b d n c p q r on even =
     joined m a b c (n - b) p to.1 (omega arith) ∙ (λ i. sym to.0 i || in_span m (raw (there i) c (n - b)))
 
 -- a run with one number more
-pub lengthened_numbers : (m : ℕ) (run : TaskSpan) (n : ℕ) → IsMade run → run.last < n → goes_on run n ≡ true
+pub lengthened_numbers : (m : ℕ) (run : TaskSpan) (n : ℕ) → IsMade run → run.last < n → run_goes_on run n ≡ true
     → in_span m (lengthened run n) ≡ (in_span m run || m == n)
 lengthened_numbers m run n made later on =
     extended m run.first run.last run.step n n made.ordered later (omega arith) on made.reached ∙ ap (λ x. in_span m run || x) (alone m n (n - run.last))
 
-pub lengthened_made : (run : TaskSpan) (n : ℕ) → IsMade run → run.last < n → goes_on run n ≡ true → IsMade (lengthened run n)
+pub lengthened_made : (run : TaskSpan) (n : ℕ) → IsMade run → run.last < n → run_goes_on run n ≡ true → IsMade (lengthened run n)
 lengthened_made run n made later on =
     let ordered = made.ordered in
     let positive = made.positive in
@@ -66,12 +66,12 @@ lengthened_made run n made later on =
     }
 
 -- a run that goes on with a whole span
-pub whole_numbers : (m : ℕ) (run s : TaskSpan) → IsMade run → IsMade s → run.last < s.first → goes_on run s.first ≡ true → s.first - run.last ≡ s.step
+pub whole_numbers : (m : ℕ) (run s : TaskSpan) → IsMade run → IsMade s → run.last < s.first → run_goes_on run s.first ≡ true → s.first - run.last ≡ s.step
     → in_span m (record s { first = run.first }) ≡ (in_span m run || in_span m s)
 whole_numbers m run s made other later on step =
     rw (← step) (extended m run.first run.last run.step s.first s.last made.ordered later other.ordered on made.reached)
 
-pub whole_made : (run s : TaskSpan) → IsMade run → IsMade s → run.last < s.first → goes_on run s.first ≡ true → s.first - run.last ≡ s.step
+pub whole_made : (run s : TaskSpan) → IsMade run → IsMade s → run.last < s.first → run_goes_on run s.first ≡ true → s.first - run.last ≡ s.step
     → IsMade (record s { first = run.first })
 whole_made run s made other later on step =
     let long = lengthened_made run s.first made later on in

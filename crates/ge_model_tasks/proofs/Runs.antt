@@ -3,7 +3,7 @@ use Rattle.std.proofs.Common.{◌≡◌, ℕ, ◌+◌, ◌-◌, ◌<◌, ◌==�
 use Rattle.std.proofs.lemmas.Bool.{eqb-true, eqb-false}
 use Rattle.ge_model_rows.specs.TaskRows.{TaskSpan, is_single, is_run, is_apart, is_form_from}
 use Rattle.ge_model_rows.specs.TaskRows.{is_form}
-use Rattle.ge_model_tasks.specs.Spans.{is_one, in_span, goes_on, lengthened, behind_first, runs_from, in_form}
+use Rattle.ge_model_tasks.specs.Spans.{is_one, in_span, run_goes_on, lengthened, behind_first, runs_from, in_form}
 use Rattle.ge_model_tasks.specs.Sets.{has_number}
 use Rattle.ge_model_tasks.proofs.Steps.{raw, alone}
 use Rattle.ge_model_tasks.proofs.Form.{IsMade, Rises, lengthened_numbers, lengthened_made, whole_numbers, whole_made, behind_numbers, behind_made}
@@ -37,13 +37,13 @@ pub runs_numbers : (m : ℕ) (run : TaskSpan) (rest : List TaskSpan) → IsMade 
     → has_number m (runs_from run rest) ≡ has_number m (run ∷ rest)
 runs_numbers m run [] made rises = refl
 runs_numbers m run (s ∷ rest) made (later, other, rises) =
-    by (goes_on run s.first) (is_one s) (s.first - run.last == s.step) refl refl refl
+    by (run_goes_on run s.first) (is_one s) (s.first - run.last == s.step) refl refl refl
     (runs_numbers m s rest other rises)
     (runs_numbers m (lengthened run s.first) rest)
     (runs_numbers m (record s { first = run.first }) rest)
     (runs_numbers m (behind_first s) rest)
   where
-    by : (on single same : Bool) → goes_on run s.first ≡ on → is_one s ≡ single → (s.first - run.last == s.step) ≡ same
+    by : (on single same : Bool) → run_goes_on run s.first ≡ on → is_one s ≡ single → (s.first - run.last == s.step) ≡ same
         → has_number m (runs_from s rest) ≡ has_number m (s ∷ rest)
         → (IsMade (lengthened run s.first) → Rises s.first rest → has_number m (runs_from (lengthened run s.first) rest) ≡ has_number m (lengthened run s.first ∷ rest))
         → (IsMade (record s { first = run.first }) → Rises s.last rest → has_number m (runs_from (record s { first = run.first }) rest) ≡ has_number m (record s { first = run.first } ∷ rest))
@@ -117,13 +117,13 @@ before_form s first (t ∷ rest) made more above apart (begins, form) =
 pub runs_form : (run : TaskSpan) (rest : List TaskSpan) → IsMade run → Rises run.last rest → FormFrom run.first (runs_from run rest)
 runs_form run [] made rises = (refl, made_end run made)
 runs_form run (s ∷ rest) made (later, other, rises) =
-    by (goes_on run s.first) (is_one s) (s.first - run.last == s.step) refl refl refl
+    by (run_goes_on run s.first) (is_one s) (s.first - run.last == s.step) refl refl refl
     (runs_form s rest other rises)
     (runs_form (lengthened run s.first) rest)
     (runs_form (record s { first = run.first }) rest)
     (runs_form (behind_first s) rest)
   where
-    by : (on single same : Bool) → goes_on run s.first ≡ on → is_one s ≡ single → (s.first - run.last == s.step) ≡ same
+    by : (on single same : Bool) → run_goes_on run s.first ≡ on → is_one s ≡ single → (s.first - run.last == s.step) ≡ same
         → FormFrom s.first (runs_from s rest)
         → (IsMade (lengthened run s.first) → Rises s.first rest → FormFrom run.first (runs_from (lengthened run s.first) rest))
         → (IsMade (record s { first = run.first }) → Rises s.last rest → FormFrom run.first (runs_from (record s { first = run.first }) rest))

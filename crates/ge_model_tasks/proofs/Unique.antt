@@ -4,7 +4,7 @@ use Rattle.std.proofs.Math.Nat.{zero-div}
 use Rattle.std.proofs.lemmas.Bool.{eqb-true, eq-eqb, eqb-false}
 use Rattle.std.proofs.lemmas.List.{map-append}
 use Rattle.ge_model_rows.specs.TaskRows.{TaskSpan, is_run, is_apart, is_form_from, is_form}
-use Rattle.ge_model_tasks.specs.Spans.{one, is_one, steps_of, stepping, goes_on, lengthened, runs_from, in_form}
+use Rattle.ge_model_tasks.specs.Spans.{one, is_one, steps_of, stepping, run_goes_on, lengthened, runs_from, in_form}
 use Rattle.ge_model_tasks.specs.Sets.{has_number, numbers_of, set_of}
 use Rattle.ge_model_tasks.proofs.Steps.{raw}
 use Rattle.ge_model_tasks.proofs.Form.{IsMade, Rises}
@@ -14,12 +14,12 @@ use Rattle.ge_model_tasks.proofs.Numbers.{same_numbers, plus_one, steps_lead, nu
 
 -- ---- a run is made of its numbers again
 
-longer : (run : TaskSpan) (n : ℕ) (rest : List TaskSpan) → goes_on run n ≡ true → runs_from run (one n ∷ rest) ≡ runs_from (lengthened run n) rest
+longer : (run : TaskSpan) (n : ℕ) (rest : List TaskSpan) → run_goes_on run n ≡ true → runs_from run (one n ∷ rest) ≡ runs_from (lengthened run n) rest
 longer run n rest on =
     ap (λ x. turn x (is_one (one n)) (n - run.last == 1) run (one n) rest) on
     ∙ ap (λ x. turn true x (n - run.last == 1) run (one n) rest) (eq-eqb n n refl)
 
-ended : (run : TaskSpan) (n : ℕ) (rest : List TaskSpan) → goes_on run n ≡ false → runs_from run (one n ∷ rest) ≡ run ∷ runs_from (one n) rest
+ended : (run : TaskSpan) (n : ℕ) (rest : List TaskSpan) → run_goes_on run n ≡ false → runs_from run (one n ∷ rest) ≡ run ∷ runs_from (one n) rest
 ended run n rest off = ap (λ x. turn x (is_one (one n)) (n - run.last == 1) run (one n) rest) off
 
 by_step : (u v : Bool) → v ≡ true → (u || v) ≡ true
@@ -91,7 +91,7 @@ shaped s (t ∷ rest) form made (higher, other, rises) =
     all_three : (a b c : Bool) → (a && b && c) ≡ true → (a ≡ true) × (b ≡ true) × (c ≡ true)
     all_three a b c h = grind arith
 
-    off : s.first < s.last → is_apart s t ≡ true → goes_on s t.first ≡ false
+    off : s.first < s.last → is_apart s t ≡ true → run_goes_on s t.first ≡ false
     off more gap = grind arith
 
 -- a set in the form is the set of its numbers

@@ -42,8 +42,8 @@ abbrev pub above_in : ℕ → TaskSpan → List TaskSpan
 above_in n s = if nat_lt n s.first then s ∷ [] else stretch (s.first + ((n - s.first) / s.step + 1) * s.step) s.last s.step
 
 -- whether a number goes on with a run: it is the second one, or stands one step behind the last
-abbrev pub goes_on : TaskSpan → ℕ → Bool
-goes_on run n = is_one run || n - run.last == run.step
+abbrev pub run_goes_on : TaskSpan → ℕ → Bool
+run_goes_on run n = is_one run || n - run.last == run.step
 
 -- a run with a number behind it
 abbrev pub lengthened : TaskSpan → ℕ → TaskSpan
@@ -56,7 +56,7 @@ behind_first s = span_of (s.first + s.step) s.last s.step
 -- a run that is being made and spans whose numbers rise above it, as runs each of which is as long as it can be
 abbrev pub runs_from : TaskSpan → List TaskSpan → List TaskSpan
 runs_from run [] = run ∷ []
-runs_from run (s ∷ rest) = elim (goes_on run s.first) [
+runs_from run (s ∷ rest) = elim (run_goes_on run s.first) [
   | true ↦ elim (is_one s) [
     | true ↦ runs_from (lengthened run s.first) rest
     | false ↦ elim (s.first - run.last == s.step) [

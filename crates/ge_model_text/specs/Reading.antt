@@ -9,23 +9,23 @@ use Rattle.ge_model_text.specs.declared.Progress.{Progress}
 use Rattle.ge_model_text.specs.declared.Progress.TheVariants.{Start, Whole, Minutes, Seconds, Part, Multiple, Letters}
 use Rattle.ge_model_text.specs.declared.ValueFault.{ValueFault}
 use Rattle.ge_model_text.specs.declared.ValueFault.TheVariants.{Empty, Digit, TooLarge}
-use Rattle.ge_model_text.specs.Value.{is_digit, unit_at, infinity, endless, factor, scaled, IsWorth}
+use Rattle.ge_model_text.specs.Value.{is_digit, unit_at, infinity_word, endless, factor, scaled, IsWorth}
 
 -- the first amount that is too large
 abbrev pub limit : ℕ
 limit = bounds.amounts
 
-abbrev pub cut : ℕ → ℕ
-cut n = min n limit
+abbrev pub amount_cut : ℕ → ℕ
+amount_cut n = min n limit
 
 -- a number after one more digit
 abbrev pub appended : ℕ → ℕ → ℕ
-appended n b = cut (10 * n + (b - 48))
+appended n b = amount_cut (10 * n + (b - 48))
 
 -- after a number in millionths and a letter
 abbrev pub multiple : ℕ → ℕ → ℕ → Option Progress
 multiple whole millionths b =
-    option_map (λ times. Multiple (cut (scaled (1000000 * whole + millionths) times))) (factor b)
+    option_map (λ times. Multiple (amount_cut (scaled (1000000 * whole + millionths) times))) (factor b)
 
 -- after a whole number
 abbrev pub after_whole : ℕ → ℕ → Option Progress
@@ -38,7 +38,7 @@ after_whole n b =
 -- after so many digits behind a point
 abbrev pub after_part : ℕ → ℕ → ℕ → ℕ → Option Progress
 after_part whole millionths digits b =
-    if is_digit b then (if nat_lt digits 6 then Some (Part whole (cut (millionths + (b - 48) * unit_at digits)) (digits + 1)) else None)
+    if is_digit b then (if nat_lt digits 6 then Some (Part whole (amount_cut (millionths + (b - 48) * unit_at digits)) (digits + 1)) else None)
     else (if digits == 0 then None
     else multiple whole millionths b)
 
@@ -56,7 +56,7 @@ step (Seconds hours minutes seconds) b =
     if is_digit b then Some (Seconds hours minutes (appended seconds b)) else None
 step (Part whole millionths digits) b = after_part whole millionths digits b
 step (Multiple n) b = None
-step (Letters count) b = if nat_lt count 8 && (b == slice_index infinity count) then Some (Letters (count + 1)) else None
+step (Letters count) b = if nat_lt count 8 && (b == slice_index infinity_word count) then Some (Letters (count + 1)) else None
 
 -- a form has texts that are read so far
 abbrev pub occurs : Progress → Form → Bool
@@ -97,24 +97,24 @@ abbrev pub whole_amount : Form → ℕ → ℕ
 whole_amount Int n = n
 whole_amount Time n = n
 whole_amount Memory n = n
-whole_amount Fixed n = cut (1000000 * n)
+whole_amount Fixed n = amount_cut (1000000 * n)
 
 -- the amount of a number with a fraction
 abbrev pub part_amount : Form → ℕ → ℕ → ℕ
 part_amount Int whole millionths = whole
 part_amount Time whole millionths = whole
-part_amount Memory whole millionths = cut (scaled (1000000 * whole + millionths) 1)
-part_amount Fixed whole millionths = cut (1000000 * whole + millionths)
+part_amount Memory whole millionths = amount_cut (scaled (1000000 * whole + millionths) 1)
+part_amount Fixed whole millionths = amount_cut (1000000 * whole + millionths)
 
 -- the amount of what was read, where it is a whole text
-abbrev pub done : Form → Progress → Option ℕ
-done form Start = None
-done form (Whole n) = Some (whole_amount form n)
-done form (Minutes hours minutes) = None
-done form (Seconds hours minutes seconds) = Some (cut (3600 * hours + 60 * minutes + seconds))
-done form (Part whole millionths digits) = if digits == 0 then None else Some (part_amount form whole millionths)
-done form (Multiple n) = Some n
-done form (Letters count) = if count == 8 then Some endless else None
+abbrev pub amount_done : Form → Progress → Option ℕ
+amount_done form Start = None
+amount_done form (Whole n) = Some (whole_amount form n)
+amount_done form (Minutes hours minutes) = None
+amount_done form (Seconds hours minutes seconds) = Some (amount_cut (3600 * hours + 60 * minutes + seconds))
+amount_done form (Part whole millionths digits) = if digits == 0 then None else Some (part_amount form whole millionths)
+amount_done form (Multiple n) = Some n
+amount_done form (Letters count) = if count == 8 then Some endless else None
 
 -- the answer for a text that is worth an amount
 abbrev pub bounded : ℕ → Result ℕ ValueFault
@@ -127,7 +127,7 @@ answer place (Some amount) = bounded amount
 
 -- the answer to what was read and the bytes from a place on
 abbrev pub reading_from : Form → Progress → ℕ → List ℕ → Result ℕ ValueFault
-reading_from form progress place [] = answer place (done form progress)
+reading_from form progress place [] = answer place (amount_done form progress)
 reading_from form progress place (b ∷ rest) =
     elim (next form progress b) [ None ↦ Err (Digit place) | Some after ↦ reading_from form after (place + 1) rest ]
 

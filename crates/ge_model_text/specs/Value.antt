@@ -10,13 +10,13 @@ abbrev pub is_digit : ℕ → Bool
 is_digit b = nat_le 48 b && nat_le b 57
 
 -- the number of the digits read so far, and these
-abbrev pub number_after : ℕ → List ℕ → ℕ
-number_after n [] = n
-number_after n (b ∷ digits) = number_after (10 * n + (b - 48)) digits
+abbrev pub number_with_digits : ℕ → List ℕ → ℕ
+number_with_digits n [] = n
+number_with_digits n (b ∷ digits) = number_with_digits (10 * n + (b - 48)) digits
 
 -- what digits count, 0 where there are none
 abbrev pub number : List ℕ → ℕ
-number digits = number_after 0 digits
+number digits = number_with_digits 0 digits
 
 -- only digits, perhaps none
 abbrev pub AreDigits : List ℕ → Type 0
@@ -68,8 +68,8 @@ pub record IsClock (text : List ℕ) (seconds : ℕ) : Type 0 where
   pub value : seconds ≡ 3600 * number hours + 60 * number minutes + number rest
 
 -- `INFINITY`
-abbrev pub infinity : List ℕ
-infinity = codes "INFINITY"
+abbrev pub infinity_word : List ℕ
+infinity_word = codes "INFINITY"
 
 -- what INFINITY is worth, and the greatest amount
 abbrev pub endless : ℕ
@@ -79,7 +79,7 @@ endless = limit.amounts - 1
 pub data IsTime (text : List ℕ) (seconds : ℕ) : Type 0 where
   InSeconds : IsInt text seconds → IsTime text seconds
   ByTheClock : IsClock text seconds → IsTime text seconds
-  WithoutEnd : text ≡ infinity → seconds ≡ endless → IsTime text seconds
+  WithoutEnd : text ≡ infinity_word → seconds ≡ endless → IsTime text seconds
 
 -- what a letter behind a number multiplies it by: k K m M g G
 abbrev pub factor : ℕ → Option ℕ
@@ -110,7 +110,7 @@ pub record IsMultiple (text : List ℕ) (bytes : ℕ) : Type 0 where
 pub data IsMemory (text : List ℕ) (bytes : ℕ) : Type 0 where
   InBytes : (millionths : ℕ) → IsFixed text millionths → bytes ≡ scaled millionths 1 → IsMemory text bytes
   InMultiples : IsMultiple text bytes → IsMemory text bytes
-  WithoutLimit : text ≡ infinity → bytes ≡ endless → IsMemory text bytes
+  WithoutLimit : text ≡ infinity_word → bytes ≡ endless → IsMemory text bytes
 
 -- a text has a form and is worth an amount
 abbrev pub IsWorth : Form → List ℕ → ℕ → Type 0

@@ -81,13 +81,17 @@ with_text texts text = if is_one_of text texts then texts else texts ++ text ∷
 abbrev pub each_once : List (List ℕ) → List (List ℕ)
 each_once texts = fold with_text [] texts
 
+-- whether a number stands in a list
+abbrev pub lists_number : List ℕ → ℕ → Bool
+lists_number numbers n = list_any (λ m. m == n) numbers
+
 -- a list of different numbers with one more, unless it is there
-abbrev pub with_number : List ℕ → ℕ → List ℕ
-with_number numbers n = if list_any (λ m. m == n) numbers then numbers else numbers ++ n ∷ []
+abbrev pub with_one_number : List ℕ → ℕ → List ℕ
+with_one_number numbers n = if lists_number numbers n then numbers else numbers ++ n ∷ []
 
 -- the same of numbers
 abbrev pub each_number_once : List ℕ → List ℕ
-each_number_once numbers = fold with_number [] numbers
+each_number_once numbers = fold with_one_number [] numbers
 
 -- ASCII letters in lower case
 abbrev pub lower_case : List ℕ → List ℕ

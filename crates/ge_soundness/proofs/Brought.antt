@@ -3,7 +3,7 @@ use Rattle.std.specs.Prelude.{◌≡◌, ℕ, ◌≤◌, [], IsTrue}
 use Rattle.ge_model_rows.specs.ClusterRows.{Cluster}
 use Rattle.ge_model_rows.specs.EntryRows.{Change}
 use Rattle.ge_model_rows.specs.JobRows.{Job}
-use Rattle.ge_model_cluster.specs.Soundness.{HasTask, IsSpanned, IsSound, has_advance}
+use Rattle.ge_model_jobs.specs.Soundness.{HasTask, IsSpanned, IsSound, has_advance}
 use Rattle.ge_model_plan.proofs.SoundnessSerials.{AreNumbered}
 use Rattle.ge_model_jobs.specs.Orderly.{IsOrderly}
 use Rattle.ge_model_jobs.proofs.Orderly.{ArePicks}

@@ -9,7 +9,7 @@ use Rattle.ge_model_rows.specs.EntryRows.{Change, Item, ObjectKind, Patch}
 use Rattle.ge_model_rows.specs.JobRows.{Job, Running}
 use Rattle.ge_model_rows.specs.ScheduleRows.{Start}
 use Rattle.ge_model_rows.specs.TaskRows.{TaskId, TaskSpan}
-use Rattle.ge_model_cluster.specs.Soundness.{IsSound, IsBooked, has_advance}
+use Rattle.ge_model_jobs.specs.Soundness.{IsSound, IsBooked, has_advance}
 use Rattle.ge_model_plan.proofs.Soundness.{jobs_are_sound, sound_from_jobs, job_added}
 use Rattle.ge_model_plan.proofs.SoundnessLists.{all_put}
 use Rattle.ge_model_plan.proofs.SoundnessSerials.{AreNumbered}

@@ -9,7 +9,7 @@ use Rattle.ge_collections.specs.Keyed.{put_number, drop_number}
 use Rattle.ge_model_rows.specs.ClusterRows.{Cluster}
 use Rattle.ge_model_rows.specs.JobRows.{Job, Advance}
 use Rattle.ge_model_rows.specs.ScheduleRows.{Start}
-use Rattle.ge_model_cluster.specs.Soundness.{IsAdvance, IsBooked, has_advance}
+use Rattle.ge_model_jobs.specs.Soundness.{IsAdvance, IsBooked, has_advance}
 use Rattle.ge_model_plan.proofs.SoundnessLists.{all_weaker, all_changed}
 use Rattle.ge_model_jobs.specs.Orderly.{has_key, KeysFrom}
 use Rattle.ge_model_jobs.specs.Starting.{with_start, start_task, is_joined, is_left, left_booked, started as started_jobs}

@@ -13,7 +13,7 @@ use Rattle.ge_model_tasks.specs.Spans.{in_span}
 use Rattle.ge_model_tasks.specs.Sets.{has_number, union}
 use Rattle.ge_model_tasks.proofs.Sets.{form_rises}
 use Rattle.ge_model_tasks.proofs.Together.{union_has}
-use Rattle.ge_model_cluster.specs.Soundness.{HasTask, serial_of}
+use Rattle.ge_model_jobs.specs.Soundness.{HasTask, serial_of}
 use Rattle.ge_model_jobs.specs.Picks.{names_task, named_in}
 use Rattle.ge_model_jobs.specs.declared.After.{After}
 use Rattle.ge_model_jobs.specs.declared.After.TheVariants as after

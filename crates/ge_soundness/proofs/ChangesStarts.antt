@@ -8,7 +8,7 @@ use Rattle.ge_collections.specs.Changed.{change_value}
 use Rattle.ge_collections.specs.Keyed.{put_number}
 use Rattle.ge_model_rows.specs.JobRows.{Job}
 use Rattle.ge_model_rows.specs.ScheduleRows.{Start}
-use Rattle.ge_model_cluster.specs.Soundness.{HasTask, IsSpanned, HasStarted, job_serials, serials_of}
+use Rattle.ge_model_jobs.specs.Soundness.{HasTask, IsSpanned, HasStarted, job_serials, serials_of}
 use Rattle.ge_model_plan.proofs.SoundnessLists.{IsJoined, joined_all, joined_distinct, joined_after, joined_before, all_changed, all_put, all_weaker}
 use Rattle.ge_model_plan.proofs.SoundnessLists.IsJoined.{same}
 use Rattle.ge_model_plan.proofs.SoundnessJobs.{serials_put, waits_alone}

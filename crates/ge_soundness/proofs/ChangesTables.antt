@@ -6,7 +6,7 @@ use Rattle.std.specs.List.{AllByRecursion}
 use Rattle.ge_collections.specs.Changed.{change_value}
 use Rattle.ge_collections.specs.Keyed.{at_number, drop_number}
 use Rattle.ge_model_rows.specs.JobRows.{Job}
-use Rattle.ge_model_cluster.specs.Soundness.{HasTask, IsSpanned, IsParted, HasStarted, is_in_span, job_serials, serials_of}
+use Rattle.ge_model_jobs.specs.Soundness.{HasTask, IsSpanned, IsParted, HasStarted, is_in_span, job_serials, serials_of}
 use Rattle.ge_model_plan.proofs.SoundnessStarts.{AreSound}
 use Rattle.ge_model_jobs.specs.Altering.{change_job}
 use Rattle.ge_model_jobs.specs.Ending.{has_no_task, lose_tasks}

@@ -9,10 +9,10 @@ use Rattle.ge_model_rows.specs.EntryRows.{Change}
 use Rattle.ge_model_rows.specs.EventRows.{Event, Form}
 use Rattle.ge_model_rows.specs.JobRows.{Advance}
 use Rattle.ge_model_script.specs.Lines.{is_too_long}
-use Rattle.ge_model_plan.specs.Plan.{is_cut}
+use Rattle.ge_model_core.specs.Forms.{is_cut}
 use Rattle.ge_model_core.specs.Plan.{event_command, command_plan, timely_plan, plan_of}
 use Rattle.ge_model_core.specs.Built.{is_built, if_built, built_plan_of}
-use Rattle.ge_model_cluster.specs.Soundness.{IsSound}
+use Rattle.ge_model_jobs.specs.Soundness.{IsSound}
 use Rattle.ge_model_place.specs.Advances.{KeepsBeside}
 use Rattle.ge_soundness.proofs.Brought.{Fits}
 use Rattle.ge_soundness.proofs.PlansAnswers.{EntryFits, entry_refused, entry_if}

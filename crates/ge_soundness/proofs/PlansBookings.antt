@@ -11,7 +11,7 @@ use Rattle.ge_model_rows.specs.ClusterRows.{Cluster}
 use Rattle.ge_model_rows.specs.EventRows.{Event}
 use Rattle.ge_model_rows.specs.JobRows.{Grant, Advance}
 use Rattle.ge_model_value.specs.Faults.{when}
-use Rattle.ge_model_value.specs.Pieces.{with_number}
+use Rattle.ge_model_value.specs.Pieces.{with_one_number}
 use Rattle.ge_model_site.specs.Access.{is_operator}
 use Rattle.ge_model_jobs.specs.Orderly.{has_key}
 use Rattle.ge_model_jobs.specs.Starting.{is_joined}
@@ -19,7 +19,7 @@ use Rattle.ge_model_place.specs.Advances.{advance_grants}
 use Rattle.ge_model_config.specs.Requests.{request_of}
 use Rattle.ge_model_config.proofs.ReadBackNames.{both_empty}
 use Rattle.ge_model_grammar.specs.Options.{Given, option_words}
-use Rattle.ge_model_grammar.specs.Targets.{job_of}
+use Rattle.ge_model_grammar.specs.Targets.{job_number_of}
 use Rattle.ge_model_core.specs.OptionValues.{first_word}
 use Rattle.ge_model_core.specs.JobAdvances.{no_request, advance_named, joined_faults, join_faults}
 use Rattle.ge_model_core.specs.Booking.{advance_asked, time_faults, is_booked_out, book_faults, booked, book_plan, unbook_faults_of, unbook_faults, unbook_plan, show_booked_plan}
@@ -84,9 +84,9 @@ all_unjoined c e (n ∷ numbers) none =
     let parts = both_empty (unbook_faults c e n) (flat_map (unbook_faults c e) numbers) none in (unbook_unjoined c e n parts.0, all_unjoined c e numbers parts.1)
 
 -- each once
-once_all : (P : ℕ → Type 0) (so_far numbers : List ℕ) → AllByRecursion P so_far → AllByRecursion P numbers → AllByRecursion P (fold with_number so_far numbers)
+once_all : (P : ℕ → Type 0) (so_far numbers : List ℕ) → AllByRecursion P so_far → AllByRecursion P numbers → AllByRecursion P (fold with_one_number so_far numbers)
 once_all P so_far [] before all = before
-once_all P so_far (n ∷ numbers) before all = once_all P (with_number so_far n) numbers (by (list_any (λ m. m == n) so_far)) all.1
+once_all P so_far (n ∷ numbers) before all = once_all P (with_one_number so_far n) numbers (by (list_any (λ m. m == n) so_far)) all.1
   where
     more : (xs : List ℕ) → AllByRecursion P xs → AllByRecursion P (xs ++ n ∷ [])
     more [] before = (all.0, tt)
@@ -140,8 +140,8 @@ joins_one c e options none = by (option_words options (codes "-ar")) none
     behind a b h = grind arith
 
     by : (words : Option (List (List ℕ)))
-        → (if is_some words then joined_faults c e options (at_number c.advances (unwrap_or (option_and_then job_of (option_and_then first_word words)) 0)) else []) ≡ []
-        → (unwrap_or (option_and_then job_of (option_and_then first_word words)) 0 == 0 || has_key (unwrap_or (option_and_then job_of (option_and_then first_word words)) 0) c.advances) ≡ true
+        → (if is_some words then joined_faults c e options (at_number c.advances (unwrap_or (option_and_then job_number_of (option_and_then first_word words)) 0)) else []) ≡ []
+        → (unwrap_or (option_and_then job_number_of (option_and_then first_word words)) 0 == 0 || has_key (unwrap_or (option_and_then job_number_of (option_and_then first_word words)) 0) c.advances) ≡ true
     by None none = refl
     by (Some words) none =
-        let number = unwrap_or (option_and_then job_of (first_word words)) 0 in behind (number == 0) (has_key number c.advances) (there number (at_number c.advances number) refl none)
+        let number = unwrap_or (option_and_then job_number_of (first_word words)) 0 in behind (number == 0) (has_key number c.advances) (there number (at_number c.advances number) refl none)

@@ -10,10 +10,10 @@ use Rattle.ge_model_rows.specs.ClusterRows.{Cluster}
 use Rattle.ge_model_rows.specs.JobRows.{Job, Grant, Advance}
 use Rattle.ge_model_rows.specs.ValueRows.{Value}
 use Rattle.ge_model_value.specs.Pieces.{pieces_at, is_empty}
-use Rattle.ge_model_cluster.specs.Soundness.{IsAdvance, IsBooked, IsSound, has_advance}
+use Rattle.ge_model_jobs.specs.Soundness.{IsAdvance, IsBooked, IsSound, has_advance}
 use Rattle.ge_model_jobs.specs.Orderly.{has_key}
 use Rattle.ge_model_place.specs.Advances.{advance_grants, IsBookable, KeepsBeside}
-use Rattle.ge_model_place.specs.Windows.{runs_in}
+use Rattle.ge_model_place.specs.Windows.{runs_in_advance}
 use Rattle.ge_model_place.proofs.Granted.{grants_keep}
 use Rattle.ge_model_grammar.specs.Options.{Given, option_words}
 use Rattle.ge_model_config.specs.Cited.{Read}
@@ -87,7 +87,7 @@ below_next next n (row ∷ rows) (is, all) has = by (n == row.0) refl has (below
     by false same has again = again has
 
 -- so no task runs in the next one
-none_runs : (c : Cluster) → IsBooked c → list_any (runs_in c.next_advance) c.jobs ≡ false
+none_runs : (c : Cluster) → IsBooked c → list_any (runs_in_advance c.next_advance) c.jobs ≡ false
 none_runs c booked = each c.jobs booked.jobs
   where
     apart : (job : ℕ × Job) → IsTrue (has_advance c.advances job) → (job.1.advance == c.next_advance) ≡ false
@@ -103,7 +103,7 @@ none_runs c booked = each c.jobs booked.jobs
     neither : (a b rest : Bool) → a ≡ false → rest ≡ false → ((a && b) || rest) ≡ false
     neither a b rest p q = grind arith
 
-    each : (rows : List (ℕ × Job)) → AllByRecursion (λ job. IsTrue (has_advance c.advances job)) rows → list_any (runs_in c.next_advance) rows ≡ false
+    each : (rows : List (ℕ × Job)) → AllByRecursion (λ job. IsTrue (has_advance c.advances job)) rows → list_any (runs_in_advance c.next_advance) rows ≡ false
     each [] all = refl
     each (row ∷ rows) all = neither (row.1.advance == c.next_advance) (not (is_empty row.1.running)) _ (apart row all.0) (each rows all.1)
 

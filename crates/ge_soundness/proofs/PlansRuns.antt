@@ -5,7 +5,8 @@ use Rattle.ge_model_rows.specs.ClusterRows.{Cluster}
 use Rattle.ge_model_rows.specs.DecisionRows.{Decision, start_of}
 use Rattle.ge_model_rows.specs.ScheduleRows.{Start}
 use Rattle.ge_model_rows.specs.TaskRows.{TaskId}
-use Rattle.ge_model_place.specs.Running.{last_serial, is_start, serial_after, run_of}
+use Rattle.ge_model_place.specs.Running.{is_start, serial_after, run_of}
+use Rattle.ge_limits.specs.Limits.{last_serial}
 use Rattle.ge_model_place.specs.Runs.{IsRunAfter, IsRun}
 use Rattle.ge_model_place.proofs.Decided.{run_of_is_run}
 use Rattle.ge_model_plan.proofs.SoundnessSerials.{AreNumbered}

@@ -13,7 +13,7 @@ use Rattle.ge_model_config.specs.Printing.{item_at}
 use Rattle.ge_model_grammar.specs.declared.Body.{Body}
 use Rattle.ge_model_grammar.specs.Bodies.{body_of}
 use Rattle.ge_model_report.specs.Accounting.{account_of}
-use Rattle.ge_model_core.specs.Answers.{shown, done}
+use Rattle.ge_model_core.specs.Answers.{shown, done_lines}
 use Rattle.ge_model_core.specs.Configuring.{manager_faults, put, add_plan, body_plan, body_plan_of, remove_plan, print_plan, print_plan_of, remove_faults}
 use Rattle.ge_model_core.specs.Showing.{show_plan, account_plan}
 use Rattle.ge_model_core.specs.Reports.{load_plan, end_plan, orders_plan, task_plan, stop_plan, host_faults, report_faults, serial_faults, end_faults}
@@ -26,7 +26,7 @@ use Rattle.ge_soundness.proofs.PlansAnswers.{EntryFits, entry_refused, entry_sho
 
 -- an object that a manager puts, where nothing refuses it
 put_entry : (c : Cluster) (e : Event) (read : Item × List Refusal) → c.last ≤ e.moment → EntryFits c (put c e read)
-put_entry c e read later = entry_change c e (manager_faults c e ++ read.1) (Put read.0) done later (λ none. tt)
+put_entry c e read later = entry_change c e (manager_faults c e ++ read.1) (Put read.0) done_lines later (λ none. tt)
 
 -- qconf -A and -M
 pub body_entry : (c : Cluster) (e : Event) (sort : ObjectKind) (adding : Bool) (text : List ℕ) → c.last ≤ e.moment → EntryFits c (body_plan c e sort adding text)
@@ -57,7 +57,7 @@ print_entry c key = by (item_at c key.kind key.name)
 -- qconf -km: the master stops, and nothing is changed
 pub stop_entry : (c : Cluster) (e : Event) → EntryFits c (stop_plan c e)
 unfolding stop_plan EntryFits
-stop_entry c e = entry_unless c (manager_faults c e) (record (shown done) { stop = true }) (λ none. tt)
+stop_entry c e = entry_unless c (manager_faults c e) (record (shown done_lines) { stop = true }) (λ none. tt)
 
 -- ---- qstat, qacct
 

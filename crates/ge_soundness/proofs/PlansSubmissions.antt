@@ -13,9 +13,9 @@ use Rattle.ge_model_tasks.specs.Ranges.{range_of, range_count, range_set}
 use Rattle.ge_model_tasks.proofs.Steps.{lies_back}
 use Rattle.ge_model_jobs.specs.Orderly.{has_key, one_at_most}
 use Rattle.ge_model_grammar.specs.Options.{Given}
-use Rattle.ge_model_core.specs.OptionValues.{word_of}
+use Rattle.ge_model_core.specs.OptionValues.{option_word}
 use Rattle.ge_model_core.specs.JobOptions.{patch_of, option_faults}
-use Rattle.ge_model_core.specs.Submitting.{range_reached, tasks_of, submitter, job_from, job_of, is_wide, is_full, is_script_over, are_tasks_over, size_faults, submit_plan}
+use Rattle.ge_model_core.specs.Submitting.{range_reached, submitted_tasks, submitter, job_from, submitted_job, is_wide, is_full, is_script_over, are_tasks_over, size_faults, submit_plan}
 use Rattle.ge_model_core.specs.JobAdvances.{advance_named, join_faults}
 use Rattle.ge_soundness.proofs.Brought.{IsNew}
 use Rattle.ge_soundness.proofs.PlansAnswers.{EntryFits, unmet, entry_change}
@@ -26,8 +26,8 @@ use Rattle.ge_soundness.proofs.PlansRanges.{IsRange, text_is_range, range_set_fo
 -- ---- the tasks of a submission
 
 -- up to the last number that its steps reach, a range is one still
-tasks_are_range : (options : Given) → IsRange (tasks_of options)
-tasks_are_range options = by (word_of options (codes "-t"))
+tasks_are_range : (options : Given) → IsRange (submitted_tasks options)
+tasks_are_range options = by (option_word options (codes "-t"))
   where
     end : (range : Option TaskSpan) → IfSome range IsRange → IsRange (range_reached range)
     end None is = record { positive = omega arith; ordered = omega arith; forward = omega arith }
@@ -89,10 +89,10 @@ fits_in c span words script none =
 
 -- a submission brings a new job
 pub submit_entry : (c : Cluster) (e : Event) (options : Given) (words : List (List ℕ)) (script : List ℕ) → c.last ≤ e.moment → EntryFits c (submit_plan c e options words script)
-unfolding submit_plan job_of
+unfolding submit_plan submitted_job
 submit_entry c e options words script later =
-    entry_change c e (option_faults c e options (submitter e options) ++ join_faults c e options ++ size_faults c (tasks_of options) words script) _ _ later
-    (λ none. let two = both_empty (option_faults c e options (submitter e options) ++ join_faults c e options) (size_faults c (tasks_of options) words script) none in
-    let fits = fits_in c (tasks_of options) words script two.1 in
-    job_is_new c e options words script (tasks_of options) (patch_of c options (submitter e options)) (tasks_are_range options) fits.0 fits.1
+    entry_change c e (option_faults c e options (submitter e options) ++ join_faults c e options ++ size_faults c (submitted_tasks options) words script) _ _ later
+    (λ none. let two = both_empty (option_faults c e options (submitter e options) ++ join_faults c e options) (size_faults c (submitted_tasks options) words script) none in
+    let fits = fits_in c (submitted_tasks options) words script two.1 in
+    job_is_new c e options words script (submitted_tasks options) (patch_of c options (submitter e options)) (tasks_are_range options) fits.0 fits.1
     (joins_one c e options (both_empty (option_faults c e options (submitter e options)) (join_faults c e options) two.0).1))

@@ -8,7 +8,7 @@ use Rattle.ge_model_tasks.specs.Ranges.{range_of}
 use Rattle.ge_model_jobs.proofs.Places.{IsPick}
 use Rattle.ge_model_jobs.proofs.Orderly.{ArePicks}
 use Rattle.ge_model_grammar.specs.Lines.{read_after, read_each}
-use Rattle.ge_model_grammar.specs.Targets.{job_of, items_of, whole_job, some_tasks, target_of, targets_of}
+use Rattle.ge_model_grammar.specs.Targets.{job_number_of, items_of, whole_job, some_tasks, target_of, targets_of}
 use Rattle.ge_soundness.proofs.PlansRanges.{IsRange, text_is_range, range_set_form}
 
 -- the tasks of a target are in the form, where it names some
@@ -17,7 +17,7 @@ IsTarget pick = IsPick pick.tasks
 
 -- a target is a job, or a job and a range of its tasks
 target_is : (item : List ℕ) → IfSome (target_of item) IsTarget
-target_is item = by (job_of (before_byte 46 item))
+target_is item = by (job_number_of (before_byte 46 item))
   where
     ranged : (job : ℕ) (range : Option TaskSpan) → IfSome range IsRange → IfSome (option_map (some_tasks job) range) IsTarget
     ranged job None is = tt

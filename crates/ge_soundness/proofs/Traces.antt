@@ -4,7 +4,7 @@ use Rattle.std.specs.Prelude.{IfSome}
 use Rattle.ge_model_rows.specs.ClusterRows.{Cluster, opening_cluster}
 use Rattle.ge_model_rows.specs.EntryRows.{Entry}
 use Rattle.ge_model_rows.specs.EventRows.{Event, Planned}
-use Rattle.ge_model_cluster.specs.Soundness.{IsSound}
+use Rattle.ge_model_jobs.specs.Soundness.{IsSound}
 use Rattle.ge_model_jobs.specs.Orderly.{IsOrdered}
 use Rattle.ge_model_jobs.specs.Applying.{after_entry}
 use Rattle.ge_model_core.specs.Trace.{answer_of, after_entries, cluster_after}
