@@ -9,7 +9,7 @@ use Rattle.ge_model_rows.specs.JobRows.{Job}
 use Rattle.ge_model_rows.specs.ValueRows.{ComplexDef}
 use Rattle.ge_model_codec.specs.Code.{Code, u32_code, u64_code, u128_code, text_code, triple_code}
 use Rattle.ge_model_codec.specs.Canonical.{IsCanonical}
-use Rattle.ge_model_codec.specs.Cluster.{cluster_code, cluster_code_1, cluster_front_code, Booked, is_unbooked, usage_cmp}
+use Rattle.ge_model_codec.specs.Cluster.{cluster_code, cluster_code_1, cluster_front_code, Booked, is_unbooked, usage_key_cmp}
 use Rattle.ge_model_codec.specs.Configured.{texts_code, host_row_code, pe_row_code, project_row_code, queue_row_code, quota_row_code, share_node_code, user_row_code}
 use Rattle.ge_codec.specs.ConfiguredLaws.{complex_def_canonical, complex_def_canonical_1, texts_canonical, host_row_canonical, pe_row_canonical, project_row_canonical, queue_row_canonical, quota_row_canonical, sched_canonical, share_node_canonical, user_row_canonical}
 use Rattle.ge_model_codec.specs.Jobs.{advance_code, line_code}
@@ -41,7 +41,7 @@ cluster_front_canonical {complex} {job} c j = quintuple_canonical
     (pair_canonical texts_canonical texts_canonical)
     (table_canonical nat_cmp u32_code job u32_canonical j)
     (pair_canonical
-    (table_canonical usage_cmp (triple_code text_code text_code u64_code) u128_code
+    (table_canonical usage_key_cmp (triple_code text_code text_code u64_code) u128_code
     (triple_canonical text_canonical text_canonical u64_canonical) u128_canonical)
     (list_canonical line_code line_canonical)))
 

@@ -6,19 +6,19 @@ use Rattle.ge_model_rows.specs.SettingRows.{SortMethod}
 use Rattle.ge_model_rows.specs.ValueRows.{Value, Kind, Relop, Requestable, Consumable}
 use Rattle.ge_model_codec.specs.Code.{Code, u32_code, u64_code, text_code, option_code, ◌⊗◌}
 use Rattle.ge_model_codec.specs.Canonical.{IsCanonical}
-use Rattle.ge_model_codec.specs.Configured.{ValueParts, value_code, value_parts, value_of, KindParts, kind_code, kind_parts, kind_of, RelopParts, relop_code, relop_parts, relop_of, RequestableParts, requestable_code, requestable_parts, requestable_of, ConsumableParts, consumable_code, consumable_code_1, consumable_cases, consumable_parts, consumable_of, complex_def_code, complex_def_code_1, complex_def_code_with, values_code, texts_code, host_row_code, attr_code, queue_row_code, AllocationParts, allocation_code, allocation_parts, allocation_of, UrgencySlotsParts, urgency_slots_code, urgency_slots_parts, urgency_slots_of, pe_row_code, filter_code, rule_code, quota_row_code, user_row_code, project_row_code, share_node_code, SortMethodParts, sort_method_code, sort_method_parts, sort_method_of, sched_code}
+use Rattle.ge_model_codec.specs.Configured.{ValueParts, value_code, value_parts, value_from_parts, KindParts, kind_code, kind_parts, kind_from_parts, RelopParts, relop_code, relop_parts, relop_from_parts, RequestableParts, requestable_code, requestable_parts, requestable_from_parts, ConsumableParts, consumable_code, consumable_code_1, consumable_cases, consumable_parts, consumable_from_parts, complex_def_code, complex_def_code_1, complex_def_code_with, values_code, texts_code, host_row_code, attr_code, queue_row_code, AllocationParts, allocation_code, allocation_parts, allocation_from_parts, UrgencySlotsParts, urgency_slots_code, urgency_slots_parts, urgency_slots_from_parts, pe_row_code, filter_code, rule_code, quota_row_code, user_row_code, project_row_code, share_node_code, SortMethodParts, sort_method_code, sort_method_parts, sort_method_from_parts, sched_code}
 use Rattle.ge_codec.specs.Numbers.{u32_canonical, u64_canonical}
 use Rattle.ge_codec.specs.Parts.{bool_canonical, text_canonical, list_canonical, option_canonical}
 use Rattle.ge_codec.specs.Entries.{table_canonical}
 use Rattle.ge_codec.specs.Variants.{AreCases, last_are, or_are, first_are, cases_canonical}
 use Rattle.ge_codec.specs.Laws.{pair_canonical, triple_canonical, quadruple_canonical, quintuple_canonical, empty_canonical, row_canonical}
 
-value_back : (r : Value) → value_of (value_parts r) ≡ r
+value_back : (r : Value) → value_from_parts (value_parts r) ≡ r
 value_back (Value.Amount a) = refl
 value_back (Value.Flag a) = refl
 value_back (Value.Word a) = refl
 
-value_same : (x : ValueParts) → value_parts (value_of x) ≡ x
+value_same : (x : ValueParts) → value_parts (value_from_parts x) ≡ x
 value_same (inl x) = refl
 value_same (inr (inl x)) = refl
 value_same (inr (inr x)) = refl
@@ -26,7 +26,7 @@ value_same (inr (inr x)) = refl
 pub value_canonical : IsCanonical value_code
 value_canonical = row_canonical (cases_canonical (or_are u64_canonical (or_are bool_canonical (last_are text_canonical))) (omega arith)) _ _ value_back value_same
 
-kind_back : (r : Kind) → kind_of (kind_parts r) ≡ r
+kind_back : (r : Kind) → kind_from_parts (kind_parts r) ≡ r
 kind_back Kind.Int = refl
 kind_back Kind.Time = refl
 kind_back Kind.Memory = refl
@@ -37,7 +37,7 @@ kind_back Kind.CStr = refl
 kind_back Kind.ReStr = refl
 kind_back Kind.Host = refl
 
-kind_same : (x : KindParts) → kind_parts (kind_of x) ≡ x
+kind_same : (x : KindParts) → kind_parts (kind_from_parts x) ≡ x
 kind_same (inl x) = refl
 kind_same (inr (inl x)) = refl
 kind_same (inr (inr (inl x))) = refl
@@ -51,7 +51,7 @@ kind_same (inr (inr (inr (inr (inr (inr (inr (inr x)))))))) = refl
 pub kind_canonical : IsCanonical kind_code
 kind_canonical = row_canonical (cases_canonical (or_are empty_canonical (or_are empty_canonical (or_are empty_canonical (or_are empty_canonical (or_are empty_canonical (or_are empty_canonical (or_are empty_canonical (or_are empty_canonical (last_are empty_canonical))))))))) (omega arith)) _ _ kind_back kind_same
 
-relop_back : (r : Relop) → relop_of (relop_parts r) ≡ r
+relop_back : (r : Relop) → relop_from_parts (relop_parts r) ≡ r
 relop_back Relop.Eq = refl
 relop_back Relop.Ne = refl
 relop_back Relop.Lt = refl
@@ -59,7 +59,7 @@ relop_back Relop.Le = refl
 relop_back Relop.Gt = refl
 relop_back Relop.Ge = refl
 
-relop_same : (x : RelopParts) → relop_parts (relop_of x) ≡ x
+relop_same : (x : RelopParts) → relop_parts (relop_from_parts x) ≡ x
 relop_same (inl x) = refl
 relop_same (inr (inl x)) = refl
 relop_same (inr (inr (inl x))) = refl
@@ -70,12 +70,12 @@ relop_same (inr (inr (inr (inr (inr x))))) = refl
 pub relop_canonical : IsCanonical relop_code
 relop_canonical = row_canonical (cases_canonical (or_are empty_canonical (or_are empty_canonical (or_are empty_canonical (or_are empty_canonical (or_are empty_canonical (last_are empty_canonical)))))) (omega arith)) _ _ relop_back relop_same
 
-requestable_back : (r : Requestable) → requestable_of (requestable_parts r) ≡ r
+requestable_back : (r : Requestable) → requestable_from_parts (requestable_parts r) ≡ r
 requestable_back Requestable.No = refl
 requestable_back Requestable.Yes = refl
 requestable_back Requestable.Forced = refl
 
-requestable_same : (x : RequestableParts) → requestable_parts (requestable_of x) ≡ x
+requestable_same : (x : RequestableParts) → requestable_parts (requestable_from_parts x) ≡ x
 requestable_same (inl x) = refl
 requestable_same (inr (inl x)) = refl
 requestable_same (inr (inr x)) = refl
@@ -83,12 +83,12 @@ requestable_same (inr (inr x)) = refl
 pub requestable_canonical : IsCanonical requestable_code
 requestable_canonical = row_canonical (cases_canonical (or_are empty_canonical (or_are empty_canonical (last_are empty_canonical))) (omega arith)) _ _ requestable_back requestable_same
 
-consumable_back : (r : Consumable) → consumable_of (consumable_parts r) ≡ r
+consumable_back : (r : Consumable) → consumable_from_parts (consumable_parts r) ≡ r
 consumable_back Consumable.No = refl
 consumable_back Consumable.Yes = refl
 consumable_back Consumable.Job = refl
 
-consumable_same : (x : ConsumableParts) → consumable_parts (consumable_of x) ≡ x
+consumable_same : (x : ConsumableParts) → consumable_parts (consumable_from_parts x) ≡ x
 consumable_same (inl x) = refl
 consumable_same (inr (inl x)) = refl
 consumable_same (inr (inr x)) = refl
@@ -149,13 +149,13 @@ queue_row_canonical = row_canonical
     (table_canonical text_cmp text_code (attr_code u64_code) text_canonical attr_u64_canonical)))
     _ _ (λ r. refl) (λ p. refl)
 
-allocation_back : (r : Allocation) → allocation_of (allocation_parts r) ≡ r
+allocation_back : (r : Allocation) → allocation_from_parts (allocation_parts r) ≡ r
 allocation_back (Allocation.Fixed a) = refl
 allocation_back Allocation.PeSlots = refl
 allocation_back Allocation.FillUp = refl
 allocation_back Allocation.RoundRobin = refl
 
-allocation_same : (x : AllocationParts) → allocation_parts (allocation_of x) ≡ x
+allocation_same : (x : AllocationParts) → allocation_parts (allocation_from_parts x) ≡ x
 allocation_same (inl x) = refl
 allocation_same (inr (inl x)) = refl
 allocation_same (inr (inr (inl x))) = refl
@@ -164,13 +164,13 @@ allocation_same (inr (inr (inr x))) = refl
 pub allocation_canonical : IsCanonical allocation_code
 allocation_canonical = row_canonical (cases_canonical (or_are u32_canonical (or_are empty_canonical (or_are empty_canonical (last_are empty_canonical)))) (omega arith)) _ _ allocation_back allocation_same
 
-urgency_slots_back : (r : UrgencySlots) → urgency_slots_of (urgency_slots_parts r) ≡ r
+urgency_slots_back : (r : UrgencySlots) → urgency_slots_from_parts (urgency_slots_parts r) ≡ r
 urgency_slots_back (UrgencySlots.Fixed a) = refl
 urgency_slots_back UrgencySlots.Min = refl
 urgency_slots_back UrgencySlots.Max = refl
 urgency_slots_back UrgencySlots.Avg = refl
 
-urgency_slots_same : (x : UrgencySlotsParts) → urgency_slots_parts (urgency_slots_of x) ≡ x
+urgency_slots_same : (x : UrgencySlotsParts) → urgency_slots_parts (urgency_slots_from_parts x) ≡ x
 urgency_slots_same (inl x) = refl
 urgency_slots_same (inr (inl x)) = refl
 urgency_slots_same (inr (inr (inl x))) = refl
@@ -217,11 +217,11 @@ share_node_canonical = row_canonical
     (quadruple_canonical text_canonical bool_canonical u64_canonical (list_canonical u32_code u32_canonical))
     _ _ (λ r. refl) (λ p. refl)
 
-sort_method_back : (r : SortMethod) → sort_method_of (sort_method_parts r) ≡ r
+sort_method_back : (r : SortMethod) → sort_method_from_parts (sort_method_parts r) ≡ r
 sort_method_back SortMethod.Load = refl
 sort_method_back SortMethod.Seqno = refl
 
-sort_method_same : (x : SortMethodParts) → sort_method_parts (sort_method_of x) ≡ x
+sort_method_same : (x : SortMethodParts) → sort_method_parts (sort_method_from_parts x) ≡ x
 sort_method_same (inl x) = refl
 sort_method_same (inr x) = refl
 

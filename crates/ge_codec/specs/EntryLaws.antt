@@ -13,7 +13,7 @@ use Rattle.ge_model_rows.specs.SettingRows.{Sched}
 use Rattle.ge_model_rows.specs.ValueRows.{Value, ComplexDef}
 use Rattle.ge_model_codec.specs.Code.{Code, u32_code, u64_code, signed_code, bool_code, text_code, list_code, pair_code}
 use Rattle.ge_model_codec.specs.Canonical.{IsCanonical}
-use Rattle.ge_model_codec.specs.Entries.{pick_code, patch_code, ItemParts, item_cases, item_code, item_code_1, item_parts, item_of, ObjectKindParts, object_kind_code, object_kind_parts, object_kind_of, key_code, ChangeParts, change_cases, change_code, change_code_1, change_parts, change_of, entry_code, entry_code_1}
+use Rattle.ge_model_codec.specs.Entries.{pick_code, patch_code, ItemParts, item_cases, item_code, item_code_1, item_parts, item_from_parts, ObjectKindParts, object_kind_code, object_kind_parts, object_kind_from_parts, key_code, ChangeParts, change_cases, change_code, change_code_1, change_parts, change_from_parts, entry_code, entry_code_1}
 use Rattle.ge_model_codec.specs.Configured.{complex_def_code, complex_def_code_1, share_node_code}
 use Rattle.ge_codec.specs.ConfiguredLaws.{complex_def_canonical, complex_def_canonical_1, values_canonical, texts_canonical, pe_row_canonical, project_row_canonical, queue_row_canonical, quota_row_canonical, sched_canonical, share_node_canonical, user_row_canonical}
 use Rattle.ge_model_codec.specs.Jobs.{request_code, start_code, advance_code, task_set_code}
@@ -41,7 +41,7 @@ patch_canonical = row_canonical
     (option_canonical (list_code u32_code) numbers_canonical) (option_canonical u64_code u64_canonical)))
     _ _ (λ r. refl) (λ p. refl)
 
-item_back : (r : Item) → item_of (item_parts r) ≡ r
+item_back : (r : Item) → item_from_parts (item_parts r) ≡ r
 item_back (Item.Complexes a) = refl
 item_back (Item.Host a b) = refl
 item_back (Item.Group a b) = refl
@@ -56,7 +56,7 @@ item_back (Item.Sched a) = refl
 item_back (Item.Managers a) = refl
 item_back (Item.Operators a) = refl
 
-item_same : (x : ItemParts) → item_parts (item_of x) ≡ x
+item_same : (x : ItemParts) → item_parts (item_from_parts x) ≡ x
 item_same (inl x) = refl
 item_same (inr (inl x)) = refl
 item_same (inr (inr (inl x))) = refl
@@ -94,7 +94,7 @@ pub item_canonical_1 : IsCanonical item_code_1
 item_canonical_1 = row_canonical
     (cases_canonical (item_are complex_def_code_1 complex_def_canonical_1) (omega arith)) _ _ item_back item_same
 
-object_kind_back : (r : ObjectKind) → object_kind_of (object_kind_parts r) ≡ r
+object_kind_back : (r : ObjectKind) → object_kind_from_parts (object_kind_parts r) ≡ r
 object_kind_back ObjectKind.Complexes = refl
 object_kind_back ObjectKind.Host = refl
 object_kind_back ObjectKind.Group = refl
@@ -109,7 +109,7 @@ object_kind_back ObjectKind.Sched = refl
 object_kind_back ObjectKind.Managers = refl
 object_kind_back ObjectKind.Operators = refl
 
-object_kind_same : (x : ObjectKindParts) → object_kind_parts (object_kind_of x) ≡ x
+object_kind_same : (x : ObjectKindParts) → object_kind_parts (object_kind_from_parts x) ≡ x
 object_kind_same (inl x) = refl
 object_kind_same (inr (inl x)) = refl
 object_kind_same (inr (inr (inl x))) = refl
@@ -130,7 +130,7 @@ object_kind_canonical = row_canonical (cases_canonical (or_are empty_canonical (
 pub key_canonical : IsCanonical key_code
 key_canonical = row_canonical (pair_canonical object_kind_canonical text_canonical) _ _ (λ r. refl) (λ p. refl)
 
-change_back : (r : Change) → change_of (change_parts r) ≡ r
+change_back : (r : Change) → change_from_parts (change_parts r) ≡ r
 change_back (Change.Submit a) = refl
 change_back (Change.Alter a) = refl
 change_back (Change.Hold a b) = refl
@@ -145,7 +145,7 @@ change_back (Change.Run a) = refl
 change_back (Change.Book a) = refl
 change_back (Change.Unbook a) = refl
 
-change_same : (x : ChangeParts) → change_parts (change_of x) ≡ x
+change_same : (x : ChangeParts) → change_parts (change_from_parts x) ≡ x
 change_same (inl x) = refl
 change_same (inr (inl x)) = refl
 change_same (inr (inr (inl x))) = refl

@@ -2,7 +2,7 @@
 ghost use Rattle.std.specs.Prelude.{◌≡◌, ◌++◌, ◌≤◌, length, IfOk, OnOk, OnErr, IsTrue};
 ghost use Rattle.ge_model_codec.specs.Code.{Code};
 ghost use Rattle.ge_model_codec.specs.Canonical.{IsCanonical, IsPrefixFree};
-ghost use Rattle.ge_model_codec.specs.Reading.{Reads};
+ghost use Rattle.ge_model_codec.specs.Reading.{ReadsAs};
 ghost use Rattle.ge_codec.specs.Fronts.{IsFront};
 ghost use Rattle.ge_codec.specs.Places.{prefix_free_from};
 
@@ -25,7 +25,7 @@ pub trait Canon: Sized {
     /// Reads a value at a place, which is at most the length, and tells where it ends.
     fn take(alloc: Global, bytes: &[u8], at: usize) -> Result<(Self, usize), TakeFault>
         requires { at ≤ length bytes.now }
-        ensures read { Reads result (code.read bytes.now at) }
+        ensures read { ReadsAs result (code.read bytes.now at) }
         ensures within { IfOk result (λ p. p.1 ≤ length bytes.now) };
 
     /// What was written is read again whatever follows, and what is read is written as the bytes that were read.
@@ -43,7 +43,7 @@ pub trait Format<V> {
     /// Reads a value at a place, which is at most the length, and tells where it ends.
     fn take(alloc: Global, bytes: &[u8], at: usize) -> Result<(V, usize), TakeFault>
         requires { at ≤ length bytes.now }
-        ensures read { Reads result (code.read bytes.now at) }
+        ensures read { ReadsAs result (code.read bytes.now at) }
         ensures within { IfOk result (λ p. p.1 ≤ length bytes.now) };
 }
 

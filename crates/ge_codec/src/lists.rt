@@ -1,7 +1,7 @@
 // Lists.
 ghost use Rattle.std.specs.Prelude.{◌≡◌, ◌++◌, ◌≤◌, length, flat_map, IfOk, OnOk, OnErr, IsTrue};
 ghost use Rattle.std.specs.List.{list_all};
-ghost use Rattle.ge_model_codec.specs.Reading.{Reads};
+ghost use Rattle.ge_model_codec.specs.Reading.{ReadsAs};
 ghost use Rattle.ge_model_codec.specs.Code.{items_at};
 ghost use Rattle.ge_codec.specs.Fronts.{IsFront};
 ghost use Rattle.ge_codec.specs.Taking.{TakesItem};
@@ -48,7 +48,7 @@ fn take_items<T: Canon + Drop>(
     count: u64,
 ) -> Result<(List<T>, usize), TakeFault>
     requires { at ≤ length bytes.now }
-    ensures read { Reads result (items_at T.code count bytes.now at) }
+    ensures read { ReadsAs result (items_at T.code count bytes.now at) }
     ensures within { IfOk result (λ p. p.1 ≤ length bytes.now) }
 {
     let mut list = List::new(alloc);

@@ -2,7 +2,7 @@
 ghost use Rattle.std.specs.Prelude.{◌≡◌, ◌++◌, ◌∷◌, [], ◌≤◌, length, flat_map, IfOk, OnOk, OnErr, IsTrue};
 ghost use Rattle.std.specs.List.{list_all};
 ghost use Rattle.std.specs.Option.{option_copied};
-ghost use Rattle.ge_model_codec.specs.Reading.{Reads};
+ghost use Rattle.ge_model_codec.specs.Reading.{ReadsAs};
 ghost use Rattle.ge_model_codec.specs.Code.{is_next, is_rising, entry_at, entries_at, pair_code, table_code};
 ghost use Rattle.ge_codec.specs.Fronts.{IsFront};
 ghost use Rattle.ge_codec.specs.Taking.{TakesEntry, last_key};
@@ -41,7 +41,7 @@ fn read_entry<K: Canon + Ord + Drop, V: Row, F: Format<V>>(
     table: &Table<K, V>,
 ) -> Result<((K, V), usize), TakeFault>
     requires { at ≤ length bytes.now }
-    ensures read { Reads result (entry_at K.Ord.cmp K.code F.code (last_key table.now) bytes.now at) }
+    ensures read { ReadsAs result (entry_at K.Ord.cmp K.code F.code (last_key table.now) bytes.now at) }
     ensures within { IfOk result (λ p. p.1 ≤ length bytes.now) }
     ensures above { IfOk result (λ p. IsTrue (is_next K.Ord.cmp (last_key table.now) p.0.0)) }
 {
@@ -91,7 +91,7 @@ fn take_entries<K: Canon + Ord + Twin + Drop, V: Row + Drop, F: Format<V>>(
     count: u64,
 ) -> Result<(Table<K, V>, usize), TakeFault>
     requires { at ≤ length bytes.now }
-    ensures read { Reads result (entries_at K.Ord.cmp K.code F.code count None bytes.now at) }
+    ensures read { ReadsAs result (entries_at K.Ord.cmp K.code F.code count None bytes.now at) }
     ensures within { IfOk result (λ p. p.1 ≤ length bytes.now) }
 {
     let mut table = Table::new(alloc);
@@ -113,7 +113,7 @@ pub(crate) fn take_table<K: Canon + Ord + Twin + Drop, V: Row + Drop, F: Format<
     at: usize,
 ) -> Result<(Table<K, V>, usize), TakeFault>
     requires { at ≤ length bytes.now }
-    ensures read { Reads result ((table_code K.Ord.cmp K.code F.code).read bytes.now at) }
+    ensures read { ReadsAs result ((table_code K.Ord.cmp K.code F.code).read bytes.now at) }
     ensures within { IfOk result (λ p. p.1 ≤ length bytes.now) }
 {
     let (count, mid) = u64::take(alloc, bytes, at)?;

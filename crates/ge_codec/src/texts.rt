@@ -1,7 +1,7 @@
 // Bools and texts.
 ghost use Rattle.std.specs.Prelude.{◌≡◌, ◌≤◌, ◌<◌, length, nat_lt, IfOk, IsTrue};
 ghost use Rattle.std.specs.List.{list_all};
-ghost use Rattle.ge_model_codec.specs.Reading.{Reads};
+ghost use Rattle.ge_model_codec.specs.Reading.{ReadsAs};
 ghost use Rattle.ge_model_codec.specs.Code.{bounded_code};
 ghost use Rattle.ge_model_codec.specs.declared.TakeFault.TheVariants.{Range, Tag};
 
@@ -13,7 +13,7 @@ use std::alloc::{AllocError, Global};
 // A byte 0 or 1.
 pub(crate) fn take_flag(bytes: &[u8], at: usize) -> Result<(u8, usize), TakeFault>
     requires { at ≤ length bytes.now }
-    ensures read { Reads result ((bounded_code 2 Range).read bytes.now at) }
+    ensures read { ReadsAs result ((bounded_code 2 Range).read bytes.now at) }
     ensures within { IfOk result (λ p. p.1 ≤ length bytes.now) }
     ensures low { IfOk result (λ p. p.0 < 2) }
 {
@@ -30,7 +30,7 @@ pub(crate) fn take_flag(bytes: &[u8], at: usize) -> Result<(u8, usize), TakeFaul
 // A tag byte below the count of an enum's variants.
 pub(crate) fn take_tag(bytes: &[u8], at: usize, count: u8) -> Result<(u8, usize), TakeFault>
     requires { at ≤ length bytes.now }
-    ensures read { Reads result ((bounded_code count Tag).read bytes.now at) }
+    ensures read { ReadsAs result ((bounded_code count Tag).read bytes.now at) }
     ensures within { IfOk result (λ p. p.1 ≤ length bytes.now) }
     ensures low { IfOk result (λ p. p.0 < count) }
 {

@@ -69,6 +69,10 @@ impl TryEdit<Job> for TaskStart<'_> {
         task_marks(alloc, &new_running(alloc, self.moment, self.start)?)
     }
 
+    fn relabels(&self, _job: &Job) -> bool {
+        false
+    }
+
     fn try_edit(&self, alloc: Global, job: &mut Job) -> Result<(), AllocError> {
         if is_the_only_one(self.start.task.task, &job.queued) {
             let running = new_running(alloc, self.moment, self.start)?;

@@ -1,7 +1,8 @@
 // The plan of an event.
 ghost use Rattle.std.specs.Prelude.{◌≡◌, [], IfOk};
 ghost use Rattle.ge_model_listing.specs.Listing.{listing_of};
-ghost use Rattle.ge_model_plan.specs.Plan.{is_cut, event_command, shown, command_plan, timely_plan, plan_of};
+ghost use Rattle.ge_model_plan.specs.Plan.{event_command, shown, command_plan, timely_plan, plan_of};
+ghost use Rattle.ge_model_core.specs.Forms.{is_cut};
 ghost use Rattle.ge_core.specs.Reading.{Gives};
 
 use crate::reading::{ReadFault, read_command};

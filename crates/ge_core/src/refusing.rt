@@ -1,6 +1,6 @@
 // Refused events.
 ghost use Rattle.std.specs.Prelude.{◌≡◌, ◌∷◌, [], IfOk};
-ghost use Rattle.ge_model_plan.specs.Refusals.{refusal_text, refused};
+ghost use Rattle.ge_model_core.specs.Refusals.{refusal_text, refused};
 
 use ge_base::{Refusal, code};
 use ge_rows::{List, Planned, Reply, Text};

@@ -1,6 +1,6 @@
 // Replies as they are written.
 ghost use Rattle.std.specs.Prelude.{◌≡◌, [], ◌∷◌, ◌++◌, IfOk, OnOk, length, flat_map, decimal};
-ghost use Rattle.ge_model_plan.specs.Render.{rendered_line, rendered};
+ghost use Rattle.ge_model_core.specs.Render.{rendered_line, rendered};
 
 use ge_rows::{Reply, Text};
 use std::alloc::{AllocError, Global};
@@ -33,7 +33,7 @@ fn head(alloc: Global, code: u8, lines: usize) -> Result<Text, AllocError>
 
 /// The reply as it is written: its code, a blank, the number of its lines and a line feed, and then each line with a line
 /// feed.
-#[tactic(auto, unfolding(ge_model_plan::specs::Render::rendered))]
+#[tactic(auto, unfolding(ge_model_core::specs::Render::rendered))]
 pub fn render(alloc: Global, reply: &Reply) -> Result<Text, AllocError>
     ensures { IfOk result (λ text. text ≡ rendered reply.now) }
 {

@@ -1,7 +1,7 @@
 // The words of a command line.
 ghost use Rattle.std.specs.Prelude.{◌≡◌, map, IfOk, IsTrue, false};
 ghost use Rattle.std.specs.List.{list_all, list_any, slice_split, filter};
-ghost use Rattle.ge_model_script.specs.Header.{is_blank};
+ghost use Rattle.ge_model_text.specs.Words.{is_blank};
 ghost use Rattle.ge_model_command.specs.Words.{is_command_byte, is_command_line, is_word, words_of, is_quote, begins_with_quote, is_unquoted};
 
 use ge_rows::{List, Text};

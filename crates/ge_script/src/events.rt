@@ -1,7 +1,7 @@
 // The events of a script.
 ghost use Rattle.std.specs.Prelude.{◌≡◌, ◌∷◌, ◌<◌, [], length, IfOk, IfSome, MatchOption};
 ghost use Rattle.ge_model_script.specs.Lines.{text_of, lines_of, requests_of};
-ghost use Rattle.ge_model_script.specs.Header.{header_of};
+ghost use Rattle.ge_model_script.specs.Header.{header_parts};
 ghost use Rattle.ge_model_script.specs.Events.{unread, with_header, event_of, events_of};
 ghost use Rattle.ge_script.specs.Shows.{says_header};
 

@@ -4,7 +4,7 @@ ghost use Rattle.std.specs.List.{list_all};
 ghost use Rattle.std.specs.Char.{is_ascii_digit};
 ghost use Rattle.ge_script.specs.Shows.{says_header};
 ghost use Rattle.ge_limits.specs.Limits.{moments};
-ghost use Rattle.ge_model_script.specs.Header.{is_decimal, decimal_value, moment_of, field, after_field, header_of};
+ghost use Rattle.ge_model_script.specs.Header.{is_decimal, decimal_value, moment_of, header_field, after_field, header_parts};
 
 use ge_limits::MOMENTS;
 use ge_pieces::{behind_word, first_word, is_a_name};
@@ -19,7 +19,7 @@ pub(crate) struct Header<'a> {
 
 /// What stands before the first blank, and what after it.
 fn split_field(text: &[u8]) -> (&[u8], &[u8])
-    ensures before { result.0.now ≡ field text.now }
+    ensures before { result.0.now ≡ header_field text.now }
     ensures after { result.1.now ≡ after_field text.now }
 {
     (first_word(text), behind_word(text))
@@ -76,7 +76,7 @@ fn moment(text: &[u8]) -> Option<u64>
 
 /// What a header says, or nothing where the line is no header.
 pub(crate) fn read_header(line: &[u8]) -> Option<Header<'_>>
-    ensures { says_header result ≡ header_of line.now }
+    ensures { says_header result ≡ header_parts line.now }
 {
     let (first, text) = line.split_first()?;
     if *first != b'@' {

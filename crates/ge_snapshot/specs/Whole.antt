@@ -4,7 +4,7 @@ use Rattle.std.specs.Prelude.{if◌then◌else◌, ◌==◌, IfOk}
 use Rattle.std.proofs.Math.Seq.{drop-length}
 use Rattle.std.proofs.lemmas.List.{append-nil}
 use Rattle.std.proofs.lemmas.Bool.{eqb-true}
-use Rattle.ge_model_codec.specs.Reading.{Reads, ReadsWhole, after_it}
+use Rattle.ge_model_codec.specs.Reading.{ReadsAs, ReadsWhole, after_it}
 use Rattle.ge_model_codec.specs.declared.TakeFault.{TakeFault}
 use Rattle.ge_model_codec.specs.declared.TakeFault.TheVariants.{Short, Tag, Range, Memory}
 use Rattle.ge_model_codec.specs.Code.{Code, whole}
@@ -13,7 +13,7 @@ use Rattle.ge_codec.specs.Places.{after_it-ok, if_ok}
 
 module _ {X : Type 0} (code : Code X) (bytes : List ℕ) where
   -- a fault of the value is the fault of all
-  pub fault_of_all : (fault : TakeFault) → Reads (Err fault) (code.read bytes 0) → Reads (Err fault) (whole code bytes)
+  pub fault_of_all : (fault : TakeFault) → ReadsAs (Err fault) (code.read bytes 0) → ReadsAs (Err fault) (whole code bytes)
   fault_of_all Short h = ap (λ r. after_it r (λ x end. if end == length bytes then Ok (x, end) else Err (Range end))) h
   fault_of_all (Tag place) h = ap (λ r. after_it r (λ x end. if end == length bytes then Ok (x, end) else Err (Range end))) h
   fault_of_all (Range place) h = ap (λ r. after_it r (λ x end. if end == length bytes then Ok (x, end) else Err (Range end))) h

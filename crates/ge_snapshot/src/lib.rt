@@ -3,7 +3,7 @@
 #![tactic(auto)]
 
 ghost use Rattle.std.specs.Prelude.{◌≡◌, ◌++◌, ◌≤◌, length, IfOk, OnOk, OnErr, IsTrue};
-ghost use Rattle.ge_model_codec.specs.Reading.{Reads, ReadsWhole};
+ghost use Rattle.ge_model_codec.specs.Reading.{ReadsAs, ReadsWhole};
 ghost use Rattle.ge_model_codec.specs.Code.{whole};
 ghost use Rattle.ge_model_codec.specs.Cluster.{cluster_code, cluster_code_1};
 ghost use Rattle.ge_model_codec.specs.Entries.{entry_code_1};
@@ -54,7 +54,7 @@ pub fn take_cluster_1(alloc: Global, bytes: &[u8]) -> Result<Cluster, TakeFault>
 /// Reads an entry of format 1 at a place, which is at most the length, and tells where it ends.
 pub fn take_entry_1(alloc: Global, bytes: &[u8], at: usize) -> Result<(Entry, usize), TakeFault>
     requires { at ≤ length bytes.now }
-    ensures read { Reads result (entry_code_1.read bytes.now at) }
+    ensures read { ReadsAs result (entry_code_1.read bytes.now at) }
     ensures within { IfOk result (λ p. p.1 ≤ length bytes.now) }
 {
     <Format1 as Format<Entry>>::take(alloc, bytes, at)

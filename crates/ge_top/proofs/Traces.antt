@@ -5,7 +5,7 @@ use Rattle.std.proofs.Math.Seq.{take-append-add, take-length}
 use Rattle.ge_outside.specs.Streams.{Gains, GainsPrefix, Gains-append}
 use Rattle.ge_model_rows.specs.ClusterRows.{Cluster}
 use Rattle.ge_model_rows.specs.EventRows.{Event}
-use Rattle.ge_model_plan.specs.Render.{rendered}
+use Rattle.ge_model_core.specs.Render.{rendered}
 use Rattle.ge_model_plan.specs.Trace.{answer_of, after_entries, unless_stopped, output, WroteAll, WroteReplies, WroteFront}
 use Rattle.ge_top.specs.declared.answering.Answer.{Answer}
 use Rattle.ge_top.specs.Answering.{bytes_of, IsAnswer}

@@ -2,7 +2,7 @@
 use Rattle.std.specs.Prelude.{◌≡◌, ℕ, Bool, List, codes}
 use Rattle.ge_model_rows.specs.ClusterRows.{Cluster}
 use Rattle.ge_model_rows.specs.EventRows.{Event}
-use Rattle.ge_model_plan.specs.Render.{rendered}
+use Rattle.ge_model_core.specs.Render.{rendered}
 use Rattle.ge_model_plan.specs.Trace.{answer_of, after_entries}
 use Rattle.ge_top.specs.declared.answering.Rendered.{Rendered}
 use Rattle.ge_top.specs.declared.answering.Rendered.TheVariants.{Planned, NoMemory}

@@ -1,6 +1,6 @@
 // The whole cluster.
 ghost use Rattle.std.specs.Prelude.{◌≡◌, ◌≤◌, length, IfOk};
-ghost use Rattle.ge_model_codec.specs.Reading.{Reads};
+ghost use Rattle.ge_model_codec.specs.Reading.{ReadsAs};
 ghost use Rattle.ge_model_codec.specs.Cluster.{work_code, cluster_front_code, cluster_of};
 
 use crate::canon::{Canon, Format, Format1, Format2};
@@ -52,7 +52,7 @@ fn take_work<J: Format<Job>>(
     at: usize,
 ) -> Result<(Work, usize), TakeFault>
     requires { at ≤ length bytes.now }
-    ensures read { Reads result ((work_code J.code).read bytes.now at) }
+    ensures read { ReadsAs result ((work_code J.code).read bytes.now at) }
     ensures within { IfOk result (λ p. p.1 ≤ length bytes.now) }
 {
     let (lists, mid) = <(List<Text>, List<Text>)>::take(alloc, bytes, at)?;
@@ -69,7 +69,7 @@ fn take_front<C: Format<ComplexDef>, J: Format<Job>>(
     at: usize,
 ) -> Result<(ClusterFront, usize), TakeFault>
     requires { at ≤ length bytes.now }
-    ensures read { Reads result ((cluster_front_code C.code J.code).read bytes.now at) }
+    ensures read { ReadsAs result ((cluster_front_code C.code J.code).read bytes.now at) }
     ensures within { IfOk result (λ p. p.1 ≤ length bytes.now) }
 {
     let (counters, mid) = Counters::take(alloc, bytes, at)?;

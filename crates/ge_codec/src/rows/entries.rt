@@ -1,6 +1,6 @@
 // Entries.
 ghost use Rattle.std.specs.Prelude.{◌≤◌, ◌<◌, length, IfOk};
-ghost use Rattle.ge_model_codec.specs.Reading.{Reads};
+ghost use Rattle.ge_model_codec.specs.Reading.{ReadsAs};
 ghost use Rattle.ge_model_codec.specs.Entries.{change_at, first_changes_code};
 
 use crate::canon::{Canon, Format, Format1, Format2};
@@ -106,7 +106,7 @@ fn take_job_change<J: Format<Job>, O: Format<Item>>(
 ) -> Result<(Change, usize), TakeFault>
     requires tag { tag < 6 }
     requires at { at ≤ length bytes.now }
-    ensures read { Reads result (change_at J.code O.code tag bytes.now at) }
+    ensures read { ReadsAs result (change_at J.code O.code tag bytes.now at) }
     ensures within { IfOk result (λ p. p.1 ≤ length bytes.now) }
 {
     match tag {
@@ -147,7 +147,7 @@ fn take_other_change<J: Format<Job>, O: Format<Item>>(
 ) -> Result<(Change, usize), TakeFault>
     requires tag { (6 ≤ tag) × (tag < 11) }
     requires at { at ≤ length bytes.now }
-    ensures read { Reads result (change_at J.code O.code tag bytes.now at) }
+    ensures read { ReadsAs result (change_at J.code O.code tag bytes.now at) }
     ensures within { IfOk result (λ p. p.1 ≤ length bytes.now) }
 {
     match tag {
@@ -186,7 +186,7 @@ fn take_booking<J: Format<Job>, O: Format<Item>>(
 ) -> Result<(Change, usize), TakeFault>
     requires tag { (11 ≤ tag) × (tag < 13) }
     requires at { at ≤ length bytes.now }
-    ensures read { Reads result (change_at J.code O.code tag bytes.now at) }
+    ensures read { ReadsAs result (change_at J.code O.code tag bytes.now at) }
     ensures within { IfOk result (λ p. p.1 ≤ length bytes.now) }
 {
     match tag {
@@ -211,7 +211,7 @@ fn take_change<J: Format<Job>, O: Format<Item>>(
 ) -> Result<(Change, usize), TakeFault>
     requires count { count ≤ 13 }
     requires at { at ≤ length bytes.now }
-    ensures read { Reads result ((first_changes_code count J.code O.code).read bytes.now at) }
+    ensures read { ReadsAs result ((first_changes_code count J.code O.code).read bytes.now at) }
     ensures within { IfOk result (λ p. p.1 ≤ length bytes.now) }
 {
     let (tag, mid) = take_tag(bytes, at, count)?;

@@ -1,7 +1,7 @@
 // Configured objects and their names.
 ghost use Rattle.std.specs.Prelude.{◌≤◌, ◌<◌, length, IfOk};
-ghost use Rattle.ge_model_codec.specs.Reading.{Reads};
-ghost use Rattle.ge_model_codec.specs.Entries.{item_at, item_code_with};
+ghost use Rattle.ge_model_codec.specs.Reading.{ReadsAs};
+ghost use Rattle.ge_model_codec.specs.Entries.{item_read_at, item_code_with};
 
 use crate::canon::{Canon, Format, Format1, Format2};
 use crate::pairs::{Fields, put_variant};
@@ -24,7 +24,7 @@ fn take_machine_item<C: Format<ComplexDef>>(
 ) -> Result<(Item, usize), TakeFault>
     requires tag { tag < 6 }
     requires at { at ≤ length bytes.now }
-    ensures read { Reads result (item_at C.code tag bytes.now at) }
+    ensures read { ReadsAs result (item_read_at C.code tag bytes.now at) }
     ensures within { IfOk result (λ p. p.1 ≤ length bytes.now) }
 {
     match tag {
@@ -65,7 +65,7 @@ fn take_people_item<C: Format<ComplexDef>>(
 ) -> Result<(Item, usize), TakeFault>
     requires tag { (6 ≤ tag) × (tag < 10) }
     requires at { at ≤ length bytes.now }
-    ensures read { Reads result (item_at C.code tag bytes.now at) }
+    ensures read { ReadsAs result (item_read_at C.code tag bytes.now at) }
     ensures within { IfOk result (λ p. p.1 ≤ length bytes.now) }
 {
     match tag {
@@ -98,7 +98,7 @@ fn take_setting_item<C: Format<ComplexDef>>(
 ) -> Result<(Item, usize), TakeFault>
     requires tag { (10 ≤ tag) × (tag < 13) }
     requires at { at ≤ length bytes.now }
-    ensures read { Reads result (item_at C.code tag bytes.now at) }
+    ensures read { ReadsAs result (item_read_at C.code tag bytes.now at) }
     ensures within { IfOk result (λ p. p.1 ≤ length bytes.now) }
 {
     match tag {
@@ -125,7 +125,7 @@ fn take_item<C: Format<ComplexDef>>(
     at: usize,
 ) -> Result<(Item, usize), TakeFault>
     requires { at ≤ length bytes.now }
-    ensures read { Reads result ((item_code_with C.code).read bytes.now at) }
+    ensures read { ReadsAs result ((item_code_with C.code).read bytes.now at) }
     ensures within { IfOk result (λ p. p.1 ≤ length bytes.now) }
 {
     let (tag, mid) = take_tag(bytes, at, 13)?;

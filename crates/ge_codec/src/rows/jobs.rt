@@ -1,6 +1,6 @@
 // Jobs and accounting lines.
 ghost use Rattle.std.specs.Prelude.{◌≡◌};
-ghost use Rattle.ge_model_codec.specs.Jobs.{job_of};
+ghost use Rattle.ge_model_codec.specs.Jobs.{job_from_parts};
 
 use crate::canon::{Canon, Format, Format1};
 use crate::pairs::Fields;
@@ -19,7 +19,7 @@ type JobFront = (
 
 // A job of its fields.
 fn job_of(front: JobFront, advance: u32) -> Job
-    ensures { result ≡ job_of (front, advance) }
+    ensures { result ≡ job_from_parts (front, advance) }
 {
     let (
         (number, name, owner, group, account),

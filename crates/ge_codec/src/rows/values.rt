@@ -1,6 +1,6 @@
 // Values and the complex table.
 ghost use Rattle.std.specs.Prelude.{◌≤◌, length, IfOk};
-ghost use Rattle.ge_model_codec.specs.Reading.{Reads};
+ghost use Rattle.ge_model_codec.specs.Reading.{ReadsAs};
 ghost use Rattle.ge_model_codec.specs.Configured.{first_consumables_code, complex_def_code_with};
 
 use crate::canon::{Canon, Format, Format1, Format2};
@@ -153,7 +153,7 @@ impl Canon for Requestable {
 fn take_consumable(bytes: &[u8], at: usize, count: u8) -> Result<(Consumable, usize), TakeFault>
     requires count { count ≤ 3 }
     requires at { at ≤ length bytes.now }
-    ensures read { Reads result ((first_consumables_code count).read bytes.now at) }
+    ensures read { ReadsAs result ((first_consumables_code count).read bytes.now at) }
     ensures within { IfOk result (λ p. p.1 ≤ length bytes.now) }
 {
     let (tag, end) = take_tag(bytes, at, count)?;
@@ -206,7 +206,7 @@ fn take_complex_def<C: Format<Consumable>>(
     at: usize,
 ) -> Result<(ComplexDef, usize), TakeFault>
     requires { at ≤ length bytes.now }
-    ensures read { Reads result ((complex_def_code_with C.code).read bytes.now at) }
+    ensures read { ReadsAs result ((complex_def_code_with C.code).read bytes.now at) }
     ensures within { IfOk result (λ p. p.1 ≤ length bytes.now) }
 {
     let (front, mid) = ComplexDefFront::take(alloc, bytes, at)?;

@@ -1,6 +1,6 @@
 use Rattle.std.proofs.Common.{◌≡◌, ◌++◌, take}
 use Rattle.std.specs.Prelude.{flat_map}
-use Rattle.ge_model_plan.specs.Render.{rendered_line}
+use Rattle.ge_model_core.specs.Render.{rendered_line}
 use Rattle.ge_core.proofs.rendering.append_lines.Given as goal
 
 abbrev pub invariant-loop-line : goal.invariant-loop-line

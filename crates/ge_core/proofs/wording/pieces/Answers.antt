@@ -1,7 +1,7 @@
 use Rattle.std.proofs.Common.{rules}
 use Rattle.std.proofs.lemmas.Iterator.Consumers.{map_from_collect}
 use Rattle.std.proofs.lemmas.Iterator.Splits.{YieldsList-from_slice_split}
-use Rattle.ge_model_script.specs.Header.{is_blank}
+use Rattle.ge_model_text.specs.Words.{is_blank}
 use Rattle.ge_core.proofs.wording.pieces.Goals as goal
 
 pub returns : goal.returns

@@ -1,8 +1,8 @@
 use Rattle.std.proofs.Common.{◌≡◌, false, refl, codes}
 use Rattle.std.specs.Fmt.{digits}
 use Rattle.ge_base.specs.declared.refusal.Refusal.TheVariants.{NoMemory}
-use Rattle.ge_model_plan.specs.Refusals.{refusal_reply}
-use Rattle.ge_model_plan.specs.Render.{rendered}
+use Rattle.ge_model_core.specs.Refusals.{refusal_reply}
+use Rattle.ge_model_core.specs.Render.{rendered}
 use Rattle.ge_top.proofs.answering.without_memory.Goals as goal
 
 no_memory_bytes : codes "99 1\nno memory\n" ≡ rendered (refusal_reply NoMemory)
