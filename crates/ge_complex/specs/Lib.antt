@@ -1,0 +1,2 @@
+pub mod ByShortcut
+pub mod Read
