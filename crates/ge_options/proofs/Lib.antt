@@ -1,0 +1,4 @@
+pub mod Known
+pub mod Lacking
+pub mod Passed
+pub mod Steps
