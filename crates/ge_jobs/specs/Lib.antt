@@ -1,0 +1,2 @@
+pub mod JobEdits
+pub mod Deletions

@@ -1,0 +1,159 @@
+// The tasks that targets name.
+ghost use Rattle.std.specs.Prelude.{◌≡◌, IfOk, OnOk};
+ghost use Rattle.std.specs.Option.{option_copied};
+ghost use Rattle.ge_model_jobs.specs.Picks.{named_in as named_of, unnamed_in as unnamed_of, names_task, both_named, with_named, join_pick, joined_picks};
+
+use ge_ranges::{contains, difference, meet, union};
+use ge_rows::{Pick, Row, Table, TaskSet, Twin};
+use std::alloc::{AllocError, Global};
+use std::marker::Model;
+
+/// The tasks of a job that targets name together: some, or all. Contracts see them as an option, where none is all.
+#[derive(Drop)]
+pub struct NamedTasks {
+    tasks: Option<TaskSet>,
+}
+
+impl Model for NamedTasks {
+    ghost use Rattle.std.specs.Prelude.{Option, List};
+    ghost use Rattle.ge_model_rows.specs.TaskRows.{TaskSpan};
+
+    ghost Value = { Option (List TaskSpan) };
+
+    ghost view = { λ n. n.tasks };
+}
+
+impl NamedTasks {
+    /// The tasks, if not all.
+    pub fn tasks(&self) -> &Option<TaskSet>
+        ensures { result.now ≡ self.now }
+    {
+        &self.tasks
+    }
+}
+
+impl Row for NamedTasks {
+    type Mark = ();
+
+    type Facts = ();
+
+    type Label = ();
+
+    ghost short = { λ _. tt };
+
+    ghost labels = { λ _. (tt, tt, tt) };
+
+    fn weights(&self) -> (u128, u128) {
+        (0, 0)
+    }
+
+    fn bears(&self, _mark: &()) -> bool {
+        false
+    }
+
+    fn marks(&self, alloc: Global) -> Result<Vec<()>, AllocError> {
+        Ok(Vec::new(alloc))
+    }
+
+    fn keeps_short() -> bool {
+        false
+    }
+
+    fn short(&self) {}
+
+    fn labels(&self, _alloc: Global) -> Result<((), (), ()), AllocError> {
+        Ok(((), (), ()))
+    }
+
+    fn orderly(&self) {}
+}
+
+/// Whether a target's tasks, all where it names none, have a number.
+pub(crate) fn names(tasks: &Option<TaskSet>, task: u32) -> bool
+    ensures { result ≡ names_task tasks.now task }
+{
+    match tasks {
+        None => true,
+        Some(tasks) => contains(tasks, task),
+    }
+}
+
+/// The part of a set that a target names.
+pub(crate) fn named_in(
+    alloc: Global,
+    tasks: &Option<TaskSet>,
+    set: &TaskSet,
+) -> Result<TaskSet, AllocError>
+    ensures { IfOk result (λ part. part ≡ named_of tasks.now set.now) }
+{
+    match tasks {
+        None => set.twin(alloc),
+        Some(tasks) => meet(alloc, set, tasks),
+    }
+}
+
+/// The part of a set that a target doesn't name.
+pub(crate) fn unnamed_in(
+    alloc: Global,
+    tasks: &Option<TaskSet>,
+    set: &TaskSet,
+) -> Result<TaskSet, AllocError>
+    ensures { IfOk result (λ part. part ≡ unnamed_of tasks.now set.now) }
+{
+    match tasks {
+        None => Ok(TaskSet::new(alloc)),
+        Some(tasks) => difference(alloc, set, tasks),
+    }
+}
+
+// What two targets of one job name together.
+fn both(
+    alloc: Global,
+    first: &Option<TaskSet>,
+    second: &Option<TaskSet>,
+) -> Result<Option<TaskSet>, AllocError>
+    ensures { IfOk result (λ tasks. tasks ≡ both_named first.now second.now) }
+{
+    let Some(first) = first else {
+        return Ok(None);
+    };
+    let Some(second) = second else {
+        return Ok(None);
+    };
+    let together = union(alloc, first, second)?;
+    Ok(Some(together))
+}
+
+// What the targets of a job name with one more.
+fn more(
+    alloc: Global,
+    so_far: Option<&NamedTasks>,
+    tasks: &Option<TaskSet>,
+) -> Result<NamedTasks, AllocError>
+    ensures { IfOk result (λ named. named ≡ with_named (option_copied so_far.entry) tasks.now) }
+{
+    let tasks = match so_far {
+        None => tasks.twin(alloc)?,
+        Some(so_far) => both(alloc, &so_far.tasks, tasks)?,
+    };
+    Ok(NamedTasks { tasks })
+}
+
+fn join(alloc: Global, rows: &mut Table<u32, NamedTasks>, pick: &Pick) -> Result<(), AllocError>
+    ensures { OnOk result (rows.new ≡ join_pick rows.old pick.now) }
+{
+    let named = more(alloc, rows.get(&pick.job), &pick.tasks)?;
+    let _before = rows.insert(pick.job, named)?;
+    Ok(())
+}
+
+/// The jobs that targets name (qdel, qmod), each once, by number, with the tasks that any of its targets names.
+pub fn joined(alloc: Global, picks: &[Pick]) -> Result<Table<u32, NamedTasks>, AllocError>
+    ensures { IfOk result (λ rows. rows ≡ joined_picks picks.now) }
+{
+    let mut rows = Table::new(alloc);
+    for pick in picks {
+        join(alloc, &mut rows, pick)?;
+    }
+    Ok(rows)
+}
