@@ -1,0 +1,4 @@
+pub mod FiveLines
+pub mod EightWords
+pub mod RuleLines
+pub mod RuleWords

@@ -1,0 +1,5 @@
+pub mod Fitting
+pub mod Joined
+pub mod Several
+pub mod Settings
+pub mod Queues
