@@ -1,0 +1,5 @@
+pub mod Rising
+pub mod Ordered
+pub mod Slots
+pub mod Scaled
+pub mod Zipped

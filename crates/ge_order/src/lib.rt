@@ -1,0 +1,24 @@
+//! The candidates of a run, the urgency and the priority of jobs, and the order in which a run takes their tasks (sge_priority,
+//! sched_conf).
+//!
+//! Contracts see the rows of `ge_rows`, and say by the definitions of `ge_model_order` what each call gives. Each call is total:
+//! a job that isn't there has no tasks, and the priority 0. Only want of memory fails.
+//!
+//! - [`candidates`]: the jobs with a task that a run may start.
+//! - [`urgency`]: the urgency of a job, which takes no memory. [`prios`]: the priorities of jobs with their tickets.
+//! - [`order`]: the tasks by the priorities of their jobs.
+#![tactic(auto)]
+
+mod asked;
+mod choosing;
+mod ordering;
+mod parts;
+mod priority;
+mod standing;
+mod tasks;
+mod urging;
+
+pub use choosing::candidates;
+pub use ordering::order;
+pub use priority::prios;
+pub use urging::urgency;

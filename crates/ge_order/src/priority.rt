@@ -1,0 +1,100 @@
+// The priorities of jobs (sge_priority).
+ghost use Rattle.std.specs.Prelude.{◌≡◌, IfOk, map, zip};
+ghost use Rattle.ge_model_order.specs.Amounts.{greatest as greatest_of};
+ghost use Rattle.ge_model_order.specs.Priority.{prios_of};
+ghost use Rattle.ge_order.specs.Standings.{prio_of};
+
+use crate::parts::{priority_part, tickets_part, urgency_part, weighted_sum};
+use crate::standing::{Standing, highest, lowest, standings};
+use ge_rows::{Cluster, List, Prio, Sched};
+use std::alloc::{AllocError, Global};
+
+/// What urgencies and tickets are parts of: the least and the greatest urgency, and the most tickets.
+#[derive(Clone, Copy)]
+pub(crate) struct Scale {
+    /// The least urgency.
+    pub low: u128,
+    /// The greatest urgency.
+    pub high: u128,
+    /// The most tickets.
+    pub most: u64,
+}
+
+fn greatest(tickets: &[u64]) -> u64
+    ensures { result ≡ greatest_of tickets.now }
+{
+    let mut most = 0;
+    for held in tickets {
+        most = most.max(*held);
+    }
+    most
+}
+
+fn prio_at(sched: &Sched, scale: Scale, standing: &Standing, tickets: u64) -> Prio
+    ensures { result ≡ prio_of sched.now scale (standing.now, tickets) }
+{
+    let Some(urgent) = standing.urgent else {
+        return Prio {
+            job: standing.job,
+            np: 0,
+            nu: 0,
+            nt: 0,
+            total: 0,
+        };
+    };
+    let np = priority_part(urgent.priority);
+    let nu = urgency_part(scale.low, scale.high, urgent.urgency);
+    let nt = tickets_part(scale.most, tickets);
+    Prio {
+        job: standing.job,
+        np,
+        nu,
+        nt,
+        total: weighted_sum(sched, np, nu, nt),
+    }
+}
+
+fn prios_on(
+    alloc: Global,
+    sched: &Sched,
+    scale: Scale,
+    standings: &[Standing],
+    tickets: &[u64],
+) -> Result<List<Prio>, AllocError>
+    ensures { IfOk result (λ prios. prios ≡ map (prio_of sched.now scale)
+        (zip standings.now tickets.now)) }
+{
+    let mut prios = List::new(alloc);
+    for (standing, tickets) in standings.iter().zip(tickets) {
+        prios.push(prio_at(sched, scale, standing, *tickets))?;
+    }
+    Ok(prios)
+}
+
+/// The priorities of jobs at a moment, in their order; the second list has the tickets of each. Urgency and tickets count by what
+/// these jobs have of them, so that all candidates of a run belong into one list. A job that isn't there has a row of zeros.
+#[tactic(auto, using(crate::proofs::Scaled::prios_are))]
+pub fn prios(
+    alloc: Global,
+    c: &Cluster,
+    jobs: &List<u32>,
+    tickets: &List<u64>,
+    now: u64,
+) -> Result<List<Prio>, AllocError>
+    ensures { IfOk result (λ prios. prios ≡ prios_of c.now jobs.now tickets.now now) }
+{
+    let standings = standings(alloc, c, jobs.items(), now)?;
+    let scale = Scale {
+        low: lowest(standings.as_slice()),
+        high: highest(standings.as_slice()),
+        most: greatest(tickets.items()),
+    };
+    let prios = prios_on(
+        alloc,
+        &c.sched,
+        scale,
+        standings.as_slice(),
+        tickets.items(),
+    )?;
+    Ok(prios)
+}

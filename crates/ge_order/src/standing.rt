@@ -1,0 +1,121 @@
+// What is known of jobs before their priorities can be told.
+ghost use Rattle.std.specs.Prelude.{◌≡◌, IfOk, map, fold, codes, unwrap_or, None};
+ghost use Rattle.std.specs.Option.{option_copied};
+ghost use Rattle.ge_model_value.specs.Complexes.{complex_at};
+ghost use Rattle.ge_model_order.specs.Amounts.{least, greatest};
+ghost use Rattle.ge_order.specs.Standings.{standing_of, urgencies_of, with_lesser, with_greater};
+
+use crate::asked::slots_complex;
+use crate::urging::urgency_with;
+use ge_jobs::get;
+use ge_rows::{Cluster, ComplexDef};
+use std::alloc::{AllocError, Global};
+
+/// What the priority of a job stands on beside its tickets.
+#[derive(Clone, Copy)]
+pub(crate) struct Urgent {
+    /// `-p`.
+    pub priority: i32,
+    /// Its urgency.
+    pub urgency: u128,
+}
+
+/// A job of a list, which may not be there.
+#[derive(Clone, Copy)]
+pub(crate) struct Standing {
+    /// Its number.
+    pub job: u32,
+    /// What is known of it, if it is there.
+    pub urgent: Option<Urgent>,
+}
+
+fn standing_at(c: &Cluster, unit: Option<&ComplexDef>, number: u32, now: u64) -> Standing
+    ensures { option_copied unit.entry ≡ complex_at c.now (codes "slots")
+        → result ≡ standing_of c.now now number }
+{
+    match get(&c.jobs, number) {
+        None => Standing {
+            job: number,
+            urgent: None,
+        },
+        Some(job) => Standing {
+            job: number,
+            urgent: Some(Urgent {
+                priority: job.priority,
+                urgency: urgency_with(c, unit, job, now),
+            }),
+        },
+    }
+}
+
+/// What is known of these jobs.
+pub(crate) fn standings(
+    alloc: Global,
+    c: &Cluster,
+    jobs: &[u32],
+    now: u64,
+) -> Result<Vec<Standing>, AllocError>
+    ensures { IfOk result (λ standings. standings.items ≡ map (standing_of c.now now) jobs.now) }
+{
+    let unit = slots_complex(c);
+    let mut standings = Vec::new(alloc);
+    for number in jobs {
+        standings.push(standing_at(c, unit, *number, now))?;
+    }
+    Ok(standings)
+}
+
+fn lesser(low: Option<u128>, standing: &Standing) -> Option<u128>
+    ensures { result ≡ with_lesser low standing.now }
+{
+    match (standing.urgent, low) {
+        (None, _) => low,
+        (Some(urgent), None) => Some(urgent.urgency),
+        (Some(urgent), Some(low)) => Some(low.min(urgent.urgency)),
+    }
+}
+
+fn least_of(standings: &[Standing]) -> Option<u128>
+    ensures { result ≡ fold with_lesser None standings.now }
+{
+    let mut low = None;
+    for standing in standings {
+        low = lesser(low, standing);
+    }
+    low
+}
+
+/// The least urgency, 0 where there is none.
+#[tactic(auto, using(crate::proofs::Scaled::lowest_is))]
+pub(crate) fn lowest(standings: &[Standing]) -> u128
+    ensures { result ≡ least (urgencies_of standings.now) }
+{
+    least_of(standings).unwrap_or(0)
+}
+
+fn greater(high: u128, standing: &Standing) -> u128
+    ensures { result ≡ with_greater high standing.now }
+{
+    match standing.urgent {
+        None => high,
+        Some(urgent) => high.max(urgent.urgency),
+    }
+}
+
+fn greatest_of(standings: &[Standing]) -> u128
+    ensures { result ≡ fold with_greater 0 standings.now }
+{
+    let mut high = 0;
+    for standing in standings {
+        high = greater(high, standing);
+    }
+    high
+}
+
+/// The greatest urgency, 0 where there is none.
+#[tactic(auto, using(crate::proofs::Scaled::highest_is))]
+pub(crate) fn highest(standings: &[Standing]) -> u128
+    ensures { result ≡ greatest (urgencies_of standings.now) }
+{
+    greatest_of(standings)
+}

@@ -1,0 +1,54 @@
+// The urgency of a job (complex, sched_conf, sge_pe).
+ghost use Rattle.std.specs.Prelude.{◌≡◌, ◌-◌, ◌/◌, ◌==◌, if◌then◌else◌, max, codes};
+ghost use Rattle.std.specs.Option.{option_copied};
+ghost use Rattle.ge_base.specs.Fixed.{cut_product};
+ghost use Rattle.ge_model_value.specs.Complexes.{complex_at};
+ghost use Rattle.ge_model_order.specs.Urgency.{urgency_of};
+
+use crate::asked::{resources_urgency, slots_complex};
+use ge_base::{product_of, sum_of};
+use ge_rows::{Cluster, ComplexDef, Job};
+
+/// The greatest urgency.
+const GREATEST: u128 = (1 << 100) - 1;
+
+fn waiting_urgency(c: &Cluster, submitted: u64, now: u64) -> u128
+    ensures { result ≡ cut_product c.now.sched.w_waiting (now - submitted) }
+{
+    product_of(
+        u128::from(c.sched.w_waiting),
+        u128::from(now.saturating_sub(submitted)),
+    )
+}
+
+fn deadline_urgency(c: &Cluster, deadline: u64, now: u64) -> u64
+    ensures { result ≡ (if deadline == 0 then 0
+        else c.now.sched.w_deadline / max 1 (deadline - now)) }
+{
+    if deadline == 0 {
+        0
+    } else {
+        c.sched.w_deadline / deadline.saturating_sub(now).max(1)
+    }
+}
+
+/// The urgency of a job, given the row that complexes have for slots.
+#[tactic(auto, unfolding(ge_model_order::specs::Urgency::urgency_of))]
+pub(crate) fn urgency_with(c: &Cluster, unit: Option<&ComplexDef>, job: &Job, now: u64) -> u128
+    ensures { option_copied unit.entry ≡ complex_at c.now (codes "slots")
+        → result ≡ urgency_of c.now job.now now }
+{
+    let asked = resources_urgency(c, unit, &job.request);
+    let waiting = waiting_urgency(c, job.submitted, now);
+    let deadline = u128::from(deadline_urgency(c, job.deadline, now));
+    sum_of(sum_of(asked, waiting), deadline).min(GREATEST)
+}
+
+/// The urgency of a job at a moment, in millionths: what each resource that it asks for adds (complex, urgency) for each unit and
+/// assumed slot (sge_pe, urgency_slots), what waiting adds (sched_conf, weight_waiting_time), and what its deadline adds the
+/// more the nearer it is (weight_deadline). At most 2^100 - 1. It takes no memory.
+pub fn urgency(c: &Cluster, job: &Job, now: u64) -> u128
+    ensures { result ≡ urgency_of c.now job.now now }
+{
+    urgency_with(c, slots_complex(c), job, now)
+}

@@ -1,0 +1,4 @@
+pub mod Turns
+pub mod Walked
+pub mod Linked
+pub mod Shared

@@ -1,0 +1,4 @@
+pub mod Nodes
+pub mod Found
+pub mod Leveled
+pub mod Listed

@@ -1,0 +1,3 @@
+pub mod Raised
+pub mod Turns
+pub mod Divided

@@ -1,0 +1,15 @@
+//! Functional and override tickets of jobs (sched_conf, `weight_tickets_functional`; user and project, `fshare` and
+//! `oticket`; qsub, `-js` and `-ot`).
+//!
+//! The jobs of each user and of each project are counted once, and the shares are added up once; then each job's tickets
+//! are a few look-ups. Contracts say by `ge_model_order` what the call gives.
+//!
+//! - [`tickets`]: the tickets of each job of a list.
+#![tactic(auto)]
+
+mod counting;
+mod dividing;
+mod listing;
+mod summing;
+
+pub use listing::tickets;
