@@ -1,0 +1,126 @@
+//! What a host is to run and to kill.
+
+ghost use Rattle.std.specs.Prelude.{◌≡◌, ◌++◌, ◌∷◌, [], IfOk, OnOk, codes, decimal, fold, map};
+ghost use Rattle.std.specs.Map.{values_of};
+ghost use Rattle.ge_model_report.specs.Orders.{is_run_at, order_text, orders_of};
+ghost use Rattle.ge_job_lists.specs.Gathered.{with_order, with_orders};
+
+use crate::grants::slots_of;
+use ge_rows::{Cluster, Grant, Job, List, Running, Table, Text, Twin};
+use ge_wording::{decimal_text, decimals4, join_words};
+use std::alloc::{AllocError, Global};
+use std::collections::BTreeMap;
+
+/// Where an order stands: by its serial, then its job, then its task.
+type Place = (u64, u32, u32);
+
+fn is_run_at(host: &Text, grants: &[Grant]) -> bool
+    ensures { result ≡ is_run_at host.now grants.now }
+{
+    match grants {
+        [] => false,
+        [grant, ..] => grant.at.host == *host,
+    }
+}
+
+// To run a task, or to kill one that is marked for deletion.
+fn order_of(alloc: Global, job: u32, task: u32, running: &Running) -> Result<Text, AllocError>
+    ensures { IfOk result (λ text. text ≡ order_text ((running.now.serial, job, task), running.now)) }
+{
+    if running.deleting {
+        let serial = decimal_text(alloc, u128::from(running.serial))?;
+        return join_words(alloc, b" ", &[b"kill", serial.bytes()]);
+    }
+    let (serial, job, task, slots) = decimals4(
+        alloc,
+        u128::from(running.serial),
+        u128::from(job),
+        u128::from(task),
+        slots_of(running.grants.items()),
+    )?;
+    let words: [&[u8]; 5] = [
+        b"run",
+        serial.bytes(),
+        job.bytes(),
+        task.bytes(),
+        slots.bytes(),
+    ];
+    join_words(alloc, b" ", &words)
+}
+
+// One more task, where the host runs it.
+fn put_task(
+    alloc: Global,
+    texts: &mut BTreeMap<Place, Text>,
+    host: &Text,
+    job: u32,
+    task: u32,
+    running: &Running,
+) -> Result<(), AllocError>
+    ensures { OnOk result (texts.new.entries ≡ with_order host.now job texts.old.entries (task, running.now)) }
+{
+    if !is_run_at(host, running.grants.items()) {
+        return Ok(());
+    }
+    let text = order_of(alloc, job, task, running)?;
+    texts.insert((running.serial, job, task), text)?;
+    Ok(())
+}
+
+fn put_job(
+    alloc: Global,
+    texts: &mut BTreeMap<Place, Text>,
+    host: &Text,
+    number: u32,
+    job: &Job,
+) -> Result<(), AllocError>
+    ensures { OnOk result (texts.new.entries ≡ with_orders host.now texts.old.entries (number, job.now)) }
+{
+    for (task, running) in job.running.iter() {
+        put_task(alloc, texts, host, number, *task, running)?;
+    }
+    Ok(())
+}
+
+fn gathered(
+    alloc: Global,
+    jobs: &Table<u32, Job>,
+    host: &Text,
+) -> Result<BTreeMap<Place, Text>, AllocError>
+    ensures { IfOk result (λ texts. texts.entries ≡ fold (with_orders host.now) [] jobs.now) }
+{
+    let mut texts = BTreeMap::new(alloc);
+    for (number, job) in jobs.iter() {
+        put_job(alloc, &mut texts, host, *number, job)?;
+    }
+    Ok(texts)
+}
+
+fn gathered_lines(
+    alloc: Global,
+    jobs: &Table<u32, Job>,
+    host: &Text,
+) -> Result<List<Text>, AllocError>
+    ensures { IfOk result (λ lines. lines ≡ values_of (fold (with_orders host.now) [] jobs.now)) }
+{
+    let texts = gathered(alloc, jobs, host)?;
+    let mut lines = List::new(alloc);
+    for text in texts.values() {
+        lines.push(text.twin(alloc)?)?;
+    }
+    Ok(lines)
+}
+
+/// What the daemon of a host is to run and to kill, by serial: the tasks whose first grant is on the host.
+///
+/// A line is `run`, the serial, the job, the task and the slots of all grants, or `kill` and the serial of a task that is
+/// marked for deletion.
+#[tactic(auto, using(crate::proofs::GatheredOrders::gathered_are_orders))]
+pub fn orders(alloc: Global, c: &Cluster, host: &Text) -> Result<List<Text>, AllocError>
+    ensures { IfOk result (λ lines. lines ≡ orders_of c.now host.now) }
+{
+    match gathered_lines(alloc, &c.jobs, host) {
+        Ok(lines) => Ok(lines),
+        Err(want) => Err(want),
+    }
+}
