@@ -1,0 +1,3 @@
+pub mod Demanded
+pub mod Gathered
+pub mod Placed

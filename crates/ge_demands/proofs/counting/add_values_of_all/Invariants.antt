@@ -1,0 +1,11 @@
+use Rattle.std.proofs.Common.{◌≡◌, fold}
+use Rattle.std.specs.Map.{keys_of}
+use Rattle.ge_model_rows.specs.ScheduleRows.{Global}
+use Rattle.ge_demands.specs.Counts.{all_counted}
+use Rattle.ge_demands.specs.Found.{with_host_value}
+use Rattle.ge_demands.proofs.counting.add_values_of_all.Given as goal
+
+abbrev pub invariant-loop-name : goal.invariant-loop-name
+invariant-loop-name l =
+    fold (with_host_value l.cluster l.groups l.job Global) (all_counted l.found.items) l.name-iterator
+    ≡ fold (with_host_value l.cluster l.groups l.job Global) (all_counted l.fn.found.items) (keys_of l.row.values)

@@ -1,0 +1,48 @@
+-- What was found so far of the limits that a grant counts for: what counts of each, without the limits of which nothing is asked.
+use Rattle.std.specs.Prelude.{◌≡◌, ℕ, Bool, cond, List, [], ◌∷◌, ◌++◌, Option, Some, None, position}
+use Rattle.std.specs.Map.{lookup}
+use Rattle.std.specs.List.{list_any}
+use Rattle.ge_collections.specs.Keyed.{text_eq}
+use Rattle.ge_model_bookings.specs.Bookings.{same_limit}
+use Rattle.ge_model_value.specs.Values.{amount_in}
+use Rattle.ge_model_rows.specs.ClusterRows.{Cluster}
+use Rattle.ge_model_rows.specs.HostRows.{Groups, InstanceId}
+use Rattle.ge_model_rows.specs.JobRows.{Job}
+use Rattle.ge_model_rows.specs.ScheduleRows.{LimitId, Instance, Demand}
+use Rattle.ge_model_rows.specs.ValueRows.{Value, ComplexDef}
+use Rattle.ge_model_place.specs.Limits.{Counted as Limited, counted}
+use Rattle.ge_model_place.specs.Opening.{slots_name}
+
+-- what is asked of a consumable for one slot, or else its default
+abbrev pub amount_or_default : ComplexDef → Option Value → ℕ
+amount_or_default complex None = amount_in complex.fallback
+amount_or_default complex (Some value) = amount_in value
+
+-- whether a limit was found
+abbrev pub is_found : List Limited → LimitId → Bool
+is_found found limit = list_any (λ more. same_limit limit more.limit) found
+
+-- what counts of a limit, behind what was found, unless the limit was
+abbrev pub found_with : List Limited → List Limited → List Limited
+found_with found [] = found
+found_with found (more ∷ rest) = cond (is_found found more.limit) found (found ++ more ∷ [])
+
+-- what was found, with one more limit that a job's grant counts for
+abbrev pub with_limit : Cluster → Groups → Job → List Limited → LimitId → List Limited
+with_limit c groups job found limit = found_with found (counted c groups job limit)
+
+-- the same of a name that an instance has a value for; its slots are a limit whatever the values say
+abbrev pub with_instance_value : Cluster → Groups → Job → InstanceId → List Limited → List ℕ → List Limited
+with_instance_value c groups job at found name = cond (text_eq name slots_name) found (with_limit c groups job found (Instance at name))
+
+-- the same of a name that a host has a value for
+abbrev pub with_host_value : Cluster → Groups → Job → (List ℕ → LimitId) → List Limited → List ℕ → List Limited
+with_host_value c groups job limit found name = with_limit c groups job found (limit name)
+
+-- whether a demand is on a limit
+abbrev pub is_on : LimitId → Demand → Bool
+is_on limit demand = same_limit demand.limit limit
+
+-- the places of the demands are kept, each under its limit
+abbrev pub AreKept : List (LimitId × ℕ) → List Demand → Type 0
+AreKept places demands = (limit : LimitId) → lookup (same_limit limit) places ≡ position (is_on limit) demands

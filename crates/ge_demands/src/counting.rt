@@ -1,0 +1,430 @@
+//! The limits that a grant counts for.
+
+ghost use Rattle.std.specs.Prelude.{◌≡◌, ◌++◌, [], ◌∷◌, IfOk, OnOk, Some, None, fold, map};
+ghost use Rattle.std.specs.Map.{keys_of};
+ghost use Rattle.std.specs.List.{list_any};
+ghost use Rattle.std.specs.Option.{option_copied};
+ghost use Rattle.ge_collections.specs.Keyed.{at_text};
+ghost use Rattle.ge_model_bookings.specs.Bookings.{same_limit};
+ghost use Rattle.ge_model_rows.specs.ScheduleRows.{Global as Everywhere, Host, Instance, Pe, Quota};
+ghost use Rattle.ge_model_site.specs.Queues.{attr_at};
+ghost use Rattle.ge_model_place.specs.Opening.{global_name};
+ghost use Rattle.ge_model_place.specs.Limits.{configured_limits, counted_at, host_limits, instance_limits, limits_at, pe_limits, who_at};
+ghost use Rattle.ge_model_place.specs.Quotas.{quota_keys};
+ghost use Rattle.ge_demands.specs.Counts.{all_counted, counted_as};
+ghost use Rattle.ge_demands.specs.Found.{found_with, with_host_value, with_instance_value, with_limit};
+
+use crate::asking::{Asked, asked_of};
+use crate::capacities::{in_advance, in_environment, in_queue, in_quota, is_slots, on_host};
+use ge_bookings::is_same_limit;
+use ge_queues::{at_host, global_host};
+use ge_quota::{Who, keys};
+use ge_rows::{
+    Cluster, Groups, HostRow, InstanceId, Job, LimitId, List, QueueRow, QuotaKey, Text, Twin,
+    twins2,
+};
+use std::alloc::{AllocError, Global};
+
+/// A limit that a grant counts for. Contracts see the model's `Counted`.
+#[derive(Drop)]
+pub struct Counted {
+    /// The limit.
+    pub limit: LimitId,
+    /// How much of it there is.
+    pub capacity: u128,
+    /// What one slot asks of it, above 0.
+    pub amount: u64,
+    /// Whether all grants of the job ask that together, and once (complex, `consumable` JOB).
+    pub once: bool,
+}
+
+fn is_there(found: &[Counted], limit: &LimitId) -> bool
+    ensures { result ≡ list_any (λ more. same_limit limit.now more.limit) found.now }
+{
+    found.iter().any(|more| is_same_limit(limit, &more.limit))
+}
+
+// What counts, behind what was found, unless its limit was.
+#[tactic(auto, using(crate::proofs::Gathered::found_anywhere))]
+fn add_once(found: &mut Vec<Counted>, more: Counted) -> Result<(), AllocError>
+    ensures { OnOk result (all_counted found.new.items
+        ≡ found_with (all_counted found.old.items) (counted_as more ∷ [])) }
+{
+    if is_there(found.as_slice(), &more.limit) {
+        return Ok(());
+    }
+    found.push(more)?;
+    Ok(())
+}
+
+fn add(
+    found: &mut Vec<Counted>,
+    limit: LimitId,
+    capacity: u128,
+    asked: Asked,
+) -> Result<(), AllocError>
+    ensures { OnOk result (all_counted found.new.items
+        ≡ found_with (all_counted found.old.items)
+        (record { limit = limit; capacity = capacity; amount = asked.amount; once = asked.once } ∷ [])) }
+{
+    add_once(
+        found,
+        Counted {
+            limit,
+            capacity,
+            amount: asked.amount,
+            once: asked.once,
+        },
+    )
+}
+
+// A limit of an instance, which is only made where something is asked of it.
+fn add_of_instance(
+    alloc: Global,
+    cluster: &Cluster,
+    groups: &Groups,
+    job: &Job,
+    at: &InstanceId,
+    queue: &QueueRow,
+    found: &mut Vec<Counted>,
+    name: &Text,
+) -> Result<(), AllocError>
+    requires { at_text cluster.now.queues at.now.queue ≡ Some queue.now }
+    ensures { OnOk result (all_counted found.new.items
+        ≡ with_limit cluster.now groups.now job.now (all_counted found.old.items) (Instance at.now name.now)) }
+{
+    let asked = asked_of(cluster, job, name);
+    if asked.amount == 0 {
+        return Ok(());
+    }
+    let capacity = u128::from(in_queue(groups, at, name, Some(queue)));
+    let (at, name) = twins2(alloc, at, name)?;
+    add(found, LimitId::Instance(at, name), capacity, asked)
+}
+
+fn add_values_of_instance(
+    alloc: Global,
+    cluster: &Cluster,
+    groups: &Groups,
+    job: &Job,
+    at: &InstanceId,
+    queue: &QueueRow,
+    found: &mut Vec<Counted>,
+) -> Result<(), AllocError>
+    requires { at_text cluster.now.queues at.now.queue ≡ Some queue.now }
+    ensures { OnOk result (all_counted found.new.items
+        ≡ fold (with_instance_value cluster.now groups.now job.now at.now) (all_counted found.old.items)
+        (keys_of (attr_at queue.now.values groups.now at.now.host))) }
+{
+    for name in at_host(&queue.values, groups, &at.host).keys() {
+        if !is_slots(name) {
+            add_of_instance(alloc, cluster, groups, job, at, queue, found, name)?;
+        }
+    }
+    Ok(())
+}
+
+// The limits of an instance: those of its values, and its slots.
+#[tactic(auto, using(crate::proofs::Gathered::of_instance))]
+fn add_instance(
+    alloc: Global,
+    cluster: &Cluster,
+    groups: &Groups,
+    job: &Job,
+    at: &InstanceId,
+    found: &mut Vec<Counted>,
+) -> Result<(), AllocError>
+    ensures { OnOk result (all_counted found.new.items
+        ≡ fold (with_limit cluster.now groups.now job.now) (all_counted found.old.items)
+        (instance_limits cluster.now groups.now at.now (at_text cluster.now.queues at.now.queue))) }
+{
+    match cluster.queues.get(&at.queue) {
+        Some(queue) => {
+            add_values_of_instance(alloc, cluster, groups, job, at, queue, found)?;
+            let slots = Text::from_bytes(alloc, b"slots")?;
+            add_of_instance(alloc, cluster, groups, job, at, queue, found, &slots)
+        }
+        None => Ok(()),
+    }
+}
+
+fn add_of_host(
+    alloc: Global,
+    cluster: &Cluster,
+    groups: &Groups,
+    job: &Job,
+    host: &Text,
+    row: &HostRow,
+    found: &mut Vec<Counted>,
+    name: &Text,
+) -> Result<(), AllocError>
+    requires { at_text cluster.now.hosts host.now ≡ Some row.now }
+    ensures { OnOk result (all_counted found.new.items
+        ≡ with_limit cluster.now groups.now job.now (all_counted found.old.items) (Host host.now name.now)) }
+{
+    let asked = asked_of(cluster, job, name);
+    if asked.amount == 0 {
+        return Ok(());
+    }
+    let capacity = u128::from(on_host(name, Some(row)));
+    let (host, name) = twins2(alloc, host, name)?;
+    add(found, LimitId::Host(host, name), capacity, asked)
+}
+
+fn add_values_of_host(
+    alloc: Global,
+    cluster: &Cluster,
+    groups: &Groups,
+    job: &Job,
+    host: &Text,
+    row: &HostRow,
+    found: &mut Vec<Counted>,
+) -> Result<(), AllocError>
+    requires { at_text cluster.now.hosts host.now ≡ Some row.now }
+    ensures { OnOk result (all_counted found.new.items
+        ≡ fold (with_host_value cluster.now groups.now job.now (Host host.now)) (all_counted found.old.items)
+        (keys_of row.now.values)) }
+{
+    for name in row.values.keys() {
+        add_of_host(alloc, cluster, groups, job, host, row, found, name)?;
+    }
+    Ok(())
+}
+
+// The limits of a host.
+#[tactic(auto, using(crate::proofs::Gathered::of_host))]
+fn add_host(
+    alloc: Global,
+    cluster: &Cluster,
+    groups: &Groups,
+    job: &Job,
+    host: &Text,
+    found: &mut Vec<Counted>,
+) -> Result<(), AllocError>
+    ensures { OnOk result (all_counted found.new.items
+        ≡ fold (with_limit cluster.now groups.now job.now) (all_counted found.old.items)
+        (host_limits cluster.now (Host host.now) (at_text cluster.now.hosts host.now))) }
+{
+    match cluster.hosts.get(host) {
+        Some(row) => add_values_of_host(alloc, cluster, groups, job, host, row, found),
+        None => Ok(()),
+    }
+}
+
+fn add_of_all(
+    alloc: Global,
+    cluster: &Cluster,
+    groups: &Groups,
+    job: &Job,
+    row: &HostRow,
+    found: &mut Vec<Counted>,
+    name: &Text,
+) -> Result<(), AllocError>
+    requires { at_text cluster.now.hosts global_name ≡ Some row.now }
+    ensures { OnOk result (all_counted found.new.items
+        ≡ with_limit cluster.now groups.now job.now (all_counted found.old.items) (Everywhere name.now)) }
+{
+    let asked = asked_of(cluster, job, name);
+    if asked.amount == 0 {
+        return Ok(());
+    }
+    let capacity = u128::from(on_host(name, Some(row)));
+    add(found, LimitId::Global(name.twin(alloc)?), capacity, asked)
+}
+
+fn add_values_of_all(
+    alloc: Global,
+    cluster: &Cluster,
+    groups: &Groups,
+    job: &Job,
+    row: &HostRow,
+    found: &mut Vec<Counted>,
+) -> Result<(), AllocError>
+    requires { at_text cluster.now.hosts global_name ≡ Some row.now }
+    ensures { OnOk result (all_counted found.new.items
+        ≡ fold (with_host_value cluster.now groups.now job.now Everywhere) (all_counted found.old.items)
+        (keys_of row.now.values)) }
+{
+    for name in row.values.keys() {
+        add_of_all(alloc, cluster, groups, job, row, found, name)?;
+    }
+    Ok(())
+}
+
+// The limits of all hosts, which the host `global` has.
+#[tactic(auto, using(crate::proofs::Gathered::of_all))]
+fn add_all(
+    alloc: Global,
+    cluster: &Cluster,
+    groups: &Groups,
+    job: &Job,
+    found: &mut Vec<Counted>,
+) -> Result<(), AllocError>
+    ensures { OnOk result (all_counted found.new.items
+        ≡ fold (with_limit cluster.now groups.now job.now) (all_counted found.old.items)
+        (host_limits cluster.now Everywhere (at_text cluster.now.hosts global_name))) }
+{
+    match global_host(alloc, cluster)? {
+        Some(row) => add_values_of_all(alloc, cluster, groups, job, row, found),
+        None => Ok(()),
+    }
+}
+
+// The slots of the parallel environment that a job asks for.
+fn add_environment(
+    alloc: Global,
+    cluster: &Cluster,
+    groups: &Groups,
+    job: &Job,
+    found: &mut Vec<Counted>,
+) -> Result<(), AllocError>
+    ensures { OnOk result (all_counted found.new.items
+        ≡ fold (with_limit cluster.now groups.now job.now) (all_counted found.old.items)
+        (pe_limits job.now.request.pe)) }
+{
+    match &job.request.pe {
+        Some(request) => {
+            let capacity = u128::from(in_environment(cluster.pes.get(&request.name)));
+            let asked = Asked {
+                amount: 1,
+                once: false,
+            };
+            add(
+                found,
+                LimitId::Pe(request.name.twin(alloc)?),
+                capacity,
+                asked,
+            )
+        }
+        None => Ok(()),
+    }
+}
+
+fn add_quota(
+    cluster: &Cluster,
+    groups: &Groups,
+    job: &Job,
+    found: &mut Vec<Counted>,
+    key: QuotaKey,
+) -> Result<(), AllocError>
+    ensures { OnOk result (all_counted found.new.items
+        ≡ with_limit cluster.now groups.now job.now (all_counted found.old.items) (Quota key)) }
+{
+    let asked = asked_of(cluster, job, &key.resource);
+    if asked.amount == 0 {
+        return Ok(());
+    }
+    let capacity = u128::from(in_quota(&key, cluster.quotas.get(&key.set)));
+    add(found, LimitId::Quota(key), capacity, asked)
+}
+
+fn add_quotas(
+    cluster: &Cluster,
+    groups: &Groups,
+    job: &Job,
+    found: &mut Vec<Counted>,
+    quotas: List<QuotaKey>,
+) -> Result<(), AllocError>
+    ensures { OnOk result (all_counted found.new.items
+        ≡ fold (with_limit cluster.now groups.now job.now) (all_counted found.old.items) (map Quota quotas)) }
+{
+    for key in quotas.into_vec() {
+        add_quota(cluster, groups, job, found, key)?;
+    }
+    Ok(())
+}
+
+// The keys of the quotas that count a job's grant at an instance.
+fn quotas_at(
+    alloc: Global,
+    cluster: &Cluster,
+    groups: &Groups,
+    job: &Job,
+    at: &InstanceId,
+) -> Result<List<QuotaKey>, AllocError>
+    ensures { IfOk result (λ keys. keys ≡ quota_keys cluster.now groups.now (who_at job.now at.now)) }
+{
+    let none = Text::new(alloc);
+    let who = Who {
+        user: &job.owner,
+        group: &job.group,
+        project: &job.project,
+        pe: match &job.request.pe {
+            Some(request) => &request.name,
+            None => &none,
+        },
+        queue: &at.queue,
+        host: &at.host,
+    };
+    keys(alloc, cluster, groups, &who)
+}
+
+// All limits that are configured.
+#[tactic(auto, using(crate::proofs::Gathered::of_parts))]
+fn add_configured(
+    alloc: Global,
+    cluster: &Cluster,
+    groups: &Groups,
+    job: &Job,
+    at: &InstanceId,
+    found: &mut Vec<Counted>,
+) -> Result<(), AllocError>
+    ensures { OnOk result (all_counted found.new.items
+        ≡ fold (with_limit cluster.now groups.now job.now) (all_counted found.old.items)
+        (configured_limits cluster.now groups.now job.now at.now)) }
+{
+    add_instance(alloc, cluster, groups, job, at, found)?;
+    add_host(alloc, cluster, groups, job, &at.host, found)?;
+    add_all(alloc, cluster, groups, job, found)?;
+    add_environment(alloc, cluster, groups, job, found)?;
+    let quotas = quotas_at(alloc, cluster, groups, job, at)?;
+    add_quotas(cluster, groups, job, found, quotas)
+}
+
+fn add_limits(
+    alloc: Global,
+    cluster: &Cluster,
+    groups: &Groups,
+    job: &Job,
+    at: &InstanceId,
+    found: &mut Vec<Counted>,
+) -> Result<(), AllocError>
+    ensures { OnOk result (all_counted found.new.items
+        ≡ fold (with_limit cluster.now groups.now job.now) (all_counted found.old.items)
+        (limits_at cluster.now groups.now job.now at.now)) }
+{
+    if job.advance == 0 {
+        return add_configured(alloc, cluster, groups, job, at, found);
+    }
+    let capacity = in_advance(at, cluster.advances.get(&job.advance));
+    let asked = Asked {
+        amount: 1,
+        once: false,
+    };
+    add(
+        found,
+        LimitId::Advance(job.advance, at.twin(alloc)?),
+        capacity,
+        asked,
+    )
+}
+
+/// The limits that a grant of a job at an instance counts for, each once, with what is asked of it for one slot, which is
+/// above 0: those of the instance by name, its slots, those of its host and of all hosts, the slots of the job's parallel
+/// environment, and the quotas that count the job there. For a job that was sent into a reservation they are the
+/// reservation's slots at the instance, alone (queue_conf, host_conf, sge_pe, sge_resource_quota, qsub `-ar`).
+#[tactic(auto, unfolding(ge_model_place::specs::Limits::counted_at), using(crate::proofs::Gathered::gathered))]
+pub fn counted_limits(
+    alloc: Global,
+    cluster: &Cluster,
+    groups: &Groups,
+    job: &Job,
+    at: &InstanceId,
+) -> Result<Vec<Counted>, AllocError>
+    ensures { IfOk result (λ limits. all_counted limits.items
+        ≡ counted_at cluster.now groups.now job.now at.now) }
+{
+    let mut found = Vec::new(alloc);
+    add_limits(alloc, cluster, groups, job, at, &mut found)?;
+    Ok(found)
+}

@@ -1,0 +1,148 @@
+//! What grants ask of each limit.
+
+ghost use Rattle.std.specs.Prelude.{◌≡◌, ◌∷◌, [], IfOk, OnOk, fold, position, map};
+ghost use Rattle.ge_model_bookings.specs.Bookings.{same_limit};
+ghost use Rattle.ge_model_place.specs.Limits.{demand_for, demands_of, with_demand, with_grant, with_more};
+ghost use Rattle.ge_demands.specs.Counts.{all_counted, counted_as};
+
+use crate::counting::{Counted, counted_limits};
+use crate::indexing::demands_of_many;
+use ge_bookings::is_same_limit;
+use ge_rows::{Cluster, Demand, Grant, Groups, Job, LimitId, List};
+use std::alloc::{AllocError, Global};
+
+// The greatest demand on one limit.
+const GREATEST: u128 = 18_446_744_073_709_551_615;
+
+// Up to so many grants, a look through their demands takes less than an index.
+const FEW_GRANTS: usize = 4;
+
+// What slots ask of a limit, cut at the greatest demand.
+fn amount_for(slots: u32, counted: &Counted) -> u128
+    ensures { result ≡ (demand_for slots (counted_as counted.now)).amount }
+{
+    if counted.once {
+        u128::from(counted.amount)
+    } else {
+        u128::from(u64::from(slots).saturating_mul(counted.amount))
+    }
+}
+
+// What more slots ask of the same limit; what is asked once is there already.
+fn add_more(demand: &mut Demand, slots: u32, counted: &Counted)
+    ensures { demand.new ≡ with_more slots (counted_as counted.now) demand.old }
+{
+    if !counted.once {
+        demand.amount = demand
+            .amount
+            .saturating_add(amount_for(slots, counted))
+            .min(GREATEST);
+    }
+}
+
+// The place of the demand on a limit.
+fn place_among(demands: &[Demand], limit: &LimitId) -> Option<usize>
+    ensures { result ≡ position (λ demand. same_limit demand.limit limit.now) demands.now }
+{
+    demands
+        .iter()
+        .position(|demand| is_same_limit(&demand.limit, limit))
+}
+
+// What slots ask of a limit, where the place of the demand on it is known.
+pub(crate) fn add_at(
+    demands: &mut Vec<Demand>,
+    place: Option<usize>,
+    slots: u32,
+    counted: Counted,
+) -> Result<(), AllocError>
+    requires { place ≡ position (λ demand. same_limit demand.limit counted.limit) demands.old.items }
+    ensures { OnOk result (demands.new.items ≡ with_demand slots demands.old.items (counted_as counted)) }
+{
+    match place {
+        Some(place) => {
+            add_more(&mut demands[place], slots, &counted);
+            Ok(())
+        }
+        None => {
+            let amount = amount_for(slots, &counted);
+            let Counted {
+                limit,
+                capacity: _,
+                amount: _,
+                once: _,
+            } = counted;
+            demands.push(Demand { limit, amount })?;
+            Ok(())
+        }
+    }
+}
+
+fn add_all(demands: &mut Vec<Demand>, slots: u32, limits: Vec<Counted>) -> Result<(), AllocError>
+    ensures { OnOk result (demands.new.items
+        ≡ fold (with_demand slots) demands.old.items (all_counted limits.items)) }
+{
+    for counted in limits {
+        let place = place_among(demands.as_slice(), &counted.limit);
+        add_at(demands, place, slots, counted)?;
+    }
+    Ok(())
+}
+
+fn add_grant(
+    alloc: Global,
+    cluster: &Cluster,
+    groups: &Groups,
+    job: &Job,
+    demands: &mut Vec<Demand>,
+    grant: &Grant,
+) -> Result<(), AllocError>
+    ensures { OnOk result (demands.new.items
+        ≡ with_grant cluster.now groups.now job.now demands.old.items grant.now) }
+{
+    if grant.slots == 0 {
+        return Ok(());
+    }
+    let limits = counted_limits(alloc, cluster, groups, job, &grant.at)?;
+    add_all(demands, grant.slots, limits)
+}
+
+fn demands_of_few(
+    alloc: Global,
+    cluster: &Cluster,
+    groups: &Groups,
+    job: &Job,
+    grants: &[Grant],
+) -> Result<Vec<Demand>, AllocError>
+    ensures { IfOk result (λ demands. demands.items
+        ≡ fold (with_grant cluster.now groups.now job.now) [] grants.now) }
+{
+    let mut demands = Vec::new(alloc);
+    for grant in grants {
+        add_grant(alloc, cluster, groups, job, &mut demands, grant)?;
+    }
+    Ok(demands)
+}
+
+/// What grants of a job ask of each limit, each limit once, in the order in which the grants come to it: the job's amount for
+/// each slot, or once where the complex says so, cut at 2^64 - 1. A grant of no slots asks nothing (complex, consumable).
+///
+/// The demands of few grants are looked through for each limit, those of many are found by an index.
+#[tactic(auto, unfolding(ge_model_place::specs::Limits::demands_of))]
+pub fn demands(
+    alloc: Global,
+    cluster: &Cluster,
+    groups: &Groups,
+    job: &Job,
+    grants: &[Grant],
+) -> Result<List<Demand>, AllocError>
+    ensures { IfOk result (λ demands. demands
+        ≡ demands_of cluster.now groups.now job.now grants.now) }
+{
+    let demands = if grants.len() <= FEW_GRANTS {
+        demands_of_few(alloc, cluster, groups, job, grants)?
+    } else {
+        demands_of_many(alloc, cluster, groups, job, grants)?
+    };
+    Ok(List::from_vec(demands))
+}

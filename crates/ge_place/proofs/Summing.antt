@@ -1,0 +1,100 @@
+-- What is asked of limits, by sums that are kept.
+use Rattle.std.proofs.Common.{◌≡◌, ℕ, ◌+◌, ◌<◌, inl, inr, Bool, ◌&&◌, cond, min, List, [], ◌∷◌, ◌++◌, length, get_or, sum_by, Some, refl, sym, ap, ◌∙◌, arith}
+use Rattle.std.specs.List.{list_all}
+use Rattle.std.specs.Map.{lookup}
+use Rattle.std.specs.BTreeMap.{is_at}
+use Rattle.std.specs.Prelude.{nat_le, unwrap_or}
+use Rattle.std.proofs.lemmas.Bool.{cond-true, cond-false, cases_Bool}
+use Rattle.std.proofs.lemmas.List.{map-append}
+use Rattle.std.proofs.lemmas.List.Sums.{sum_by-cons, sum_by-append}
+use Rattle.ge_collections.specs.Changed.{ChangesAt}
+use Rattle.ge_rows.specs.contracts.scheduling.LimitIdOrd.TheImpl.{cmp-value}
+use Rattle.ge_timeline.proofs.Numbering.{same_at}
+use Rattle.ge_model_rows.specs.HostRows.{InstanceId}
+use Rattle.ge_model_rows.specs.ScheduleRows.{LimitId}
+use Rattle.ge_model_bookings.specs.Bookings.{same_limit}
+use Rattle.ge_model_place.specs.Limits.{greatest_demand}
+use Rattle.ge_model_place.specs.Placement.{Room, Cell, slot_asks, asked_so_far, fits_one_more, takes_one_more}
+use Rattle.ge_model_place.proofs.Same.{limits_equal}
+use Rattle.ge_place.specs.declared.spots.Bound.{Bound}
+use Rattle.ge_place.specs.declared.spots.Spot.{Spot}
+use Rattle.ge_place.specs.Spots.{room_as, rooms_as, cell_with, cells_with, one_more_at, no_slots_at}
+use Rattle.ge_place.specs.Sums.{sum_in, sum_of_both, AreTold, has_room_for, takes_by, AsksMore}
+use Rattle.ge_place.proofs.Cells.{asked_more, none_asked}
+
+-- a sum put in
+
+pub same_lookup : (limit : LimitId) (sums : List (LimitId × ℕ)) → lookup (is_at (cmp-value.it limit)) sums ≡ lookup (same_limit limit) sums
+same_lookup limit [] = refl
+same_lookup limit (e ∷ sums) =
+    ap (λ b. cond b (Some e.1) (lookup (is_at (cmp-value.it limit)) sums)) (same_at limit e.0)
+    ∙ ap (λ o. cond (same_limit limit e.0) (Some e.1) o) (same_lookup limit sums)
+
+pub sum_put : (limit : LimitId) (sum : ℕ) (old new : List (LimitId × ℕ)) → ChangesAt cmp-value.it limit (λ _. Some sum) old new → (other : LimitId) → sum_in new other ≡ cond (same_limit limit other) sum (sum_in old other)
+sum_put limit sum old new changes other =
+    let is : lookup (same_limit other) new ≡ cond (same_limit limit other) (Some sum) (lookup (same_limit other) old) =
+    sym (same_lookup other new) ∙ changes other ∙ ap (λ b. cond b (Some sum) (lookup (is_at (cmp-value.it other)) old)) (same_at limit other) ∙ ap (λ o. cond (same_limit limit other) (Some sum) o) (same_lookup other old) in
+    elim (cases_Bool (same_limit limit other)) [
+      | inl same ↦ ap (λ o. unwrap_or o 0) (is ∙ cond-true _ _ _ same) ∙ sym (cond-true _ _ _ same)
+      | inr apart ↦ ap (λ o. unwrap_or o 0) (is ∙ cond-false _ _ _ apart) ∙ sym (cond-false _ _ _ apart)
+    ]
+
+-- what one more limit of an instance is asked
+pub asks_next : (bounds : List Bound) (bound : Bound) (old middle new : List (LimitId × ℕ)) → AsksMore bounds old middle
+    → ((limit : LimitId) → sum_in new limit ≡ cond (same_limit bound.counts.limit limit) (min (sum_in middle bound.counts.limit + bound.counts.amount) greatest_demand) (sum_in middle limit))
+    → AsksMore (bounds ++ bound ∷ []) old new
+asks_next bounds bound old middle new asks put limit =
+    let parts = ap (λ rooms. sum_by (slot_asks limit) rooms) (map-append room_as bounds (bound ∷ [])) in
+    let both = sum_by-append (slot_asks limit) (rooms_as bounds) (room_as bound ∷ []) in
+    let one = sum_by-cons (slot_asks limit) (room_as bound) [] in
+    let so_far = asks limit in
+    elim (cases_Bool (same_limit bound.counts.limit limit)) [
+      | inl same ↦
+          let amount : slot_asks limit (room_as bound) ≡ bound.counts.amount = cond-true _ _ _ same in
+          let here : sum_in new limit ≡ min (sum_in middle bound.counts.limit + bound.counts.amount) greatest_demand = put limit ∙ cond-true _ _ _ same in
+          let known : sum_in middle bound.counts.limit ≡ sum_in middle limit = ap (λ l. sum_in middle l) (limits_equal bound.counts.limit limit same) in
+          omega (arith, parts, both, one, so_far, amount, here, known)
+      | inr apart ↦
+          let amount : slot_asks limit (room_as bound) ≡ 0 = cond-false _ _ _ apart in
+          let here : sum_in new limit ≡ sum_in middle limit = put limit ∙ cond-false _ _ _ apart in
+          omega (arith, parts, both, one, so_far, amount, here)
+    ]
+
+-- the test of an instance is that of its cell
+
+module _ (before since : List (LimitId × ℕ)) (cells : List Cell) (told : AreTold before since cells) where
+  fits_is : (room : Room) → has_room_for before since room ≡ fits_one_more cells room
+  fits_is room =
+      elim (cases_Bool room.counted.once) [
+        | inl once ↦ rw once refl
+        | inr each ↦
+            let sums = told room.counted.limit in
+            let asked : min (sum_of_both before since room.counted.limit + room.counted.amount) greatest_demand ≡ min (asked_so_far cells room.counted.limit + room.counted.amount) greatest_demand = omega (arith, sums) in
+            rw each (ap (λ n. nat_le (room.booked + n) room.counted.capacity) asked)
+      ]
+
+  all_fit : (bounds : List Bound) → list_all (fits_one_more cells) (rooms_as bounds) ≡ list_all (λ (bound : Bound). has_room_for before since (room_as bound)) bounds
+  all_fit [] = refl
+  all_fit (bound ∷ bounds) =
+      ap (λ b. b && list_all (fits_one_more cells) (rooms_as bounds)) (sym (fits_is (room_as bound)))
+      ∙ ap (λ b. has_room_for before since (room_as bound) && b) (all_fit bounds)
+
+  pub takes_is : (here : InstanceId → Bool) (spot : Spot) (n : ℕ) → (here spot.instance.now && takes_one_more cells (cell_with spot n)) ≡ takes_by here before since spot
+  takes_is here spot n = ap (λ b. here spot.instance.now && (spot.free && b)) (all_fit spot.bounds.items)
+
+-- the sums after one more slot are those of the cells
+
+pub told_more : (before old new : List (LimitId × ℕ)) (spots : List Spot) (slots : List ℕ) (k : ℕ) (spot : Spot) → length slots ≡ length spots → k < length spots → spot ≡ get_or spots k spot
+    → AsksMore spot.bounds.items old new → AreTold before old (cells_with spots slots) → AreTold before new (cells_with spots (one_more_at slots k))
+told_more before old new spots slots k spot long less is asks told limit =
+    let more = asked_more limit spots slots k spot long less is in
+    let one = asks limit in
+    let so_far = told limit in
+    omega (arith, more, one, so_far)
+
+pub told_none : (spots : List Spot) → AreTold [] [] (cells_with spots (no_slots_at spots))
+told_none spots limit = let none = none_asked spots limit in omega (arith, none)
+
+-- what was given before may stand in the first sum as well
+pub told_first : (sums : List (LimitId × ℕ)) (cells : List Cell) → AreTold [] sums cells → AreTold sums [] cells
+told_first sums cells told limit = let e = told limit in omega (arith, e)

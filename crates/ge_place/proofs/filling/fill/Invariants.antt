@@ -1,0 +1,13 @@
+use Rattle.std.proofs.Common.{◌+◌, ◌-◌, length}
+use Rattle.ge_place.specs.Spots.{cells_with, is_in}
+use Rattle.ge_place.specs.Sums.{AreTold}
+use Rattle.ge_place.proofs.Refusing.{AreRefused}
+use Rattle.ge_place.proofs.Spreads.{Fills}
+use Rattle.ge_place.proofs.filling.fill.Given as goal
+
+abbrev pub invariant-loop-place : goal.invariant-loop-place
+invariant-loop-place l =
+    Fills (is_in l.site) l.most l.given l.spots l.fn.slots l.slots × AreTold l.before l.since (cells_with l.spots l.slots) × AreRefused (is_in l.site) l.before l.since l.spots l.place
+
+abbrev pub decreases-loop-place : goal.decreases-loop-place
+decreases-loop-place l = l.most - l.given + (length l.spots - l.place)

@@ -1,0 +1,13 @@
+use Rattle.std.proofs.Common.{◌≡◌}
+use Rattle.ge_model_place.specs.Placement.{with_rounds}
+use Rattle.ge_place.specs.Giving.{IsGiven}
+use Rattle.ge_place.specs.Spots.{cells_with, lent}
+use Rattle.ge_place.proofs.spreading.in_rounds.Given as goal
+
+abbrev pub invariant-loop-rounds : goal.invariant-loop-rounds
+invariant-loop-rounds l =
+    (with_rounds l.rounds l.high (lent l.hosts) (cells_with l.spots l.given.slots) ≡ with_rounds l.high l.high (lent l.hosts) (cells_with l.spots l.fn.given.slots))
+    × IsGiven l.spots l.given
+
+abbrev pub decreases-loop-rounds : goal.decreases-loop-rounds
+decreases-loop-rounds l = l.rounds

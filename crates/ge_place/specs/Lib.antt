@@ -1,0 +1,4 @@
+pub mod Giving
+pub mod Singles
+pub mod Spots
+pub mod Sums

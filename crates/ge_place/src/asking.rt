@@ -1,0 +1,93 @@
+//! What the slots given so far ask of each limit.
+ghost use Rattle.std.specs.Prelude.{◌≡◌, ◌+◌, cond, min, nat_le, OnOk};
+ghost use Rattle.std.specs.List.{list_all};
+ghost use Rattle.ge_model_bookings.specs.Bookings.{same_limit};
+ghost use Rattle.ge_model_place.specs.Limits.{greatest_demand};
+ghost use Rattle.ge_model_rows.specs.ScheduleRows.{LimitId as Limit};
+ghost use Rattle.ge_place.specs.Spots.{room_as, is_in};
+ghost use Rattle.ge_place.specs.Sums.{sum_in, sum_of_both, asked_with as asked_with_one, has_room_for, takes_by, AsksMore};
+
+use crate::spots::{Bound, Site, Spot, has_instance};
+use ge_rows::{LimitId, Table, Twin};
+use std::alloc::{AllocError, Global};
+
+/// What is asked of limits: of one that isn't named, nothing. A sum is cut at the greatest demand.
+pub(crate) type Sums = Table<LimitId, u64>;
+
+fn sum_of(sums: &Sums, limit: &LimitId) -> u64
+    ensures { result ≡ sum_in sums.now limit.now }
+{
+    match sums.get(limit) {
+        Some(sum) => *sum,
+        None => 0,
+    }
+}
+
+// What one more slot asks of a limit together with those before; what is asked once doesn't grow.
+fn asked_with(before: &Sums, since: &Sums, bound: &Bound) -> u64
+    ensures { result
+        ≡ min (asked_with_one before.now since.now (room_as bound.now).counted) greatest_demand }
+{
+    if bound.counts.once {
+        return bound.counts.amount;
+    }
+    let first = sum_of(before, &bound.counts.limit);
+    let second = sum_of(since, &bound.counts.limit);
+    first
+        .saturating_add(second)
+        .saturating_add(bound.counts.amount)
+}
+
+/// Whether a capacity has room for a demand beside what is booked.
+pub(crate) fn has_room(capacity: u128, booked: u128, demand: u64) -> bool
+    ensures { result ≡ nat_le (booked + demand) capacity }
+{
+    booked <= capacity && u128::from(demand) <= capacity - booked
+}
+
+fn fits(before: &Sums, since: &Sums, bound: &Bound) -> bool
+    ensures { result ≡ has_room_for before.now since.now (room_as bound.now) }
+{
+    has_room(
+        bound.counts.capacity,
+        bound.peak,
+        asked_with(before, since, bound),
+    )
+}
+
+fn all_fit(before: &Sums, since: &Sums, bounds: &[Bound]) -> bool
+    ensures { result
+        ≡ list_all (λ bound. has_room_for before.now since.now (room_as bound)) bounds.now }
+{
+    bounds.iter().all(|bound| fits(before, since, bound))
+}
+
+/// Whether an instance is one of a site's and takes one more slot.
+pub(crate) fn takes(site: Site<'_>, before: &Sums, since: &Sums, spot: &Spot<'_>) -> bool
+    ensures { result ≡ takes_by (is_in site.entry) before.now since.now spot.now }
+{
+    has_instance(site, spot.instance) && spot.free && all_fit(before, since, spot.bounds.as_slice())
+}
+
+// What a slot asks of a limit is added.
+fn ask(alloc: Global, sums: &mut Sums, bound: &Bound) -> Result<(), AllocError>
+    ensures { OnOk result ((limit : Limit) → sum_in sums.new limit
+        ≡ cond (same_limit bound.now.counts.limit limit)
+        (min (sum_in sums.old bound.now.counts.limit + bound.now.counts.amount) greatest_demand)
+        (sum_in sums.old limit)) }
+{
+    let sum = sum_of(sums, &bound.counts.limit).saturating_add(bound.counts.amount);
+    let limit = bound.counts.limit.twin(alloc)?;
+    sums.insert(limit, sum)?;
+    Ok(())
+}
+
+/// What a slot asks of each limit of an instance is added.
+pub(crate) fn ask_all(alloc: Global, sums: &mut Sums, bounds: &[Bound]) -> Result<(), AllocError>
+    ensures { OnOk result (AsksMore bounds.now sums.old sums.new) }
+{
+    for bound in bounds {
+        ask(alloc, sums, bound)?;
+    }
+    Ok(())
+}

@@ -1,0 +1,65 @@
+//! Slots are given one after the other, each at the first instance that takes it.
+ghost use Rattle.std.specs.Prelude.{◌≡◌, ◌+◌, ◌<◌, ◌≤◌, length, slice_index_or, IfOk, OnOk};
+ghost use Rattle.ge_model_place.specs.Placement.{filled, slots_given};
+ghost use Rattle.ge_place.specs.Spots.{cells_with, one_more_at, is_in};
+ghost use Rattle.ge_place.specs.Sums.{AreTold, AsksMore};
+
+use crate::asking::{Sums, ask_all, takes};
+use crate::spots::{Site, Spot};
+use ge_rows::List;
+use std::alloc::{AllocError, Global};
+
+// One more slot at a place. No place has more slots than a job asks for, so a number that is too great doesn't occur.
+fn give(slots: &mut List<u32>, place: usize) -> Result<(), AllocError>
+    requires { place < length slots.old }
+    ensures { OnOk result (slots.new ≡ one_more_at slots.old place) }
+{
+    match slots.items()[place].checked_add(1) {
+        Some(more) => {
+            let _before = slots.replace(place, more);
+            Ok(())
+        }
+        None => Err(AllocError),
+    }
+}
+
+/// So many more slots at the instances of a site, or as many as they take, and how many that are. What the slots before ask
+/// stands in two sums, of which the second gets what is asked now. An instance that takes no slot takes none beside more, so
+/// none is looked at again.
+pub(crate) fn fill(
+    alloc: Global,
+    spots: &[Spot<'_>],
+    site: Site<'_>,
+    most: u32,
+    slots: &mut List<u32>,
+    before: &Sums,
+    since: &mut Sums,
+) -> Result<u32, AllocError>
+    requires long { length slots.old ≡ length spots.now }
+    requires told { AreTold before.now since.old (cells_with spots.now slots.old) }
+    ensures filled { OnOk result (cells_with spots.now slots.new
+        ≡ filled (is_in site.entry) most (cells_with spots.now slots.old)) }
+    ensures given { IfOk result (λ given. slots_given (cells_with spots.now slots.new)
+        ≡ slots_given (cells_with spots.now slots.old) + given) }
+    ensures within { IfOk result (λ given. given ≤ most) }
+    ensures none { IfOk result (λ given. given ≡ 0 → slots.new ≡ slots.old) }
+    ensures long { OnOk result (length slots.new ≡ length spots.now) }
+    ensures told { OnOk result (AreTold before.now since.new (cells_with spots.now slots.new)) }
+{
+    let mut given = 0;
+    let mut place = 0;
+    while place < spots.len() {
+        if given == most {
+            return Ok(given);
+        }
+        let spot = &spots[place];
+        if takes(site, before, since, spot) {
+            give(slots, place)?;
+            ask_all(alloc, since, spot.bounds.as_slice())?;
+            given += 1;
+        } else {
+            place += 1;
+        }
+    }
+    Ok(given)
+}

@@ -1,0 +1,96 @@
+//! Slots that are given site by site.
+ghost use Rattle.std.specs.Prelude.{◌≡◌, ℕ, ◌+◌, ◌^◌, ◌<◌, ◌≤◌, ◌==◌, IfOk, OnOk};
+ghost use Rattle.ge_model_place.specs.Placement.{filled, is_on, slots_given};
+ghost use Rattle.ge_place.specs.Giving.{IsGiven};
+ghost use Rattle.ge_place.specs.Spots.{cells_with, no_slots_at, is_in};
+
+use crate::asking::Sums;
+use crate::filling::fill;
+use crate::spots::{Site, Spot};
+use ge_rows::{List, Table, Text, Twin};
+use std::alloc::{AllocError, Global};
+
+/// The slots that were given so far.
+#[derive(Drop)]
+pub(crate) struct Given {
+    /// How many at each instance.
+    pub(crate) slots: List<u32>,
+    /// What they ask of each limit.
+    pub(crate) sums: Sums,
+    /// How many in all.
+    pub(crate) count: u32,
+}
+
+fn no_slots(alloc: Global, spots: &[Spot<'_>]) -> Result<List<u32>, AllocError>
+    ensures { IfOk result (λ slots. slots ≡ no_slots_at spots.now) }
+{
+    let slots = vec![in alloc; 0u32; spots.len()]?;
+    Ok(List::from_vec(slots))
+}
+
+/// Nothing is given yet.
+pub(crate) fn nothing_given(alloc: Global, spots: &[Spot<'_>]) -> Result<Given, AllocError>
+    ensures slots { IfOk result (λ given. given.slots ≡ no_slots_at spots.now) }
+    ensures kept { IfOk result (λ given. IsGiven spots.now given) }
+    ensures none { IfOk result (λ given. given.count ≡ 0) }
+{
+    let slots = no_slots(alloc, spots)?;
+    Ok(Given {
+        slots,
+        sums: Table::new(alloc),
+        count: 0,
+    })
+}
+
+/// So many more slots at the instances of a site, or as many as they take.
+pub(crate) fn give_more(
+    alloc: Global,
+    spots: &[Spot<'_>],
+    site: Site<'_>,
+    most: u32,
+    given: &mut Given,
+) -> Result<(), AllocError>
+    requires kept { IsGiven spots.now given.old }
+    requires fits { given.old.count + most < 2 ^ 32 }
+    ensures filled { OnOk result (cells_with spots.now given.new.slots
+        ≡ filled (is_in site.entry) most (cells_with spots.now given.old.slots)) }
+    ensures kept { OnOk result (IsGiven spots.now given.new) }
+    ensures grown { OnOk result (given.old.count ≤ given.new.count) }
+    ensures within { OnOk result (given.new.count ≤ given.old.count + most) }
+    ensures same { OnOk result
+        (given.new.count ≡ given.old.count → given.new.slots ≡ given.old.slots) }
+{
+    let none = Table::new(alloc);
+    let (slots, sums) = (&mut given.slots, &mut given.sums);
+    let more = fill(alloc, spots, site, most, slots, &none, sums)?;
+    given.count += more;
+    Ok(())
+}
+
+/// Whether the instances of a host take so many more slots. They are given to a copy, and let go again.
+pub(crate) fn takes_block(
+    alloc: Global,
+    spots: &[Spot<'_>],
+    host: &Text,
+    size: u32,
+    given: &Given,
+) -> Result<bool, AllocError>
+    requires { IsGiven spots.now given.now }
+    ensures { IfOk result (λ takes. takes
+        ≡ (slots_given (filled (is_on host.now) size (cells_with spots.now given.now.slots))
+        == slots_given (cells_with spots.now given.now.slots) + size)) }
+{
+    let mut slots = given.slots.twin(alloc)?;
+    let mut since = Table::new(alloc);
+    let site = Site::Host(host);
+    let taken = fill(
+        alloc,
+        spots,
+        site,
+        size,
+        &mut slots,
+        &given.sums,
+        &mut since,
+    )?;
+    Ok(taken == size)
+}

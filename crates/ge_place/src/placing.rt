@@ -1,0 +1,144 @@
+//! Placements.
+ghost use Rattle.std.specs.Prelude.{◌≡◌, IfOk, map};
+ghost use Rattle.ge_collections.specs.Keyed.{at_text};
+ghost use Rattle.ge_model_place.specs.InstanceOrder as ordered;
+ghost use Rattle.ge_model_place.specs.Placement as placed;
+ghost use Rattle.ge_place.specs.Spots.{cell_in, cells_with, no_slots_at};
+
+use crate::granting::granted;
+use crate::single::single_slot;
+use crate::spots::{Search, Spot, all_spots};
+use crate::spreading::spread;
+use ge_opening::instance_order;
+use ge_rows::{Allocation, Cluster, Grant, Groups, InstanceId, Job, List, PeRequest, TaskId};
+use ge_timeline::Timeline;
+use ge_windows::{is_in_time, window_end_from};
+use std::alloc::{AllocError, Global};
+
+// The grants of these instances by a rule.
+fn grant_by(
+    alloc: Global,
+    spots: &[Spot<'_>],
+    request: &PeRequest,
+    rule: Allocation,
+) -> Result<Option<List<Grant>>, AllocError>
+    ensures { IfOk result (λ grants. grants ≡ placed.granted request.now.low
+        (placed.spread rule request.now.high (cells_with spots.now (no_slots_at spots.now)))) }
+{
+    let given = spread(alloc, spots, rule, request.high)?;
+    let grants = granted(alloc, spots, &given, request.low)?;
+    Ok(grants)
+}
+
+// The grants by a rule.
+fn place_by(
+    alloc: Global,
+    search: &Search<'_>,
+    order: &[InstanceId],
+    request: &PeRequest,
+    rule: Allocation,
+) -> Result<Option<List<Grant>>, AllocError>
+    ensures { IfOk result (λ grants. grants ≡ placed.granted request.now.low
+        (placed.spread rule request.now.high (map (cell_in search.now) order.now))) }
+{
+    let spots = all_spots(alloc, search, order)?;
+    let grants = grant_by(alloc, spots.as_slice(), request, rule)?;
+    Ok(grants)
+}
+
+// The grants by the rule of a PE, where that is there.
+fn place_parallel(
+    alloc: Global,
+    search: &Search<'_>,
+    order: &[InstanceId],
+    request: &PeRequest,
+) -> Result<Option<List<Grant>>, AllocError>
+    ensures { IfOk result (λ grants. grants
+        ≡ placed.placed_with (map (cell_in search.now) order.now) request.now
+        (at_text search.now.cluster.now.pes request.now.name)) }
+{
+    match search.cluster.pes.get(&request.name) {
+        None => Ok(None),
+        Some(pe) => {
+            let grants = place_by(alloc, search, order, request, pe.rule)?;
+            Ok(grants)
+        }
+    }
+}
+
+// The grants of a search.
+fn place_in(
+    alloc: Global,
+    search: &Search<'_>,
+    order: &[InstanceId],
+) -> Result<Option<List<Grant>>, AllocError>
+    ensures { IfOk result (λ grants. grants ≡ placed.placed_by search.now.cluster.now
+        (map (cell_in search.now) order.now) search.now.job.now.request.pe) }
+{
+    match &search.job.request.pe {
+        None => {
+            let grants = single_slot(alloc, search, order)?;
+            Ok(grants)
+        }
+        Some(request) => {
+            let grants = place_parallel(alloc, search, order, request)?;
+            Ok(grants)
+        }
+    }
+}
+
+/// The grants of a task of a job from a moment on, over what is booked; None where no number of slots that it asks for is there.
+/// The order is that in which instances are tried. A job without a parallel environment asks for one slot anywhere, one with an
+/// environment for the slots of a range, by its rule (qsub `-pe`; sge_pe `allocation_rule`).
+#[tactic(auto, unfolding(ge_model_place::specs::Placement::placement_of))]
+pub fn place_job(
+    alloc: Global,
+    cluster: &Cluster,
+    groups: &Groups,
+    order: &[InstanceId],
+    booked: &Timeline,
+    job: &Job,
+    from: u64,
+) -> Result<Option<List<Grant>>, AllocError>
+    ensures { IfOk result (λ grants. grants ≡
+        placed.placement_of cluster.now groups.now order.now booked.now job.now from) }
+{
+    let until = window_end_from(alloc, cluster, job, from)?;
+    let in_time = is_in_time(alloc, cluster, job, from)?;
+    let search = Search {
+        cluster,
+        groups,
+        booked,
+        job,
+        from,
+        until,
+        in_time,
+    };
+    let grants = place_in(alloc, &search, order)?;
+    Ok(grants)
+}
+
+/// The grants of a task of the table's jobs from a moment on, over what is booked, in the cluster's order of instances. None too
+/// where no such job is there.
+#[tactic(auto, unfolding(ge_model_place::specs::Placement::placement))]
+pub fn place(
+    alloc: Global,
+    cluster: &Cluster,
+    groups: &Groups,
+    booked: &Timeline,
+    task: TaskId,
+    from: u64,
+) -> Result<Option<List<Grant>>, AllocError>
+    ensures { IfOk result (λ grants. grants ≡
+        placed.placement cluster.now groups.now (ordered.instance_order cluster.now groups.now)
+        booked.now task from) }
+{
+    match cluster.jobs.get(&task.job) {
+        None => Ok(None),
+        Some(job) => {
+            let order = instance_order(alloc, cluster, groups)?;
+            let grants = place_job(alloc, cluster, groups, order.items(), booked, job, from)?;
+            Ok(grants)
+        }
+    }
+}

@@ -1,0 +1,162 @@
+//! Instances that slots may be given at.
+ghost use Rattle.std.specs.Prelude.{◌≡◌, ◌<◌, map, IfOk};
+ghost use Rattle.ge_model_place.specs.Placement.{room_of};
+ghost use Rattle.ge_demands.specs.Counts.{counted_as, all_counted};
+ghost use Rattle.ge_place.specs.Spots.{room_as, rooms_as, empty_cell, is_free_at, rooms_at, cell_in, is_in};
+
+use ge_demands::{Counted, counted_limits};
+use ge_opening::is_open;
+use ge_rows::{Cluster, Groups, InstanceId, Job, Text};
+use ge_timeline::Timeline;
+use std::alloc::{AllocError, Global};
+
+/// What a task of a job is placed over, from a moment on.
+#[derive(Clone, Copy)]
+pub(crate) struct Search<'a> {
+    /// The cluster.
+    pub(crate) cluster: &'a Cluster,
+    /// Its groups of hosts, spelled out.
+    pub(crate) groups: &'a Groups,
+    /// What is booked.
+    pub(crate) booked: &'a Timeline,
+    /// The job.
+    pub(crate) job: &'a Job,
+    /// The moment.
+    pub(crate) from: u64,
+    /// Where the window ends that the task is booked for.
+    pub(crate) until: u64,
+    /// Whether the task may start then.
+    pub(crate) in_time: bool,
+}
+
+/// A limit that a slot at an instance counts for, with the most that is booked of it in the window. Contracts see the
+/// model's `Room`.
+#[derive(Drop)]
+pub(crate) struct Bound {
+    /// The limit, and what a slot asks of it.
+    pub(crate) counts: Counted,
+    /// The most that is booked of it.
+    pub(crate) peak: u128,
+}
+
+/// An instance that slots may be given at. With its slots it is the model's `Cell`.
+#[derive(Drop)]
+pub(crate) struct Spot<'a> {
+    /// The instance.
+    pub(crate) instance: &'a InstanceId,
+    /// Whether the task may start there at all.
+    pub(crate) free: bool,
+    /// The limits that a slot there counts for.
+    pub(crate) bounds: Vec<Bound>,
+}
+
+/// Which instances are meant.
+#[derive(Clone, Copy)]
+pub(crate) enum Site<'a> {
+    /// All of them.
+    Everywhere,
+    /// Those on a host.
+    Host(&'a Text),
+}
+
+/// Whether a site has an instance.
+pub(crate) fn has_instance(site: Site<'_>, at: &InstanceId) -> bool
+    ensures { result ≡ is_in site.entry at.now }
+{
+    match site {
+        Site::Everywhere => true,
+        Site::Host(host) => at.host == *host,
+    }
+}
+
+/// Whether a task may start at an instance at all.
+pub(crate) fn may_start(
+    alloc: Global,
+    search: &Search<'_>,
+    at: &InstanceId,
+) -> Result<bool, AllocError>
+    ensures { IfOk result (λ may. may ≡ is_free_at search.now at.now) }
+{
+    if !search.in_time {
+        return Ok(false);
+    }
+    let opened = is_open(alloc, search.cluster, search.groups, search.job, at)?;
+    Ok(opened)
+}
+
+// A limit with the most that is booked of it in the window.
+fn bound_of(search: &Search<'_>, counts: Counted) -> Bound
+    requires { search.now.from < search.now.until }
+    ensures { room_as result
+        ≡ room_of search.now.booked.now search.now.from search.now.until (counted_as counts) }
+{
+    let peak = search
+        .booked
+        .greatest(&counts.limit, search.from, search.until);
+    Bound { counts, peak }
+}
+
+fn bounds_of(
+    alloc: Global,
+    search: &Search<'_>,
+    limits: Vec<Counted>,
+) -> Result<Vec<Bound>, AllocError>
+    requires { search.now.from < search.now.until }
+    ensures { IfOk result (λ bounds. rooms_as bounds.items
+        ≡ map (room_of search.now.booked.now search.now.from search.now.until)
+        (all_counted limits.items)) }
+{
+    let mut bounds = Vec::new(alloc);
+    for counts in limits {
+        bounds.push(bound_of(search, counts))?;
+    }
+    Ok(bounds)
+}
+
+/// The limits that a slot at an instance counts for; none in a window without a moment.
+pub(crate) fn bounds_at(
+    alloc: Global,
+    search: &Search<'_>,
+    at: &InstanceId,
+) -> Result<Vec<Bound>, AllocError>
+    ensures { IfOk result (λ bounds. rooms_as bounds.items ≡ rooms_at search.now at.now) }
+{
+    if search.until <= search.from {
+        return Ok(Vec::new(alloc));
+    }
+    let limits = counted_limits(alloc, search.cluster, search.groups, search.job, at)?;
+    let bounds = bounds_of(alloc, search, limits)?;
+    Ok(bounds)
+}
+
+fn spot_at<'a>(
+    alloc: Global,
+    search: &Search<'_>,
+    at: &'a InstanceId,
+) -> Result<Spot<'a>, AllocError>
+    ensures { IfOk result (λ spot. empty_cell spot ≡ cell_in search.now at.now) }
+{
+    let free = may_start(alloc, search, at)?;
+    let bounds = bounds_at(alloc, search, at)?;
+    Ok(Spot {
+        instance: at,
+        free,
+        bounds,
+    })
+}
+
+/// The instances in their order, before any slot is given.
+pub(crate) fn all_spots<'a>(
+    alloc: Global,
+    search: &Search<'_>,
+    order: &'a [InstanceId],
+) -> Result<Vec<Spot<'a>>, AllocError>
+    ensures { IfOk result (λ spots. map empty_cell spots.items
+        ≡ map (cell_in search.now) order.now) }
+{
+    let mut spots = Vec::new(alloc);
+    for at in order {
+        spots.push(spot_at(alloc, search, at)?)?;
+    }
+    Ok(spots)
+}

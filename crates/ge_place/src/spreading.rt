@@ -1,0 +1,214 @@
+//! Slots spread over instances by the rule of a parallel environment (sge_pe, `allocation_rule`).
+ghost use Rattle.std.specs.Prelude.{◌≡◌, ◌≤◌, length, fold, IfOk, OnOk};
+ghost use Rattle.ge_model_place.specs.Placement as placed;
+ghost use Rattle.ge_place.specs.Giving.{IsGiven};
+ghost use Rattle.ge_place.specs.Spots.{cells_with, no_slots_at, is_in, lent};
+
+use crate::giving::{Given, give_more, nothing_given, takes_block};
+use crate::hosts::hosts_of;
+use crate::spots::{Site, Spot};
+use ge_rows::{Allocation, List, Text};
+use std::alloc::{AllocError, Global};
+
+// So many slots at the instances of a site alone, or as many as they take.
+fn given_at(
+    alloc: Global,
+    spots: &[Spot<'_>],
+    site: Site<'_>,
+    most: u32,
+) -> Result<Given, AllocError>
+    ensures cells { IfOk result (λ given. cells_with spots.now given.slots
+        ≡ placed.filled (is_in site.entry) most (cells_with spots.now (no_slots_at spots.now))) }
+    ensures kept { IfOk result (λ given. IsGiven spots.now given) }
+{
+    let mut given = nothing_given(alloc, spots)?;
+    give_more(alloc, spots, site, most, &mut given)?;
+    Ok(given)
+}
+
+// So many slots on a host alone, or as many as are taken there.
+fn given_on(alloc: Global, spots: &[Spot<'_>], host: &Text, most: u32) -> Result<Given, AllocError>
+    ensures cells { IfOk result (λ given. cells_with spots.now given.slots
+        ≡ placed.filled (placed.is_on host.now) most
+        (cells_with spots.now (no_slots_at spots.now))) }
+    ensures kept { IfOk result (λ given. IsGiven spots.now given) }
+{
+    let given = given_at(alloc, spots, Site::Host(host), most)?;
+    Ok(given)
+}
+
+// `$pe_slots`: all slots on the first host that takes the most.
+fn on_one_host(
+    alloc: Global,
+    spots: &[Spot<'_>],
+    hosts: &[&Text],
+    high: u32,
+) -> Result<Given, AllocError>
+    ensures cells { IfOk result (λ given. cells_with spots.now given.slots
+        ≡ fold (λ best host. placed.fuller best
+        (placed.filled (placed.is_on host) high (cells_with spots.now (no_slots_at spots.now))))
+        (cells_with spots.now (no_slots_at spots.now)) (lent hosts.now)) }
+    ensures kept { IfOk result (λ given. IsGiven spots.now given) }
+{
+    let mut best = nothing_given(alloc, spots)?;
+    for host in hosts {
+        let other = given_on(alloc, spots, host, high)?;
+        if other.count > best.count {
+            best = other;
+        }
+    }
+    Ok(best)
+}
+
+// A block of slots on a host, where all of them fit there and no more than the greatest number are given.
+fn give_block(
+    alloc: Global,
+    spots: &[Spot<'_>],
+    host: &Text,
+    size: u32,
+    high: u32,
+    given: &mut Given,
+) -> Result<(), AllocError>
+    requires { IsGiven spots.now given.old }
+    ensures cells { OnOk result (cells_with spots.now given.new.slots
+        ≡ placed.with_block size high (cells_with spots.now given.old.slots)
+        (placed.filled (placed.is_on host.now) size (cells_with spots.now given.old.slots))) }
+    ensures kept { OnOk result (IsGiven spots.now given.new) }
+{
+    let Some(count) = given.count.checked_add(size) else {
+        return Ok(());
+    };
+    if count > high {
+        return Ok(());
+    }
+    if !takes_block(alloc, spots, host, size, given)? {
+        return Ok(());
+    }
+    give_more(alloc, spots, Site::Host(host), size, given)
+}
+
+// A number: so many slots on each host that takes them.
+fn in_blocks(
+    alloc: Global,
+    spots: &[Spot<'_>],
+    hosts: &[&Text],
+    size: u32,
+    high: u32,
+    given: &mut Given,
+) -> Result<(), AllocError>
+    requires { IsGiven spots.now given.old }
+    ensures cells { OnOk result (cells_with spots.now given.new.slots
+        ≡ fold (λ cells host. placed.with_block size high cells
+        (placed.filled (placed.is_on host) size cells))
+        (cells_with spots.now given.old.slots) (lent hosts.now)) }
+    ensures kept { OnOk result (IsGiven spots.now given.new) }
+{
+    for host in hosts {
+        give_block(alloc, spots, host, size, high, given)?;
+    }
+    Ok(())
+}
+
+// One slot on a host, where it takes one and the greatest number aren't given yet.
+fn give_turn(
+    alloc: Global,
+    spots: &[Spot<'_>],
+    host: &Text,
+    high: u32,
+    given: &mut Given,
+) -> Result<(), AllocError>
+    requires { IsGiven spots.now given.old }
+    ensures cells { OnOk result (cells_with spots.now given.new.slots
+        ≡ placed.with_turn high (cells_with spots.now given.old.slots) host.now) }
+    ensures kept { OnOk result (IsGiven spots.now given.new) }
+    ensures grown { OnOk result (given.old.count ≤ given.new.count) }
+    ensures same { OnOk result
+        (given.new.count ≡ given.old.count → given.new.slots ≡ given.old.slots) }
+{
+    if given.count >= high {
+        return Ok(());
+    }
+    give_more(alloc, spots, Site::Host(host), 1, given)
+}
+
+// One slot on each host in turn.
+fn give_round(
+    alloc: Global,
+    spots: &[Spot<'_>],
+    hosts: &[&Text],
+    high: u32,
+    given: &mut Given,
+) -> Result<(), AllocError>
+    requires { IsGiven spots.now given.old }
+    ensures cells { OnOk result (cells_with spots.now given.new.slots
+        ≡ placed.with_round high (lent hosts.now) (cells_with spots.now given.old.slots)) }
+    ensures kept { OnOk result (IsGiven spots.now given.new) }
+    ensures same { OnOk result
+        (given.new.count ≡ given.old.count → given.new.slots ≡ given.old.slots) }
+{
+    for host in hosts {
+        give_turn(alloc, spots, host, high, given)?;
+    }
+    Ok(())
+}
+
+// `$round_robin`: rounds, until one gives nothing.
+fn in_rounds(
+    alloc: Global,
+    spots: &[Spot<'_>],
+    hosts: &[&Text],
+    high: u32,
+    given: &mut Given,
+) -> Result<(), AllocError>
+    requires { IsGiven spots.now given.old }
+    ensures cells { OnOk result (cells_with spots.now given.new.slots
+        ≡ placed.with_rounds high high (lent hosts.now) (cells_with spots.now given.old.slots)) }
+    ensures kept { OnOk result (IsGiven spots.now given.new) }
+{
+    let mut rounds = high;
+    while rounds > 0 {
+        let before = given.count;
+        give_round(alloc, spots, hosts, high, given)?;
+        if given.count == before {
+            return Ok(());
+        }
+        rounds -= 1;
+    }
+    Ok(())
+}
+
+/// At most so many slots by a rule.
+pub(crate) fn spread(
+    alloc: Global,
+    spots: &[Spot<'_>],
+    rule: Allocation,
+    high: u32,
+) -> Result<Given, AllocError>
+    ensures cells { IfOk result (λ given. cells_with spots.now given.slots
+        ≡ placed.spread rule high (cells_with spots.now (no_slots_at spots.now))) }
+    ensures kept { IfOk result (λ given. IsGiven spots.now given) }
+{
+    match rule {
+        Allocation::FillUp => {
+            let given = given_at(alloc, spots, Site::Everywhere, high)?;
+            Ok(given)
+        }
+        Allocation::PeSlots => {
+            let hosts = hosts_of(alloc, spots)?;
+            let given = on_one_host(alloc, spots, hosts.as_slice(), high)?;
+            Ok(given)
+        }
+        Allocation::Fixed(size) => {
+            let hosts = hosts_of(alloc, spots)?;
+            let mut given = nothing_given(alloc, spots)?;
+            in_blocks(alloc, spots, hosts.as_slice(), size, high, &mut given)?;
+            Ok(given)
+        }
+        Allocation::RoundRobin => {
+            let hosts = hosts_of(alloc, spots)?;
+            let mut given = nothing_given(alloc, spots)?;
+            in_rounds(alloc, spots, hosts.as_slice(), high, &mut given)?;
+            Ok(given)
+        }
+    }
+}

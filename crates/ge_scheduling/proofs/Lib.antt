@@ -1,0 +1,9 @@
+pub mod Tallies
+pub mod Ends
+pub mod Bridged
+pub mod Exact
+pub mod OneKind
+pub mod Grown
+pub mod Shut
+pub mod Kept
+pub mod Sound

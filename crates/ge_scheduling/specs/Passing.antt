@@ -1,0 +1,32 @@
+-- A task that waits, and later tasks of its job.
+use Rattle.std.specs.Prelude.{◌≡◌, ℕ, List, Option, Some, None, IfSome}
+use Rattle.std.specs.BTreeSet.{BTreeSet}
+use Rattle.ge_collections.specs.declared.short_row.ShortRow.{ShortRow}
+use Rattle.ge_model_rows.specs.ClusterRows.{Cluster}
+use Rattle.ge_model_rows.specs.DecisionRows.{Decision}
+use Rattle.ge_model_rows.specs.HostRows.{Groups, InstanceId}
+use Rattle.ge_model_rows.specs.ScheduleRows.{Booking}
+use Rattle.ge_model_rows.specs.TaskRows.{TaskId}
+use Rattle.ge_model_place.specs.Running.{decision_of}
+use Rattle.ge_rows.specs.declared.labels.JobFacts.{JobFacts}
+use Rattle.ge_scheduling.specs.declared.counting.Tally.{Tally}
+use Rattle.ge_scheduling.specs.Counts.{IsTallied}
+use Rattle.ge_scheduling.specs.KindNotes.{TellKinds, AreShut}
+
+-- the job of which a decision makes a task wait
+abbrev pub passed_by : ℕ → Decision → Option ℕ
+passed_by number (Decision.Start start) = None
+passed_by number (Decision.Reserve kept) = None
+passed_by number (Decision.Skip task) = Some number
+
+module _ (c : Cluster) (groups : Groups) (order : List InstanceId) (now : ℕ) where
+  -- each task of a job waits, over what is booked and was decided
+  abbrev pub Waits : List Booking → List Decision → ℕ → Type 0
+  Waits booked decisions number = (task : TaskId) → task.job ≡ number → decision_of c groups order now booked decisions task ≡ Decision.Skip task
+
+  -- what is kept beside the bookings and the decisions so far belongs to them: what is counted, a job whose tasks wait, and kinds of jobs of which no task can start
+  pub record Follows (rows : List (ℕ × ShortRow JobFacts)) (booked : List Booking) (decisions : List Decision) (tally : Tally) (passed : Option ℕ) (full : BTreeSet ℕ) : Type 0 where
+    pub told : TellKinds c.jobs rows
+    pub tallied : IsTallied c decisions tally
+    pub waits : IfSome passed (Waits booked decisions)
+    pub shut : AreShut c groups order now booked decisions rows full

@@ -1,0 +1,175 @@
+// One task after the other.
+ghost use Rattle.std.specs.Prelude.{◌≡◌, [], Some, IfOk, OnOk, IsTrue, fold};
+ghost use Rattle.ge_model_place.specs.Windows.{base_bookings};
+ghost use Rattle.ge_model_place.specs.Running.{decide as with_task};
+ghost use Rattle.ge_scheduling.specs.KindNotes.{TellKinds};
+ghost use Rattle.ge_scheduling.specs.Passing.{passed_by as job_passed, Waits, Follows};
+
+use crate::bookings::{book, first_booked};
+use crate::counting::{Tally, count, first_tally, may_reserve};
+use crate::deciding::decision;
+use crate::kinds::{is_noted, note};
+use crate::setting::Setting;
+use ge_rows::{Decision, List, TaskId};
+use ge_timeline::Timeline;
+use std::alloc::{AllocError, Global};
+use std::collections::BTreeSet;
+
+/// What is booked and decided so far, what is counted of that, a job whose tasks all wait until something is booked, and kinds
+/// of jobs of which no task can start any more.
+#[derive(Drop)]
+pub(crate) struct Progress {
+    pub(crate) booked: Timeline,
+    pub(crate) decisions: List<Decision>,
+    pub(crate) tally: Tally,
+    pub(crate) passed: Option<u32>,
+    pub(crate) full: BTreeSet<u32>,
+}
+
+/// Before any task is decided.
+pub(crate) fn begin(alloc: Global, at: &Setting<'_>) -> Result<Progress, AllocError>
+    requires { TellKinds at.now.cluster.now.jobs at.now.kinds.now.entries }
+    ensures booked { IfOk result (λ so_far. so_far.booked
+        ≡ base_bookings at.now.cluster.now at.now.groups.now at.now.moment) }
+    ensures decisions { IfOk result (λ so_far. so_far.decisions ≡ []) }
+    ensures follows { IfOk result (λ so_far. Follows at.now.cluster.now at.now.groups.now
+        at.now.order.now at.now.moment at.now.kinds.now.entries so_far.booked so_far.decisions
+        so_far.tally so_far.passed so_far.full) }
+{
+    let booked = first_booked(alloc, at)?;
+    let tally = first_tally(alloc, at.cluster)?;
+    Ok(Progress {
+        booked,
+        decisions: List::new(alloc),
+        tally,
+        passed: None,
+        full: BTreeSet::new(alloc),
+    })
+}
+
+fn is_passed(passed: Option<u32>, number: u32) -> bool
+    ensures { IsTrue result → passed ≡ Some number }
+{
+    match passed {
+        Some(other) => other == number,
+        None => false,
+    }
+}
+
+// Whether the kind of a job is noted, and none of its tasks may have slots kept.
+fn is_shut(at: &Setting<'_>, so_far: &Progress, number: u32) -> bool
+    requires { Follows at.now.cluster.now at.now.groups.now at.now.order.now
+        at.now.moment at.now.kinds.now.entries so_far.now.booked so_far.now.decisions
+        so_far.now.tally so_far.now.passed so_far.now.full }
+    ensures { IsTrue result → Waits at.now.cluster.now at.now.groups.now at.now.order.now
+        at.now.moment so_far.now.booked so_far.now.decisions number }
+{
+    let Some(job) = at.cluster.jobs.get(&number) else {
+        return false;
+    };
+    if may_reserve(&at.cluster.sched, &so_far.tally, job) {
+        return false;
+    }
+    is_noted(at.kinds, &so_far.full, number)
+}
+
+// Whether the tasks of a job are known to wait.
+fn waits(at: &Setting<'_>, so_far: &Progress, number: u32) -> bool
+    requires { Follows at.now.cluster.now at.now.groups.now at.now.order.now
+        at.now.moment at.now.kinds.now.entries so_far.now.booked so_far.now.decisions
+        so_far.now.tally so_far.now.passed so_far.now.full }
+    ensures { IsTrue result → Waits at.now.cluster.now at.now.groups.now at.now.order.now
+        at.now.moment so_far.now.booked so_far.now.decisions number }
+{
+    if is_passed(so_far.passed, number) {
+        return true;
+    }
+    is_shut(at, so_far, number)
+}
+
+fn passed_by(number: u32, decision: &Decision) -> Option<u32>
+    ensures { result ≡ job_passed number decision.now }
+{
+    match decision {
+        Decision::Skip(_) => Some(number),
+        Decision::Start(_) | Decision::Reserve(_) => None,
+    }
+}
+
+// Decides a task whose job isn't known to wait.
+fn weigh(
+    alloc: Global,
+    at: &Setting<'_>,
+    so_far: &mut Progress,
+    task: TaskId,
+) -> Result<(), AllocError>
+    requires { Follows at.now.cluster.now at.now.groups.now at.now.order.now
+        at.now.moment at.now.kinds.now.entries so_far.old.booked so_far.old.decisions
+        so_far.old.tally so_far.old.passed so_far.old.full }
+    ensures decided { OnOk result ((so_far.new.booked, so_far.new.decisions)
+        ≡ with_task at.now.cluster.now at.now.groups.now at.now.order.now at.now.moment
+        (so_far.old.booked, so_far.old.decisions) task) }
+    ensures follows { OnOk result (Follows at.now.cluster.now at.now.groups.now at.now.order.now
+        at.now.moment at.now.kinds.now.entries so_far.new.booked so_far.new.decisions
+        so_far.new.tally so_far.new.passed so_far.new.full) }
+{
+    let made = decision(alloc, at, &so_far.booked, &so_far.tally, task)?;
+    book(alloc, at, &mut so_far.booked, &made)?;
+    count(alloc, at.cluster, &mut so_far.tally, &made)?;
+    note(at.cluster, at.kinds, &mut so_far.full, task.job, &made)?;
+    so_far.passed = passed_by(task.job, &made);
+    so_far.decisions.push(made)?;
+    Ok(())
+}
+
+// One more task. One that is known to wait isn't placed.
+fn advance(
+    alloc: Global,
+    at: &Setting<'_>,
+    so_far: &mut Progress,
+    task: TaskId,
+) -> Result<(), AllocError>
+    requires { Follows at.now.cluster.now at.now.groups.now at.now.order.now
+        at.now.moment at.now.kinds.now.entries so_far.old.booked so_far.old.decisions
+        so_far.old.tally so_far.old.passed so_far.old.full }
+    ensures decided { OnOk result ((so_far.new.booked, so_far.new.decisions)
+        ≡ with_task at.now.cluster.now at.now.groups.now at.now.order.now at.now.moment
+        (so_far.old.booked, so_far.old.decisions) task) }
+    ensures follows { OnOk result (Follows at.now.cluster.now at.now.groups.now at.now.order.now
+        at.now.moment at.now.kinds.now.entries so_far.new.booked so_far.new.decisions
+        so_far.new.tally so_far.new.passed so_far.new.full) }
+{
+    if waits(at, so_far, task.job) {
+        so_far.decisions.push(Decision::Skip(task))?;
+        return Ok(());
+    }
+    weigh(alloc, at, so_far, task)
+}
+
+/// Decides all tasks, in their order.
+pub(crate) fn advance_all(
+    alloc: Global,
+    at: &Setting<'_>,
+    start: Progress,
+    order: &[TaskId],
+) -> Result<List<Decision>, AllocError>
+    requires { Follows at.now.cluster.now at.now.groups.now at.now.order.now
+        at.now.moment at.now.kinds.now.entries start.booked start.decisions
+        start.tally start.passed start.full }
+    ensures { IfOk result (λ decisions. decisions
+        ≡ (fold (with_task at.now.cluster.now at.now.groups.now at.now.order.now at.now.moment)
+        (start.booked, start.decisions) order.now).1) }
+{
+    let mut so_far = start;
+    for task in order {
+        advance(alloc, at, &mut so_far, *task)?;
+    }
+    let Progress {
+        booked: _,
+        decisions,
+        tally: _,
+        passed: _,
+        full: _,
+    } = so_far;
+    Ok(decisions)
+}

@@ -1,0 +1,96 @@
+// The decision of one task.
+ghost use Rattle.std.specs.Prelude.{◌≡◌, Some, IfOk};
+ghost use Rattle.ge_collections.specs.Keyed.{at_number};
+ghost use Rattle.ge_model_place.specs.Running.{start_with as started};
+ghost use Rattle.ge_scheduling.specs.Counts.{is_over, may_be_reserved};
+ghost use Rattle.ge_scheduling.specs.Verdicts.{waiting, decision_by, decision_at};
+
+use crate::counting::{Tally, is_full, may_reserve};
+use crate::reserving::reserve;
+use crate::setting::Setting;
+use ge_limits::LAST_SERIAL;
+use ge_place::place_job;
+use ge_rows::{Decision, Grant, Job, List, Start, TaskId};
+use ge_timeline::Timeline;
+use std::alloc::{AllocError, Global};
+
+// A start, where there is a number left.
+fn start_with(task: TaskId, serial: u64, grants: List<Grant>) -> Decision
+    ensures { result ≡ started task serial grants }
+{
+    if serial > LAST_SERIAL {
+        Decision::Skip(task)
+    } else {
+        Decision::Start(Start {
+            task,
+            serial,
+            grants,
+        })
+    }
+}
+
+// Of a task that can't start now.
+fn keep_waiting(
+    alloc: Global,
+    at: &Setting<'_>,
+    booked: &Timeline,
+    tally: &Tally,
+    job: &Job,
+    task: TaskId,
+) -> Result<Decision, AllocError>
+    ensures { IfOk result (λ decision. decision
+        ≡ waiting at.now.cluster.now at.now.groups.now at.now.order.now at.now.moment
+        booked.now (may_be_reserved at.now.cluster.now.sched tally.now job.now) (Some job.now) task) }
+{
+    if may_reserve(&at.cluster.sched, tally, job) {
+        reserve(alloc, at, booked, job, task)
+    } else {
+        Ok(Decision::Skip(task))
+    }
+}
+
+// Of a task of a job.
+fn decision_for(
+    alloc: Global,
+    at: &Setting<'_>,
+    booked: &Timeline,
+    tally: &Tally,
+    job: &Job,
+    task: TaskId,
+) -> Result<Decision, AllocError>
+    ensures { IfOk result (λ decision. decision
+        ≡ decision_by at.now.cluster.now at.now.groups.now at.now.order.now at.now.moment
+        booked.now (is_over at.now.cluster.now.sched tally.now job.now.owner)
+        (may_be_reserved at.now.cluster.now.sched tally.now job.now) tally.now.serial
+        (Some job.now) task) }
+{
+    if is_full(&at.cluster.sched, tally, &job.owner) {
+        return Ok(Decision::Skip(task));
+    }
+    match place_job(
+        alloc, at.cluster, at.groups, at.order, booked, job, at.moment,
+    )? {
+        Some(grants) => Ok(start_with(task, tally.serial, grants)),
+        None => keep_waiting(alloc, at, booked, tally, job, task),
+    }
+}
+
+/// The decision of a task over what is booked, by what is counted of the decisions before: a start, where the job's owner may
+/// have one more and it can be placed now; slots kept, where the job asks for that and may; else it waits, as a task does whose
+/// job isn't there (sched_conf, `maxujobs`, `max_reservation`).
+pub(crate) fn decision(
+    alloc: Global,
+    at: &Setting<'_>,
+    booked: &Timeline,
+    tally: &Tally,
+    task: TaskId,
+) -> Result<Decision, AllocError>
+    ensures { IfOk result (λ decision. decision
+        ≡ decision_at at.now.cluster.now at.now.groups.now at.now.order.now at.now.moment
+        booked.now tally.now (at_number at.now.cluster.now.jobs task.job) task) }
+{
+    match at.cluster.jobs.get(&task.job) {
+        Some(job) => decision_for(alloc, at, booked, tally, job, task),
+        None => Ok(Decision::Skip(task)),
+    }
+}

@@ -1,0 +1,23 @@
+//! A scheduling run over the whole model: one decision for each task, in the order of the tasks (sched_conf).
+//!
+//! A task starts where it can be placed now beside all that is booked by then; else slots are kept for it, where its job asks
+//! for that and may have it; else it waits. What a decision books counts for all that come after it. Contracts say by
+//! `ge_model_place` what a run is, and what holds of it.
+//!
+//! - `setting`: what stays the same during a run. `counting`: what is counted of the decisions so far. `kinds`: the kinds of jobs
+//!   of which no task can start any more.
+//! - `reserving`: the first moment at which a task can be placed. `deciding`: the decision of one task.
+//! - `bookings`: what a decision books. `advancing`: one task after the other.
+//! - [`run`]: the decisions of a run.
+#![tactic(auto)]
+
+mod advancing;
+mod bookings;
+mod counting;
+mod deciding;
+mod kinds;
+mod reserving;
+mod running;
+mod setting;
+
+pub use running::run;

@@ -1,0 +1,29 @@
+use Rattle.std.proofs.Common.{ap, sym, ◌∙◌}
+use Rattle.ge_points.specs.StepFunctions.{greatest}
+use Rattle.ge_timeline.specs.Looks.{changes, window_peak}
+use Rattle.ge_timeline.proofs.Joined.{found_draws, drawn_peak, no_peak, few_looks}
+use Rattle.ge_timeline.proofs.timeline.Timeline.peak.Goals as goal
+
+pub returns-in-Some-get-clause-greatest : goal.returns-in-Some-get-clause-greatest
+returns-in-Some-get-clause-greatest g c =
+    let inside = c.self.inside in
+    let points = c.in-Some-get.points.now in
+    let drawn = found_draws inside.index inside.functions inside.bookings c.args.limit.now c.in-Some.number points c.self.invariant.shows (sym c.in-Some.ensures) (sym c.in-Some-get.ensures) in
+    c.peak.ensures.greatest
+    ∙ ap (λ xs. greatest xs c.args.from c.args.until) c.as_slice.ensures.value
+    ∙ drawn_peak inside.bookings c.args.limit.now c.args.from c.args.until points.items drawn
+    ∙ ap (λ bs. window_peak bs c.args.limit.now c.args.from c.args.until) c.self.view_is
+
+pub returns-in-Some-get-clause-cost : goal.returns-in-Some-get-clause-cost
+returns-in-Some-get-clause-cost g c =
+    let inside = c.self.inside in
+    let points = c.in-Some-get.points.now in
+    let drawn = found_draws inside.index inside.functions inside.bookings c.args.limit.now c.in-Some.number points c.self.invariant.shows (sym c.in-Some.ensures) (sym c.in-Some-get.ensures) in
+    let looks = rw c.as_slice.ensures.value at c.peak.ensures.cost in
+    let few = few_looks (changes inside.bookings c.args.limit.now) points.items c.args.from c.args.until c.args.steps.now c.peak.new.steps drawn.within looks in
+    rw c.self.view_is at few
+
+pub returns-in-None-clause-greatest : goal.returns-in-None-clause-greatest
+returns-in-None-clause-greatest g c =
+    let inside = c.self.inside in
+    no_peak inside.index inside.functions inside.bookings c.args.limit.now c.args.from c.args.until c.self.invariant.shows (sym c.in-None.ensures) ∙ ap (λ bs. window_peak bs c.args.limit.now c.args.from c.args.until) c.self.view_is

@@ -1,0 +1,4 @@
+pub mod Kept
+pub mod Looks
+pub mod Shown
+pub mod Taking

@@ -1,0 +1,203 @@
+//! What tasks and reservations book.
+
+ghost use Rattle.std.specs.Prelude.{◌≡◌, ◌++◌, ◌||◌, ℕ, IfOk, OnOk, flat_map, map, not};
+ghost use Rattle.std.specs.List.{list_any};
+ghost use Rattle.std.specs.BTreeSet.{contains};
+ghost use Rattle.std.specs.Ordering.{nat_cmp};
+ghost use Rattle.ge_model_value.specs.Pieces.{is_empty};
+ghost use Rattle.ge_model_place.specs.Windows.{booked_until, job_bookings, runs_in_advance};
+ghost use Rattle.ge_model_place.specs.Windows as windows;
+ghost use Rattle.ge_windows.specs.InUse.{AreInUse};
+
+use crate::standing::stand_in;
+use crate::windows::window_end_from;
+use ge_demands::demands;
+use ge_rows::{Advance, Booking, Cluster, Grant, Groups, Job, List, Running, Table, TaskId};
+use std::alloc::{AllocError, Global};
+use std::collections::BTreeSet;
+
+/// What a task of a job books with these grants from a moment on, to where its window ends (qsub, qrsub).
+pub fn booking(
+    alloc: Global,
+    cluster: &Cluster,
+    groups: &Groups,
+    job: &Job,
+    task: TaskId,
+    grants: &[Grant],
+    from: u64,
+) -> Result<Booking, AllocError>
+    ensures { IfOk result (λ booking. booking
+        ≡ windows.booking_of cluster.now groups.now job.now task grants.now from) }
+{
+    let demands = demands(alloc, cluster, groups, job, grants)?;
+    let until = window_end_from(alloc, cluster, job, from)?;
+    Ok(Booking {
+        task,
+        demands,
+        from,
+        until,
+    })
+}
+
+fn next_moment(now: u64) -> u64
+    ensures { result ≡ windows.next_moment now }
+{
+    now.saturating_add(1)
+}
+
+// What a running task books: one that overran is booked up to the next moment.
+fn running_booking(
+    alloc: Global,
+    cluster: &Cluster,
+    groups: &Groups,
+    now: u64,
+    job: &Job,
+    task: TaskId,
+    running: &Running,
+) -> Result<Booking, AllocError>
+    ensures { IfOk result (λ booking. booking
+        ≡ windows.running_booking cluster.now groups.now now (task.job, job.now) (task.task, running.now)) }
+{
+    let grants = running.grants.items();
+    let mut booking = booking(alloc, cluster, groups, job, task, grants, running.start)?;
+    booking.until = booking.until.max(next_moment(now));
+    Ok(booking)
+}
+
+fn add_job(
+    alloc: Global,
+    cluster: &Cluster,
+    groups: &Groups,
+    now: u64,
+    bookings: &mut List<Booking>,
+    number: u32,
+    job: &Job,
+) -> Result<(), AllocError>
+    ensures { OnOk result (bookings.new ≡ bookings.old
+        ++ job_bookings cluster.now groups.now now (number, job.now)) }
+{
+    for (task, running) in job.running.iter() {
+        let task = TaskId {
+            job: number,
+            task: *task,
+        };
+        bookings.push(running_booking(alloc, cluster, groups, now, job, task, running)?)?;
+    }
+    Ok(())
+}
+
+fn add_jobs(
+    alloc: Global,
+    cluster: &Cluster,
+    groups: &Groups,
+    now: u64,
+    bookings: &mut List<Booking>,
+) -> Result<(), AllocError>
+    ensures { OnOk result (bookings.new ≡ bookings.old
+        ++ flat_map (job_bookings cluster.now groups.now now) cluster.now.jobs) }
+{
+    for (number, job) in cluster.jobs.iter() {
+        add_job(alloc, cluster, groups, now, bookings, *number, job)?;
+    }
+    Ok(())
+}
+
+fn has_running(job: &Job) -> bool
+    ensures { result ≡ not (is_empty job.now.running) }
+{
+    job.running.len() > 0
+}
+
+#[tactic(auto, using(crate::proofs::Noted::noted))]
+fn note_job(numbers: &mut BTreeSet<u32>, key: u32, job: &Job) -> Result<(), AllocError>
+    ensures { OnOk result ((number : ℕ) → contains nat_cmp numbers.new number
+        ≡ (runs_in_advance number (key, job.now) || contains nat_cmp numbers.old number)) }
+{
+    if has_running(job) {
+        numbers.insert(job.advance)?;
+    }
+    Ok(())
+}
+
+// The numbers of the reservations in which a task runs, with 0 for the jobs that were sent into none.
+fn numbers_in_use(alloc: Global, jobs: &Table<u32, Job>) -> Result<BTreeSet<u32>, AllocError>
+    ensures { IfOk result (λ numbers. AreInUse numbers jobs.now) }
+{
+    let mut numbers = BTreeSet::new(alloc);
+    for (key, job) in jobs.iter() {
+        note_job(&mut numbers, *key, job)?;
+    }
+    Ok(numbers)
+}
+
+// What a reservation books: up to the next moment where a task in it overran.
+fn advance_booking(
+    alloc: Global,
+    cluster: &Cluster,
+    groups: &Groups,
+    now: u64,
+    in_use: &BTreeSet<u32>,
+    number: u32,
+    advance: &Advance,
+) -> Result<Booking, AllocError>
+    requires { AreInUse in_use.now cluster.now.jobs }
+    ensures { IfOk result (λ booking. booking
+        ≡ windows.advance_booking cluster.now groups.now now (number, advance.now)) }
+{
+    let job = stand_in(alloc, advance)?;
+    let demands = demands(alloc, cluster, groups, &job, advance.grants.items())?;
+    let until = if in_use.contains(&number) {
+        advance.until.max(next_moment(now))
+    } else {
+        advance.until
+    };
+    let task = TaskId {
+        job: 0,
+        task: number,
+    };
+    Ok(Booking {
+        task,
+        demands,
+        from: advance.from,
+        until,
+    })
+}
+
+fn add_advances(
+    alloc: Global,
+    cluster: &Cluster,
+    groups: &Groups,
+    now: u64,
+    in_use: &BTreeSet<u32>,
+    bookings: &mut List<Booking>,
+) -> Result<(), AllocError>
+    requires { AreInUse in_use.now cluster.now.jobs }
+    ensures { OnOk result (bookings.new ≡ bookings.old
+        ++ map (windows.advance_booking cluster.now groups.now now) cluster.now.advances) }
+{
+    for (number, advance) in cluster.advances.iter() {
+        bookings.push(advance_booking(alloc, cluster, groups, now, in_use, *number, advance)?)?;
+    }
+    Ok(())
+}
+
+/// One booking for each running task, by job and task, and one for each advance reservation, by number: its task has the job
+/// 0. What overran is booked up to one second past now. The jobs are walked once more where there is a reservation
+/// (qsub, qrsub).
+#[tactic(auto, unfolding(ge_model_place::specs::Windows::base_bookings))]
+pub fn base_bookings(
+    alloc: Global,
+    cluster: &Cluster,
+    groups: &Groups,
+    now: u64,
+) -> Result<List<Booking>, AllocError>
+    ensures { IfOk result (λ bookings. bookings ≡ windows.base_bookings cluster.now groups.now now) }
+{
+    let mut bookings = List::new(alloc);
+    add_jobs(alloc, cluster, groups, now, &mut bookings)?;
+    if !cluster.advances.is_empty() {
+        let in_use = numbers_in_use(alloc, &cluster.jobs)?;
+        add_advances(alloc, cluster, groups, now, &in_use, &mut bookings)?;
+    }
+    Ok(bookings)
+}
