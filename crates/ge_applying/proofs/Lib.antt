@@ -1,0 +1,3 @@
+pub mod LeftRows
+pub mod JoinedMarks
+pub mod Folded

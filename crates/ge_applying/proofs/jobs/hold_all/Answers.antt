@@ -1,0 +1,8 @@
+use Rattle.ge_model_jobs.specs.Altering.{change_job, held}
+use Rattle.ge_applying.proofs.Folded.{one_further}
+use Rattle.ge_applying.proofs.jobs.hold_all.Goals as goal
+
+pub loop-number-preserved : goal.loop-number-preserved
+loop-number-preserved c =
+    one_further (change_job (held c.args.bits)) c.args.numbers.now c.loop-number.number-index _ c.loop-number.jobs c.hold.new.jobs _
+    c.loop-number-test.true c.hold.ensures c.loop-number.invariant

@@ -1,0 +1,4 @@
+pub mod Reports
+pub mod Ends
+pub mod Loads
+pub mod Over

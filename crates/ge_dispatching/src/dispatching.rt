@@ -1,0 +1,131 @@
+// The plan of a scheduling run.
+ghost use Rattle.std.specs.Prelude.{◌≡◌, [], ◌∷◌, ◌++◌, IfOk, OnOk, codes, decimal, filter_map, flat_map};
+ghost use Rattle.ge_rows.specs.Parts.{start_of};
+ghost use Rattle.ge_model_core.specs.Scheduling as scheduling;
+
+use crate::prioritizing::priorities;
+use ge_access::is_manager;
+use ge_answers::refuse;
+use ge_base::Refusal;
+use ge_job_lists::grants_text;
+use ge_order::order;
+use ge_rows::{
+    Change, Cluster, Decision, Entry, Event, List, Planned, Reply, Reservation, Start, TaskId,
+    Text, Twin,
+};
+use ge_scheduling::run;
+use ge_wording::decimal_text;
+use std::alloc::{AllocError, Global};
+
+fn task_text(alloc: Global, task: TaskId) -> Result<Text, AllocError>
+    ensures { IfOk result (λ text. text ≡ scheduling.task_text task) }
+{
+    let mut text = decimal_text(alloc, u128::from(task.job))?;
+    text.push(b'.')?;
+    text.append(decimal_text(alloc, u128::from(task.task))?.bytes())?;
+    Ok(text)
+}
+
+fn start_line(alloc: Global, start: &Start) -> Result<Text, AllocError>
+    ensures { IfOk result (λ line. line ≡ scheduling.start_line start.now) }
+{
+    let mut line = Text::from_bytes(alloc, b"start ")?;
+    line.append(decimal_text(alloc, u128::from(start.serial))?.bytes())?;
+    line.push(b' ')?;
+    line.append(task_text(alloc, start.task)?.bytes())?;
+    line.push(b' ')?;
+    line.append(grants_text(alloc, start.grants.items())?.bytes())?;
+    Ok(line)
+}
+
+fn reserve_line(alloc: Global, reservation: &Reservation) -> Result<Text, AllocError>
+    ensures { IfOk result (λ line. line ≡ scheduling.reserve_line reservation.now) }
+{
+    let mut line = Text::from_bytes(alloc, b"reserve ")?;
+    line.append(task_text(alloc, reservation.task)?.bytes())?;
+    line.push(b' ')?;
+    line.append(decimal_text(alloc, u128::from(reservation.at))?.bytes())?;
+    line.push(b' ')?;
+    line.append(grants_text(alloc, reservation.grants.items())?.bytes())?;
+    Ok(line)
+}
+
+fn push_line(lines: &mut List<Text>, alloc: Global, decision: &Decision) -> Result<(), AllocError>
+    ensures { OnOk result (lines.new ≡ lines.old ++ scheduling.decision_lines decision.now) }
+{
+    match decision {
+        Decision::Start(start) => lines.push(start_line(alloc, start)?),
+        Decision::Reserve(reservation) => lines.push(reserve_line(alloc, reservation)?),
+        Decision::Skip(_) => Ok(()),
+    }
+}
+
+fn decision_lines(alloc: Global, decisions: &[Decision]) -> Result<List<Text>, AllocError>
+    ensures { IfOk result (λ lines. lines ≡ flat_map scheduling.decision_lines decisions.now) }
+{
+    let mut lines = List::new(alloc);
+    for decision in decisions {
+        push_line(&mut lines, alloc, decision)?;
+    }
+    Ok(lines)
+}
+
+fn push_start(
+    starts: &mut List<Start>,
+    alloc: Global,
+    decision: &Decision,
+) -> Result<(), AllocError>
+    ensures { OnOk result (starts.new ≡ starts.old ++ filter_map start_of (decision.now ∷ [])) }
+{
+    match decision {
+        Decision::Start(start) => starts.push(start.twin(alloc)?),
+        Decision::Reserve(_) | Decision::Skip(_) => Ok(()),
+    }
+}
+
+fn starts_in(alloc: Global, decisions: &[Decision]) -> Result<List<Start>, AllocError>
+    ensures { IfOk result (λ starts. starts ≡ filter_map start_of decisions.now) }
+{
+    let mut starts = List::new(alloc);
+    for decision in decisions {
+        push_start(&mut starts, alloc, decision)?;
+    }
+    Ok(starts)
+}
+
+#[tactic(auto, unfolding(ge_model_core::specs::Scheduling::decisions_at))]
+fn decisions_at(alloc: Global, c: &Cluster, now: u64) -> Result<List<Decision>, AllocError>
+    ensures { IfOk result (λ decisions. decisions ≡ scheduling.decisions_at c.now now) }
+{
+    let prios = priorities(alloc, c, now)?;
+    let order = order(alloc, c, &prios, now)?;
+    run(alloc, c, order.items(), now)
+}
+
+fn decided(alloc: Global, e: &Event, decisions: &[Decision]) -> Result<Planned, AllocError>
+    ensures { IfOk result (λ planned. planned ≡ scheduling.decided e.now decisions.now) }
+{
+    let lines = decision_lines(alloc, decisions)?;
+    let starts = starts_in(alloc, decisions)?;
+    Ok(Planned {
+        entry: Some(Entry {
+            moment: e.moment,
+            change: Change::Run(starts),
+        }),
+        reply: Reply { code: 0, lines },
+        stop: false,
+    })
+}
+
+/// The plan of a scheduling run at the event's moment: NotPermitted for whoever is no manager, else a line for each start and each
+/// reservation, and an entry with the starts, also where there is none.
+#[tactic(auto, unfolding(ge_model_core::specs::Scheduling::sched_plan))]
+pub fn plan_run(alloc: Global, c: &Cluster, e: &Event) -> Result<Planned, AllocError>
+    ensures { IfOk result (λ planned. planned ≡ scheduling.sched_plan c.now e.now) }
+{
+    if !is_manager(c, &e.user) {
+        return refuse(alloc, Refusal::NotPermitted);
+    }
+    let decisions = decisions_at(alloc, c, e.moment)?;
+    decided(alloc, e, decisions.items())
+}

@@ -1,0 +1,43 @@
+// The priorities of all candidates.
+ghost use Rattle.std.specs.Prelude.{◌≡◌, IfOk};
+ghost use Rattle.ge_model_order.specs.Priority.{added_tickets, all_tickets_of, prios_at};
+
+use ge_order::{candidates, prios};
+use ge_rows::{Cluster, List, Prio};
+use ge_share::share_tickets;
+use ge_tickets::tickets;
+use std::alloc::{AllocError, Global};
+
+// Two lists of tickets, added job by job; a sum that passes 64 bits is cut.
+fn added(alloc: Global, tickets: &[u64], others: &[u64]) -> Result<List<u64>, AllocError>
+    ensures { IfOk result (λ sums. sums ≡ added_tickets tickets.now others.now) }
+{
+    let mut sums = List::new(alloc);
+    for (one, other) in tickets.iter().zip(others) {
+        sums.push(one.saturating_add(*other))?;
+    }
+    Ok(sums)
+}
+
+fn all_tickets(
+    alloc: Global,
+    c: &Cluster,
+    jobs: &List<u32>,
+    now: u64,
+) -> Result<List<u64>, AllocError>
+    ensures { IfOk result (λ sums. sums ≡ all_tickets_of c.now jobs.now now) }
+{
+    let functional = tickets(alloc, c, jobs)?;
+    let shared = share_tickets(alloc, c, jobs, now)?;
+    added(alloc, functional.items(), shared.items())
+}
+
+/// The priorities of all candidates at a moment, in order of their numbers.
+#[tactic(auto, unfolding(ge_model_order::specs::Priority::prios_at))]
+pub fn priorities(alloc: Global, c: &Cluster, now: u64) -> Result<List<Prio>, AllocError>
+    ensures { IfOk result (λ prios. prios ≡ prios_at c.now now) }
+{
+    let jobs = candidates(alloc, c, now)?;
+    let tickets = all_tickets(alloc, c, &jobs, now)?;
+    prios(alloc, c, &jobs, &tickets, now)
+}
