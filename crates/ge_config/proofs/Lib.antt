@@ -1,3 +1,9 @@
 pub mod Gathered
 pub mod Parts
 pub mod SchedParts
+pub mod Elements
+pub mod Lists
+pub mod Noted
+pub mod Distinct
+pub mod Harms
+pub mod ShareTree

@@ -3,3 +3,6 @@ pub mod Joined
 pub mod Several
 pub mod Settings
 pub mod Queues
+pub mod Words
+pub mod Uses
+pub mod ShareTree
