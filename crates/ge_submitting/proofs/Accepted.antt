@@ -1,9 +1,9 @@
 -- The answer to a submission, of its parts.
-use Rattle.std.proofs.Common.{◌≡◌, ℕ, List, [], ◌∷◌, Option, Some, refl, ap, ◌∙◌}
+use Rattle.std.proofs.Common.{◌≡◌, ℕ, List, [], ◌∷◌, Option, Some, ap, ◌∙◌}
 use Rattle.std.specs.Prelude.{option_map, codes}
 use Rattle.ge_model_rows.specs.ClusterRows.{Cluster}
 use Rattle.ge_model_rows.specs.EntryRows.{Submit}
-use Rattle.ge_model_rows.specs.EventRows.{Event, Planned}
+use Rattle.ge_model_rows.specs.EventRows.{Event}
 use Rattle.ge_model_rows.specs.JobRows.{Job, Request}
 use Rattle.ge_model_rows.specs.TaskRows.{TaskSpan}
 use Rattle.ge_model_grammar.specs.Options.{Given}

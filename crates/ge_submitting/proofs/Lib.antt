@@ -1,6 +1,9 @@
 pub mod Accepted
+pub mod Altered
 pub mod Held
 pub mod Named
 pub mod Noted
 pub mod Once
+pub mod Patched
 pub mod Sizes
+pub mod Walked

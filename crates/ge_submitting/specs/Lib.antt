@@ -1,3 +1,5 @@
+pub mod Altered
 pub mod Held
 pub mod Holding
 pub mod Listing
+pub mod Walking

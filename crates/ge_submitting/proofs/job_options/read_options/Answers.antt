@@ -1,4 +1,3 @@
-use Rattle.std.proofs.Common.{◌≡◌, ap, ◌∙◌}
 use Rattle.ge_submitting.specs.Held.{holder_shown}
 use Rattle.ge_submitting.proofs.Noted.{options_noted}
 use Rattle.ge_submitting.proofs.job_options.read_options.Goals as goal
