@@ -1,1 +1,1 @@
-mod StartedMarks
+pub mod Booked

@@ -4,20 +4,16 @@
 //! - [`apply`]: the cluster after an entry.
 //! - [`render`]: a reply as it is written.
 //!
-//! Nothing here reads or writes. Each call is the definition that its clause names, or wants memory.
+//! Nothing here reads or writes. Each call is the definition that its clause names, or wants memory. The plans of commands are
+//! written in crates of their own, by family.
 #![tactic(auto)]
 
-mod access;
-mod applying;
+mod booking;
 mod planning;
-mod reading;
-mod refusing;
 mod rendering;
-mod starting;
-mod submitting;
-mod wording;
+mod showing;
 
-pub use applying::apply;
+pub use ge_applying::apply;
 pub use ge_rows::Planned;
 pub use planning::plan;
 pub use rendering::render;

@@ -38,7 +38,6 @@ use Rattle.ge_model_core.specs.Scheduling.{sched_plan, decided, decisions_at}
 use Rattle.ge_model_core.specs.Booking.{advance_asked, book_faults, booked, book_plan, unbook_faults, unbooked, unbook_plan, show_booked_of, show_booked_plan}
 use Rattle.ge_model_core.specs.Plan.{event_command, command_plan, timely_plan, plan_of}
 use Rattle.ge_model_core.specs.Trace.{after_entries, cluster_after}
-use Rattle.ge_model_core.specs.Built.{is_built, if_built, built_plan_of}
 use Rattle.ge_model_core.specs.JobOptions.{option_faults}
 use Rattle.ge_model_core.specs.JobAdvances.{join_faults}
 use Rattle.ge_model_core.specs.Targets.{target_faults, named_jobs}
@@ -173,11 +172,6 @@ timely_named c e (Some command) named = chosen (nat_lt e.moment c.last) TimeBack
 pub plan_named : (c : Cluster) (e : Event) → IsWellNamed c → IsNaming (plan_of c e)
 unfolding plan_of
 plan_named c e named = chosen (is_cut e.form || is_too_long e.text) TooLong _ (timely_named c e (event_command e.form e.text) named)
-
--- also by the commands that are built
-pub built_plan_named : (c : Cluster) (e : Event) → IsWellNamed c → IsNaming (built_plan_of c e)
-unfolding built_plan_of
-built_plan_named c e named = chosen (is_cut e.form || is_too_long e.text) TooLong _ (timely_named c e (if_built (is_built e.text) (event_command e.form e.text)) named)
 
 -- ---- traces
 

@@ -39,7 +39,6 @@ use Rattle.ge_model_core.specs.Scheduling.{sched_plan, decided, decisions_at}
 use Rattle.ge_model_core.specs.Booking.{advance_asked, book_faults, booked, book_plan, unbook_faults, unbooked, unbook_plan, show_booked_of, show_booked_plan}
 use Rattle.ge_model_core.specs.Plan.{event_command, command_plan, timely_plan, plan_of}
 use Rattle.ge_model_core.specs.Trace.{after_entries, cluster_after}
-use Rattle.ge_model_core.specs.Built.{is_built, if_built, built_plan_of}
 
 -- an event is accepted, with code 0, or refused: nothing changes, and the master goes on
 unfoldable pub IsAnswer : Planned → Type 0
@@ -170,11 +169,6 @@ timed c e (Some command) = chosen (nat_lt e.moment c.last) TimeBack (command_pla
 pub plan_answers : (c : Cluster) (e : Event) → IsAnswer (plan_of c e)
 unfolding plan_of
 plan_answers c e = chosen (is_cut e.form || is_too_long e.text) TooLong _ (timed c e (event_command e.form e.text))
-
--- also by the commands that are built
-pub built_plan_answers : (c : Cluster) (e : Event) → IsAnswer (built_plan_of c e)
-unfolding built_plan_of
-built_plan_answers c e = chosen (is_cut e.form || is_too_long e.text) TooLong _ (timed c e (if_built (is_built e.text) (event_command e.form e.text)))
 
 -- a trace goes on behind a refused event as if it hadn't been there
 pub refused_leaves : (plan : Cluster → Event → Planned) → ((c : Cluster) (e : Event) → IsAnswer (plan c e))

@@ -16,7 +16,6 @@ pub mod Reports
 pub mod Scheduling
 pub mod Booking
 pub mod Plan
-pub mod Built
 pub mod Trace
 pub mod Scripts
 pub mod Refusals

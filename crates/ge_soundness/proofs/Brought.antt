@@ -4,7 +4,7 @@ use Rattle.ge_model_rows.specs.ClusterRows.{Cluster}
 use Rattle.ge_model_rows.specs.EntryRows.{Change}
 use Rattle.ge_model_rows.specs.JobRows.{Job}
 use Rattle.ge_model_jobs.specs.Soundness.{HasTask, IsSpanned, IsSound, has_advance}
-use Rattle.ge_model_plan.proofs.SoundnessSerials.{AreNumbered}
+use Rattle.ge_soundness.proofs.Starts.{AreNumbered}
 use Rattle.ge_model_jobs.specs.Orderly.{IsOrderly}
 use Rattle.ge_model_jobs.proofs.Orderly.{ArePicks}
 use Rattle.ge_model_place.specs.Advances.{KeepsBeside}

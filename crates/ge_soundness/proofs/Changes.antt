@@ -10,10 +10,10 @@ use Rattle.ge_model_rows.specs.JobRows.{Job, Running}
 use Rattle.ge_model_rows.specs.ScheduleRows.{Start}
 use Rattle.ge_model_rows.specs.TaskRows.{TaskId, TaskSpan}
 use Rattle.ge_model_jobs.specs.Soundness.{IsSound, IsBooked, has_advance}
-use Rattle.ge_model_plan.proofs.Soundness.{jobs_are_sound, sound_from_jobs, job_added}
-use Rattle.ge_model_plan.proofs.SoundnessLists.{all_put}
-use Rattle.ge_model_plan.proofs.SoundnessSerials.{AreNumbered}
-use Rattle.ge_model_plan.proofs.SoundnessStarts.{AreSound, serial_past_all}
+use Rattle.ge_soundness.proofs.Opening.{jobs_are_sound, sound_from_jobs, job_added}
+use Rattle.ge_soundness.proofs.Lists.{all_put}
+use Rattle.ge_soundness.proofs.Starts.{AreNumbered}
+use Rattle.ge_soundness.proofs.Starts.{AreSound, serial_past_all}
 use Rattle.ge_model_jobs.specs.declared.After.{After}
 use Rattle.ge_model_jobs.specs.Serials.{running_with}
 use Rattle.ge_model_jobs.specs.Picks.{joined_picks}

@@ -10,7 +10,7 @@ use Rattle.ge_model_rows.specs.ClusterRows.{Cluster}
 use Rattle.ge_model_rows.specs.JobRows.{Job, Advance}
 use Rattle.ge_model_rows.specs.ScheduleRows.{Start}
 use Rattle.ge_model_jobs.specs.Soundness.{IsAdvance, IsBooked, has_advance}
-use Rattle.ge_model_plan.proofs.SoundnessLists.{all_weaker, all_changed}
+use Rattle.ge_soundness.proofs.Lists.{all_weaker, all_changed}
 use Rattle.ge_model_jobs.specs.Orderly.{has_key, KeysFrom}
 use Rattle.ge_model_jobs.specs.Starting.{with_start, start_task, is_joined, is_left, left_booked, started as started_jobs}
 use Rattle.ge_model_jobs.proofs.Keys.{put_keys, put_rises, drop_keys, drop_rises, filter_rises}

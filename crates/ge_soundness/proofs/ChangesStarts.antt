@@ -9,10 +9,10 @@ use Rattle.ge_collections.specs.Keyed.{put_number}
 use Rattle.ge_model_rows.specs.JobRows.{Job}
 use Rattle.ge_model_rows.specs.ScheduleRows.{Start}
 use Rattle.ge_model_jobs.specs.Soundness.{HasTask, IsSpanned, HasStarted, job_serials, serials_of}
-use Rattle.ge_model_plan.proofs.SoundnessLists.{IsJoined, joined_all, joined_distinct, joined_after, joined_before, all_changed, all_put, all_weaker}
-use Rattle.ge_model_plan.proofs.SoundnessLists.IsJoined.{same}
-use Rattle.ge_model_plan.proofs.SoundnessJobs.{serials_put, waits_alone}
-use Rattle.ge_model_plan.proofs.SoundnessStarts.{FollowOn}
+use Rattle.ge_soundness.proofs.Lists.{IsJoined, joined_all, joined_distinct, joined_after, joined_before, all_changed, all_put, all_weaker}
+use Rattle.ge_soundness.proofs.Lists.IsJoined.{same}
+use Rattle.ge_soundness.proofs.Starts.{serials_put, waits_alone}
+use Rattle.ge_soundness.proofs.Starts.{FollowOn}
 use Rattle.ge_model_tasks.specs.Sets.{has_number, without_number}
 use Rattle.ge_model_jobs.specs.Orderly.{has_key, KeysFrom, IsOrderly, AllOrderly}
 use Rattle.ge_model_jobs.specs.Starting.{running_from, with_start, start_task}

@@ -7,7 +7,7 @@ use Rattle.ge_collections.specs.Changed.{change_value}
 use Rattle.ge_collections.specs.Keyed.{at_number, drop_number}
 use Rattle.ge_model_rows.specs.JobRows.{Job}
 use Rattle.ge_model_jobs.specs.Soundness.{HasTask, IsSpanned, IsParted, HasStarted, is_in_span, job_serials, serials_of}
-use Rattle.ge_model_plan.proofs.SoundnessStarts.{AreSound}
+use Rattle.ge_soundness.proofs.Starts.{AreSound}
 use Rattle.ge_model_jobs.specs.Altering.{change_job}
 use Rattle.ge_model_jobs.specs.Ending.{has_no_task, lose_tasks}
 use Rattle.ge_model_jobs.specs.Orderly.{KeysFrom, IsOrderly, AllOrderly}

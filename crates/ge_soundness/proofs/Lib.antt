@@ -1,3 +1,6 @@
+pub mod Lists
+pub mod Starts
+pub mod Opening
 pub mod ChangesParts
 pub mod ChangesJobs
 pub mod ChangesTables

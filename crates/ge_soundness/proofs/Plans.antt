@@ -11,7 +11,6 @@ use Rattle.ge_model_rows.specs.JobRows.{Advance}
 use Rattle.ge_model_script.specs.Lines.{is_too_long}
 use Rattle.ge_model_core.specs.Forms.{is_cut}
 use Rattle.ge_model_core.specs.Plan.{event_command, command_plan, timely_plan, plan_of}
-use Rattle.ge_model_core.specs.Built.{is_built, if_built, built_plan_of}
 use Rattle.ge_model_jobs.specs.Soundness.{IsSound}
 use Rattle.ge_model_place.specs.Advances.{KeepsBeside}
 use Rattle.ge_soundness.proofs.Brought.{Fits}
@@ -62,15 +61,6 @@ event_fits Form.TooLong text = tt
 pub planned : (c : Cluster) (e : Event) → IfSome (plan_of c e).entry (λ entry. (c.last ≤ entry.moment) × Fits c entry.moment entry.change)
 unfolding plan_of EntryFits
 planned c e = entry_if c (is_cut e.form || is_too_long e.text) TooLong _ (λ test. timely_entry c e (event_command e.form e.text) (event_fits e.form e.text))
-
--- so is that of a plan by the commands that are built
-pub built_planned : (c : Cluster) (e : Event) → IfSome (built_plan_of c e).entry (λ entry. (c.last ≤ entry.moment) × Fits c entry.moment entry.change)
-unfolding built_plan_of EntryFits
-built_planned c e = entry_if c (is_cut e.form || is_too_long e.text) TooLong _ (λ test. timely_entry c e (if_built (is_built e.text) (event_command e.form e.text)) (by (is_built e.text)))
-  where
-    by : (built : Bool) → FitsRead (if_built built (event_command e.form e.text))
-    by true = event_fits e.form e.text
-    by false = tt
 
 -- an advance reservation that is booked in a sound cluster takes no limit over what there is, unless more was booked before
 pub booked_keeps : (c : Cluster) (e : Event) (advance : Advance) → IsSound c → (plan_of c e).entry ≡ Some (record { moment = e.moment; change = Change.Book advance }) → KeepsBeside c e.moment c.next_advance advance

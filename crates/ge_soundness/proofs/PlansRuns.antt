@@ -9,7 +9,7 @@ use Rattle.ge_model_place.specs.Running.{is_start, serial_after, run_of}
 use Rattle.ge_limits.specs.Limits.{last_serial}
 use Rattle.ge_model_place.specs.Runs.{IsRunAfter, IsRun}
 use Rattle.ge_model_place.proofs.Decided.{run_of_is_run}
-use Rattle.ge_model_plan.proofs.SoundnessSerials.{AreNumbered}
+use Rattle.ge_soundness.proofs.Starts.{AreNumbered}
 
 -- one more start in front, with the serial before theirs
 start_numbered : (serial : ℕ) (start : Start) (starts : List Start) → start.serial ≡ serial → start.serial ≤ last_serial → AreNumbered (serial + 1) starts → AreNumbered serial (start ∷ starts)

@@ -3,7 +3,6 @@
 //! - [`sound_clusters_stay_sound`]: the opening cluster is sound, and no event takes that away.
 //! - [`refused_events_change_nothing`]: an event is accepted or refused, and a refused one leaves all as it was.
 //! - [`granted_reservations_keep_limits`]: an advance reservation is granted what there is.
-//! - [`the_first_path_stays_sound`]: the first by the definitions that today's functions are proved against.
 //!
 //! The functions do nothing: their contracts are the laws.
 #![tactic(auto)]
@@ -16,20 +15,15 @@ ghost use Rattle.ge_rows.specs.declared.events.Event.{Event};
 ghost use Rattle.ge_rows.specs.declared.entries.Change.TheVariants.{Book};
 ghost use Rattle.ge_rows.specs.declared.jobs.Advance.{Advance};
 ghost use Rattle.ge_model_place.specs.Advances.{KeepsBeside};
-ghost use Rattle.ge_model_cluster.specs.Applying.{after_entry as first_after_entry};
 ghost use Rattle.ge_model_jobs.specs.Soundness.{IsSound};
-ghost use Rattle.ge_model_plan.specs.Plan.{plan_of as first_plan_of};
 ghost use Rattle.ge_model_core.specs.Refusals.{refused};
-ghost use Rattle.ge_model_plan.specs.Trace.{cluster_after as first_cluster_after};
 ghost use Rattle.ge_model_jobs.specs.Applying.{after_entry};
 ghost use Rattle.ge_model_jobs.specs.Orderly.{IsOrdered};
-ghost use Rattle.ge_model_core.specs.Built.{built_plan_of};
 ghost use Rattle.ge_model_core.specs.Plan.{plan_of};
 ghost use Rattle.ge_model_core.specs.Trace.{cluster_after};
 
-/// The opening cluster is sound, and a sound cluster in order is so after each entry that the plan of an event gives:
-/// the plan of every command, and that of the commands which are built. So is the cluster after any trace, also one in
-/// which memory was wanting for some of the events.
+/// The opening cluster is sound, and a sound cluster in order is so after each entry that the plan of an event gives. So is
+/// the cluster after any trace, also one in which memory was wanting for some of the events.
 ///
 /// In a sound cluster the number of each live job is below the next job's; each live job has a task, and each of its
 /// tasks is in its span and waits, is in error or runs, just one of these; the serials of running tasks are at least
@@ -41,21 +35,15 @@ ghost use Rattle.ge_model_core.specs.Trace.{cluster_after};
 pub fn sound_clusters_stay_sound()
     ensures opening { IsSound opening_cluster × IsOrdered opening_cluster }
     ensures entries { (c : Cluster) (e : Event) → IsSound c → IsOrdered c → IfSome (plan_of c e).entry (λ entry. IsSound (after_entry c entry) × IsOrdered (after_entry c entry)) }
-    ensures built { (c : Cluster) (e : Event) → IsSound c → IsOrdered c → IfSome (built_plan_of c e).entry (λ entry. IsSound (after_entry c entry) × IsOrdered (after_entry c entry)) }
     ensures traces { (events : List Event) (marks : List Bool) → IsSound (cluster_after plan_of opening_cluster events marks) × IsOrdered (cluster_after plan_of opening_cluster events marks) }
-    ensures built_traces { (events : List Event) (marks : List Bool) → IsSound (cluster_after built_plan_of opening_cluster events marks) × IsOrdered (cluster_after built_plan_of opening_cluster events marks) }
 {}
 
 /// Every event is accepted, with code 0, or refused: then it has no entry, and the master goes on. So from any cluster
-/// a trace that begins with a refused event leaves what the rest of it leaves. By the plan of every command, and by
-/// that of the commands which are built.
+/// a trace that begins with a refused event leaves what the rest of it leaves.
 pub fn refused_events_change_nothing()
     ensures answers { (c : Cluster) (e : Event) → ((plan_of c e).reply.code ≡ 0) ⊎ ((refusal : Refusal) × (plan_of c e ≡ refused refusal)) }
-    ensures built { (c : Cluster) (e : Event) → ((built_plan_of c e).reply.code ≡ 0) ⊎ ((refusal : Refusal) × (built_plan_of c e ≡ refused refusal)) }
     ensures traces { (c : Cluster) (e : Event) (events : List Event) (mark : Bool) (marks : List Bool) → (plan_of c e).reply.code ≢ 0
         → cluster_after plan_of c (e ∷ events) (mark ∷ marks) ≡ cluster_after plan_of c events marks }
-    ensures built_traces { (c : Cluster) (e : Event) (events : List Event) (mark : Bool) (marks : List Bool) → (built_plan_of c e).reply.code ≢ 0
-        → cluster_after built_plan_of c (e ∷ events) (mark ∷ marks) ≡ cluster_after built_plan_of c events marks }
 {}
 
 /// What an accepted `qrsub` is granted takes no limit over what there is: where the plan of an event in a sound cluster
@@ -66,10 +54,4 @@ pub fn granted_reservations_keep_limits()
     ensures { (c : Cluster) (e : Event) (advance : Advance)
         → IsSound c → (plan_of c e).entry ≡ Some (record { moment = e.moment; change = Book advance })
         → KeepsBeside c e.moment c.next_advance advance }
-{}
-
-/// Soundness by the first path's definitions, of every sound cluster: they need no order of the jobs.
-pub fn the_first_path_stays_sound()
-    ensures entries { (c : Cluster) (e : Event) → IsSound c → IfSome (first_plan_of c e).entry (λ entry. IsSound (first_after_entry c entry)) }
-    ensures traces { (events : List Event) (marks : List Bool) → IsSound (first_cluster_after opening_cluster events marks) }
 {}

@@ -6,7 +6,8 @@ use Rattle.ge_outside.specs.Streams.{Gains, GainsPrefix, Gains-append}
 use Rattle.ge_model_rows.specs.ClusterRows.{Cluster}
 use Rattle.ge_model_rows.specs.EventRows.{Event}
 use Rattle.ge_model_core.specs.Render.{rendered}
-use Rattle.ge_model_plan.specs.Trace.{answer_of, after_entries, unless_stopped, output, WroteAll, WroteReplies, WroteFront}
+use Rattle.ge_model_core.specs.Plan.{plan_of}
+use Rattle.ge_model_core.specs.Trace.{answer_of, after_entries, output, WroteAll, WroteReplies, WroteFront}
 use Rattle.ge_top.specs.declared.answering.Answer.{Answer}
 use Rattle.ge_top.specs.Answering.{bytes_of, IsAnswer}
 
@@ -15,7 +16,7 @@ pub record HasAnswered (old now : Option (List ℕ)) (start : Cluster) (events :
   pub marks : List Bool
   pub replies : List ℕ
   pub gained : Gains old now replies
-  pub goes_on : (more : List Bool) → output start events (marks ++ more) ≡ replies ++ output reached rest more
+  pub goes_on : (more : List Bool) → output plan_of start events (marks ++ more) ≡ replies ++ output plan_of reached rest more
   pub counted : length marks + length rest ≡ length events
 
 Gains-nothing : {T : Type 0} (old : Option (List T)) → Gains old old []
@@ -27,29 +28,29 @@ HasAnswered-none old start events = record { marks = []; replies = []; gained = 
 
 -- the output from an event on, where the event doesn't stop the master
 output-going : (c new : Cluster) (event : Event) (rest : List Event) (mark : Bool) (more : List Bool) (bytes : List ℕ)
-    → bytes ≡ rendered (answer_of c event mark).reply → (answer_of c event mark).stop ≡ false → new ≡ after_entries c (answer_of c event mark).entry
-    → output c (event ∷ rest) (mark ∷ more) ≡ bytes ++ output new rest more
+    → bytes ≡ rendered (answer_of plan_of c event mark).reply → (answer_of plan_of c event mark).stop ≡ false → new ≡ after_entries c (answer_of plan_of c event mark).entry
+    → output plan_of c (event ∷ rest) (mark ∷ more) ≡ bytes ++ output plan_of new rest more
 output-going c new event rest mark more bytes reply going cluster = rw (reply, cluster, going) refl
 
 -- the same, where it does
 output-stopped : (c : Cluster) (event : Event) (rest : List Event) (mark : Bool) (more : List Bool) (bytes : List ℕ)
-    → bytes ≡ rendered (answer_of c event mark).reply → (answer_of c event mark).stop ≡ true → output c (event ∷ rest) (mark ∷ more) ≡ bytes
-output-stopped c event rest mark more bytes reply stopped = rw (reply, stopped) (append-nil (rendered (answer_of c event mark).reply))
+    → bytes ≡ rendered (answer_of plan_of c event mark).reply → (answer_of plan_of c event mark).stop ≡ true → output plan_of c (event ∷ rest) (mark ∷ more) ≡ bytes
+output-stopped c event rest mark more bytes reply stopped = rw (reply, stopped) (append-nil (rendered (answer_of plan_of c event mark).reply))
 
-unless_stopped-nil : (stop : Bool) → unless_stopped stop [] ≡ []
+unless_stopped-nil : (stop : Bool) → ◌≡◌ {A = List ℕ} (elim stop as (λ x. List ℕ) [ true ↦ [] | false ↦ [] ]) []
 unless_stopped-nil true = refl
 unless_stopped-nil false = refl
 
 -- the same, where no event after it is answered
 output-last : (c : Cluster) (event : Event) (rest : List Event) (mark : Bool) (bytes : List ℕ)
-    → bytes ≡ rendered (answer_of c event mark).reply → output c (event ∷ rest) (mark ∷ []) ≡ bytes
+    → bytes ≡ rendered (answer_of plan_of c event mark).reply → output plan_of c (event ∷ rest) (mark ∷ []) ≡ bytes
 output-last c event rest mark bytes reply =
-    rw (reply, unless_stopped-nil (answer_of c event mark).stop) (append-nil (rendered (answer_of c event mark).reply))
+    rw (reply, unless_stopped-nil (answer_of plan_of c event mark).stop) (append-nil (rendered (answer_of plan_of c event mark).reply))
 
 -- the output with one mark more
 output-more : (old now : Option (List ℕ)) (start reached : Cluster) (events rest : List Event) (event : Event) (mark : Bool) (more : List Bool)
-    (so_far : HasAnswered old now start events reached (event ∷ rest)) (bytes : List ℕ) → output reached (event ∷ rest) (mark ∷ more) ≡ bytes
-    → output start events (so_far.marks ++ mark ∷ more) ≡ so_far.replies ++ bytes
+    (so_far : HasAnswered old now start events reached (event ∷ rest)) (bytes : List ℕ) → output plan_of reached (event ∷ rest) (mark ∷ more) ≡ bytes
+    → output plan_of start events (so_far.marks ++ mark ∷ more) ≡ so_far.replies ++ bytes
 output-more old now start reached events rest event mark more so_far bytes is = so_far.goes_on (mark ∷ more) ∙ ap (λ (tail : List ℕ). so_far.replies ++ tail) is
 
 -- one event more
@@ -60,31 +61,31 @@ HasAnswered-more old now after start reached new events rest event answer so_far
   marks = so_far.marks ++ is.mark ∷ [];
   replies = so_far.replies ++ bytes_of answer.reply;
   gained = Gains-append old now after so_far.replies (bytes_of answer.reply) so_far.gained gains;
-  goes_on = λ more. ap (output start events) (append_assoc so_far.marks (is.mark ∷ []) more)
-      ∙ output-more old now start reached events rest event is.mark more so_far (bytes_of answer.reply ++ output new rest more)
+  goes_on = λ more. ap (output plan_of start events) (append_assoc so_far.marks (is.mark ∷ []) more)
+      ∙ output-more old now start reached events rest event is.mark more so_far (bytes_of answer.reply ++ output plan_of new rest more)
       (output-going reached new event rest is.mark more (bytes_of answer.reply) is.reply (sym is.stop ∙ going) is.cluster)
-      ∙ sym (append_assoc so_far.replies (bytes_of answer.reply) (output new rest more));
+      ∙ sym (append_assoc so_far.replies (bytes_of answer.reply) (output plan_of new rest more));
   counted = omega (arith, length-append so_far.marks (is.mark ∷ []), so_far.counted);
 }
 
 output-marks : (old now : Option (List ℕ)) (start reached : Cluster) (events rest : List Event) (so_far : HasAnswered old now start events reached rest)
-    → output start events so_far.marks ≡ so_far.replies
+    → output plan_of start events so_far.marks ≡ so_far.replies
 output-marks old now start reached events rest so_far =
-    ap (output start events) (sym (append-nil so_far.marks)) ∙ so_far.goes_on [] ∙ append-nil so_far.replies
+    ap (output plan_of start events) (sym (append-nil so_far.marks)) ∙ so_far.goes_on [] ∙ append-nil so_far.replies
 
 -- all events are answered
 pub HasAnswered-all : (old now : Option (List ℕ)) (start reached : Cluster) (events rest : List Event) → HasAnswered old now start events reached rest → rest ≡ []
-    → WroteAll old now start events
+    → WroteAll plan_of old now start events
 HasAnswered-all old now start reached events rest so_far done =
     (so_far.marks, omega (arith, so_far.counted, ap length done), rw (output-marks old now start reached events rest so_far) so_far.gained)
 
 -- the last event stops the master
 pub HasAnswered-stopped : (old now after : Option (List ℕ)) (start reached new : Cluster) (events rest : List Event) (event : Event) (answer : Answer)
     → HasAnswered old now start events reached (event ∷ rest) → IsAnswer reached event answer new → answer.stop ≡ true
-    → Gains now after (bytes_of answer.reply) → WroteAll old after start events
+    → Gains now after (bytes_of answer.reply) → WroteAll plan_of old after start events
 HasAnswered-stopped old now after start reached new events rest event answer so_far is stopped gains =
     let more = replicate (length rest) false in
-    let whole : output start events (so_far.marks ++ is.mark ∷ more) ≡ so_far.replies ++ bytes_of answer.reply =
+    let whole : output plan_of start events (so_far.marks ++ is.mark ∷ more) ≡ so_far.replies ++ bytes_of answer.reply =
     output-more old now start reached events rest event is.mark more so_far (bytes_of answer.reply)
     (output-stopped reached event rest is.mark more (bytes_of answer.reply) is.reply (sym is.stop ∙ stopped)) in (
       so_far.marks ++ is.mark ∷ more,
@@ -94,17 +95,17 @@ HasAnswered-stopped old now after start reached new events rest event answer so_
 
 -- what is written ends at the end of a reply
 pub HasAnswered-replies : (old now : Option (List ℕ)) (start reached : Cluster) (events rest : List Event) → HasAnswered old now start events reached rest
-    → WroteReplies old now start events
+    → WroteReplies plan_of old now start events
 HasAnswered-replies old now start reached events rest so_far =
     (so_far.marks, omega (arith, so_far.counted), rw (output-marks old now start reached events rest so_far) so_far.gained)
 
 -- a front of the next reply is written too
 pub HasAnswered-front : (old now after : Option (List ℕ)) (start reached new : Cluster) (events rest : List Event) (event : Event) (answer : Answer)
     → HasAnswered old now start events reached (event ∷ rest) → IsAnswer reached event answer new
-    → GainsPrefix now after (bytes_of answer.reply) → WroteFront old after start events
+    → GainsPrefix now after (bytes_of answer.reply) → WroteFront plan_of old after start events
 HasAnswered-front old now after start reached new events rest event answer so_far is gains =
     let bytes = bytes_of answer.reply in
-    let whole : output start events (so_far.marks ++ is.mark ∷ []) ≡ so_far.replies ++ bytes =
+    let whole : output plan_of start events (so_far.marks ++ is.mark ∷ []) ≡ so_far.replies ++ bytes =
     output-more old now start reached events rest event is.mark [] so_far bytes (output-last reached event rest is.mark bytes is.reply) in (
       so_far.marks ++ is.mark ∷ [],
       omega (arith, length-append so_far.marks (is.mark ∷ []), so_far.counted),
@@ -116,12 +117,12 @@ HasAnswered-front old now after start reached new events rest event answer so_fa
     )
 
 -- whole replies are a front
-pub WroteFront-from_replies : (old now : Option (List ℕ)) (start : Cluster) (events : List Event) → WroteReplies old now start events → WroteFront old now start events
+pub WroteFront-from_replies : (old now : Option (List ℕ)) (start : Cluster) (events : List Event) → WroteReplies plan_of old now start events → WroteFront plan_of old now start events
 WroteFront-from_replies old now start events wrote =
-    let bytes = output start events wrote.0 in
+    let bytes = output plan_of start events wrote.0 in
     (wrote.0, wrote.1, (length bytes, omega arith, rw (take-length bytes) wrote.2))
 
-pub WroteFront-from_all : (old now : Option (List ℕ)) (start : Cluster) (events : List Event) → WroteAll old now start events → WroteFront old now start events
+pub WroteFront-from_all : (old now : Option (List ℕ)) (start : Cluster) (events : List Event) → WroteAll plan_of old now start events → WroteFront plan_of old now start events
 WroteFront-from_all old now start events wrote = WroteFront-from_replies old now start events (wrote.0, omega (arith, wrote.1), wrote.2)
 
 -- the events that are left begin with this one

@@ -3,7 +3,7 @@ ghost use Rattle.std.specs.Prelude.{◌≡◌, [], ◌∷◌, IfOk, OnOk, IsErrO
 ghost use Rattle.ge_outside.specs.Faults.{Rose};
 ghost use Rattle.ge_rows.specs.Opening.{opening_cluster};
 ghost use Rattle.ge_model_script.specs.Events.{events_of};
-ghost use Rattle.ge_model_core.specs.Built.{built_plan_of};
+ghost use Rattle.ge_model_core.specs.Plan.{plan_of};
 ghost use Rattle.ge_model_core.specs.Trace.{WroteAll, WroteReplies, WroteFront};
 ghost use Rattle.ge_rows.specs.declared.cluster.Cluster.{Cluster};
 ghost use Rattle.ge_rows.specs.declared.events.Event.{Event};
@@ -105,9 +105,9 @@ pub(crate) fn answer_script<K: Sink>(
     script: &[u8],
     output: &mut K,
 ) -> Result<(), AnswerFault>
-    ensures whole { OnOk result (WroteAll built_plan_of (K.written output.old) (K.written output.new) opening_cluster (events_of script.now)) }
-    ensures memory { IsErrOf result AnswerFault.Memory → WroteReplies built_plan_of (K.written output.old) (K.written output.new) opening_cluster (events_of script.now) }
-    ensures front { WroteFront built_plan_of (K.written output.old) (K.written output.new) opening_cluster (events_of script.now) }
+    ensures whole { OnOk result (WroteAll plan_of (K.written output.old) (K.written output.new) opening_cluster (events_of script.now)) }
+    ensures memory { IsErrOf result AnswerFault.Memory → WroteReplies plan_of (K.written output.old) (K.written output.new) opening_cluster (events_of script.now) }
+    ensures front { WroteFront plan_of (K.written output.old) (K.written output.new) opening_cluster (events_of script.now) }
     ensures write { IsErrOf result AnswerFault.Write → Rose (K.write_faults output.old) (K.write_faults output.new) }
     ensures later { K.write_faults output.old ≤ K.write_faults output.new }
 {

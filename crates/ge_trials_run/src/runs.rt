@@ -2,7 +2,7 @@
 use ge_rows::{
     Cluster, Decision, Job, List, Request, Table, TaskId, TaskSet, TaskSpan, Text, opening,
 };
-use ge_sched::run;
+use ge_scheduling::run;
 use std::alloc::{AllocError, Global};
 use std::test::Fail;
 
@@ -80,7 +80,7 @@ fn starts(alloc: Global, decisions: &List<Decision>) -> Result<String, AllocErro
 fn two_of_three_start(rt: HostRuntime) -> Result<(), Fail> {
     let alloc = rt.alloc();
     let cluster = with_jobs(alloc, 3)?;
-    let decisions = run(alloc, &cluster, &in_order(alloc, 3)?, 20)?;
+    let decisions = run(alloc, &cluster, in_order(alloc, 3)?.items(), 20)?;
     assert_eq!(rt; decisions.len(), 3);
     assert_eq!(rt; starts(alloc, &decisions)?.as_str(), "0=1 1=2 ");
     Ok(())
@@ -90,7 +90,7 @@ fn two_of_three_start(rt: HostRuntime) -> Result<(), Fail> {
 fn many_wait(rt: HostRuntime) -> Result<(), Fail> {
     let alloc = rt.alloc();
     let cluster = with_jobs(alloc, 20000)?;
-    let decisions = run(alloc, &cluster, &in_order(alloc, 20000)?, 20)?;
+    let decisions = run(alloc, &cluster, in_order(alloc, 20000)?.items(), 20)?;
     assert_eq!(rt; decisions.len(), 20000);
     assert_eq!(rt; starts(alloc, &decisions)?.as_str(), "0=1 1=2 ");
     Ok(())

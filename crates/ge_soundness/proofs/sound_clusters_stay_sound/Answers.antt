@@ -1,8 +1,7 @@
 use Rattle.ge_model_rows.specs.ClusterRows.{opening_cluster}
-use Rattle.ge_model_plan.proofs.Soundness.{opening_is_sound}
-use Rattle.ge_model_core.specs.Built.{built_plan_of}
+use Rattle.ge_soundness.proofs.Opening.{opening_is_sound}
 use Rattle.ge_model_core.specs.Plan.{plan_of}
-use Rattle.ge_soundness.proofs.Plans.{planned, built_planned}
+use Rattle.ge_soundness.proofs.Plans.{planned}
 use Rattle.ge_soundness.proofs.Traces.{opening_ordered, entry_kept, trace_kept}
 use Rattle.ge_soundness.proofs.sound_clusters_stay_sound.Goals as goal
 
@@ -12,11 +11,5 @@ returns-clause-opening c = (opening_is_sound, opening_ordered)
 pub returns-clause-entries : goal.returns-clause-entries
 returns-clause-entries c = entry_kept plan_of planned
 
-pub returns-clause-built : goal.returns-clause-built
-returns-clause-built c = entry_kept built_plan_of built_planned
-
 pub returns-clause-traces : goal.returns-clause-traces
 returns-clause-traces c = λ events marks. trace_kept plan_of planned marks opening_cluster events (opening_is_sound, opening_ordered)
-
-pub returns-clause-built_traces : goal.returns-clause-built_traces
-returns-clause-built_traces c = λ events marks. trace_kept built_plan_of built_planned marks opening_cluster events (opening_is_sound, opening_ordered)

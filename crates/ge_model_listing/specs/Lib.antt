@@ -1,2 +1,0 @@
-pub mod TaskText
-pub mod Listing

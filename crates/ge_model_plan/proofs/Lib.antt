@@ -1,6 +1,0 @@
-pub mod SoundnessLists
-pub mod SoundnessJobs
-pub mod SoundnessStarts
-pub mod SoundnessSerials
-pub mod Soundness
-pub mod SoundnessTraces

@@ -1,3 +1,0 @@
-pub use Rattle.ge_collections.specs.Keyed
-pub mod Placing
-pub mod Running
