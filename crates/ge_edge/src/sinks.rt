@@ -28,7 +28,7 @@ impl<W: Write + Drop> StdoutSink<W> {
 }
 
 // One write, made again where a signal interrupts it.
-fn write_once<W: Write>(writer: &mut W, piece: &[u8]) -> io::Result<usize>
+pub(crate) fn write_once<W: Write>(writer: &mut W, piece: &[u8]) -> io::Result<usize>
     ensures bound { WritesAtMost result piece.now }
     ensures bytes { WriteAppends (W.contents writer.old) (W.contents writer.new) result piece.now }
     ensures retried { IfErr result (λ error. error_kind error ≢ ErrorKind.Interrupted) }

@@ -27,7 +27,7 @@ impl<R: Read + Drop> StdinSource<R> {
 }
 
 // One read, made again where a signal interrupts it.
-fn read_once<R: Read>(reader: &mut R, buf: &mut [u8]) -> io::Result<usize>
+pub(crate) fn read_once<R: Read>(reader: &mut R, buf: &mut [u8]) -> io::Result<usize>
     ensures bound { ReadsAtMost result buf.new }
     ensures bytes { ReadConsumes (R.remaining reader.old) (R.remaining reader.new) result buf.new }
     ensures retried { IfErr result (λ error. error_kind error ≢ ErrorKind.Interrupted) }

@@ -32,6 +32,3 @@ pub use memory_doors::MemDoor;
 pub use memory_links::MemLink;
 pub use memory_streams::{MemSink, MemSource, PlainSource};
 pub use streams::{Link, Sink, Source, write_all};
-
-#[cfg(test)]
-mod tests;

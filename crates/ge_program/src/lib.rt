@@ -2,10 +2,9 @@
 //! made over them. A `main` has nothing to do but to end with the status.
 #![tactic(auto)]
 
-mod reading;
 mod running;
 mod statuses;
 
-pub use reading::read_words;
+pub use ge_edge::read_words;
 pub use running::run;
 pub use statuses::status_of;

@@ -1,7 +1,7 @@
 // The program's status, from its words on.
-ghost use Rattle.std.specs.Prelude.{◌≡◌, ◌≢◌, ◌↔◌, map, string_bytes, IfOk, IfErr, IsErr};
+ghost use Rattle.std.specs.Prelude.{◌≡◌, ◌≢◌, ◌↔◌, map, string_bytes, None, IfOk, IfErr, IsErr};
 ghost use Rattle.std.specs.IoError.{error_kind};
-ghost use Rattle.ge_model_top.specs.Words.{IsLine};
+ghost use Rattle.ge_model_top.specs.Words.{word_of};
 
 use ge_outside::{Clock, Disk, Door, Sink, Source};
 use ge_top::gridmaster;
@@ -13,7 +13,7 @@ use std::io::ErrorKind;
 const USAGE: u8 = 2;
 
 /// The status of a run that found no memory.
-const NO_MEMORY: u8 = 10;
+pub(crate) const NO_MEMORY: u8 = 10;
 
 /// The status of the program with the words that were read: that of the top call. Words that could not
 /// be read are a faulty command line, status 2, unless memory was wanted, status 10; then nothing of
@@ -28,7 +28,7 @@ pub fn status_of<S: Source, K: Sink, D: Disk, L: Door, C: Clock>(
     door: &mut L,
     clock: &mut C,
 ) -> u8
-    ensures usage { IfOk words (λ words. (result ≡ 2) ↔ ¬ (IsLine (map string_bytes words.items))) }
+    ensures usage { IfOk words (λ words. (result ≡ 2) ↔ (word_of (map string_bytes words.items) ≡ None)) }
     ensures no_memory { IfErr words (λ error. error_kind error ≡ ErrorKind.OutOfMemory → result ≡ 10) }
     ensures no_text { IfErr words (λ error. error_kind error ≢ ErrorKind.OutOfMemory → result ≡ 2) }
     ensures unread { IsErr words → input.new ≡ input.old }

@@ -1,5 +1,5 @@
 -- What reading an area answers.
-use Rattle.std.specs.Prelude.{◌≡◌, ℕ, ◌-◌, ◌≤◌, true, List, [], ◌∷◌, ◌++◌, length, Result, Ok, Err}
+use Rattle.std.specs.Prelude.{◌≡◌, ℕ, ◌-◌, ◌^◌, ◌<◌, ◌≤◌, true, List, [], ◌∷◌, ◌++◌, length, Result, Ok, Err}
 use Rattle.ge_model_disk.specs.Disk.{Content}
 use Rattle.ge_model_journal.specs.Area.{head, is_format}
 use Rattle.ge_model_journal.specs.declared.Head.{Head}
@@ -25,9 +25,13 @@ abbrev pub IsHeadOf : List Content → ℕ → Head → Type 0
 IsHeadOf [] size h = Unit {0}
 IsHeadOf (now ∷ earlier) size h = (size ≡ length now.bytes) × (h ≡ head now.bytes)
 
+-- an area of this format and generation can be followed by one of the next generation: in format 1 none is the last
+abbrev pub GoesOn : ℕ → ℕ → Type 0
+GoesOn format generation = format ≡ 1 → generation < 2 ^ 64 - 1
+
 -- a header whose fields fit
 abbrev pub FitsHead : ℕ → Head → Type 0
 FitsHead size Closed = Unit {0}
 FitsHead size (Faulty place) = Unit {0}
 FitsHead size (Overlong generation) = Unit {0}
-FitsHead size (Sound header) = (19 ≤ size) × (header.size ≤ size - 18) × (is_format header.format ≡ true)
+FitsHead size (Sound header) = (19 ≤ size) × (header.size ≤ size - 18) × (is_format header.format ≡ true) × GoesOn header.format header.generation

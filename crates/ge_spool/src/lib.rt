@@ -27,6 +27,3 @@ pub use faults::{AppendFault, OpenFault};
 pub use pieces::{RecordBytes, SnapshotBytes};
 pub use raw::Raw;
 pub use spool::{Spool, WRITTEN_FORMAT};
-
-#[cfg(test)]
-mod tests;

@@ -1,6 +1,7 @@
 // The journal: records behind a snapshot, in one of two areas.
 ghost use Rattle.std.specs.Prelude.{◌≡◌, ◌^◌, ◌≤◌, true};
 ghost use Rattle.ge_model_journal.specs.Area.{is_format};
+ghost use Rattle.ge_spool.specs.Reads.{GoesOn};
 
 /// The format of all that is written. A journal of another format takes no records until it is compacted.
 pub const WRITTEN_FORMAT: u8 = 2;
@@ -23,6 +24,7 @@ pub struct Spool {
     // whether a call met a failure of a disk
     pub(crate) dead: bool,
     ghost format_known: { is_format format ≡ true },
+    ghost goes_on: { GoesOn format generation },
     ghost end_fits: { end ≤ 2 ^ 63 },
     ghost records_fit: { records ≤ end },
 }
@@ -45,9 +47,10 @@ impl Spool {
         self.format
     }
 
-    /// The generation of the area that counts.
+    /// The generation of the area that counts. In format 1 it is not the last.
     pub fn generation(&self) -> u64
-        ensures { result ≡ generation_of self.now }
+        ensures value { result ≡ generation_of self.now }
+        ensures goes_on { GoesOn (format_of self.now) result }
     {
         self.generation
     }

@@ -3,7 +3,7 @@ ghost use Rattle.std.specs.Prelude.{◌≡◌, ◌==◌, ◌+◌, ◌^◌, ◌<�
 ghost use Rattle.ge_model_journal.specs.Area.{head_of, is_format, is_bad_generation, is_bad_length, number4, records_from, end_from};
 ghost use Rattle.ge_model_journal.specs.Journal.{choice};
 ghost use Rattle.ge_outside.specs.Faults.{HasCause};
-ghost use Rattle.ge_spool.specs.Reads.{ReadsRecords, IsHeadOf, FitsHead};
+ghost use Rattle.ge_spool.specs.Reads.{ReadsRecords, IsHeadOf, FitsHead, GoesOn};
 
 use crate::OpenFault;
 use ge_collections::{List, Text};
@@ -27,7 +27,8 @@ fn is_format(format: u8) -> bool
 
 // Whether no area has such a generation: in format 1 the greatest number ends all compactions.
 fn is_bad_generation(format: u8, generation: u64) -> bool
-    ensures { result ≡ is_bad_generation format generation }
+    ensures value { result ≡ is_bad_generation format generation }
+    ensures goes_on { result ≡ false → GoesOn format generation }
 {
     generation == 0 || (format == 1 && generation == u64::MAX)
 }

@@ -1,1 +1,12 @@
 pub mod Traces
+pub mod TracedBatches
+pub mod Images
+pub mod Runs
+pub mod TooLong
+pub mod Steps
+pub mod Opened
+pub mod Replayed
+pub mod Refused
+pub mod ReplayedAreas
+pub mod ShownAreas
+pub mod Usage

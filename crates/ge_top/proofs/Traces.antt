@@ -19,7 +19,7 @@ pub record HasAnswered (old now : Option (List ℕ)) (start : Cluster) (events :
   pub goes_on : (more : List Bool) → output plan_of start events (marks ++ more) ≡ replies ++ output plan_of reached rest more
   pub counted : length marks + length rest ≡ length events
 
-Gains-nothing : {T : Type 0} (old : Option (List T)) → Gains old old []
+pub Gains-nothing : {T : Type 0} (old : Option (List T)) → Gains old old []
 Gains-nothing None = tt
 Gains-nothing (Some xs) = sym (append-nil xs)
 

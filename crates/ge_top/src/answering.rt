@@ -105,10 +105,15 @@ pub(crate) fn answer_script<K: Sink>(
     script: &[u8],
     output: &mut K,
 ) -> Result<(), AnswerFault>
-    ensures whole { OnOk result (WroteAll plan_of (K.written output.old) (K.written output.new) opening_cluster (events_of script.now)) }
-    ensures memory { IsErrOf result AnswerFault.Memory → WroteReplies plan_of (K.written output.old) (K.written output.new) opening_cluster (events_of script.now) }
-    ensures front { WroteFront plan_of (K.written output.old) (K.written output.new) opening_cluster (events_of script.now) }
-    ensures write { IsErrOf result AnswerFault.Write → Rose (K.write_faults output.old) (K.write_faults output.new) }
+    ensures whole { OnOk result (WroteAll plan_of (K.written output.old) (K.written output.new)
+        opening_cluster (events_of script.now)) }
+    ensures memory { IsErrOf result AnswerFault.Memory
+        → WroteReplies plan_of (K.written output.old) (K.written output.new)
+        opening_cluster (events_of script.now) }
+    ensures front { WroteFront plan_of (K.written output.old) (K.written output.new)
+        opening_cluster (events_of script.now) }
+    ensures write { IsErrOf result AnswerFault.Write
+        → Rose (K.write_faults output.old) (K.write_faults output.new) }
     ensures later { K.write_faults output.old ≤ K.write_faults output.new }
 {
     let mut cluster = opening(alloc)?;

@@ -2,31 +2,19 @@
 ghost use Rattle.ge_model_top.specs.Simulating.{Simulates};
 
 use crate::answering::{AnswerFault, answer_script};
+use crate::statuses::{DONE, LONG, NO_MEMORY, READ_FAULT, WRITE_FAULT};
 use ge_outside::{Sink, Source};
 use ge_script::{ScriptFault, read_script};
 use std::alloc::Global;
-
-/// The status of a run that did all.
-const DONE: u8 = 0;
-
-/// The status where the script's end did not come within as many bytes as a script may have.
-const LONG: u8 = 3;
-
-/// The status where a read of the input failed.
-const READ_FAULT: u8 = 6;
-
-/// The status where a write of the output failed.
-const WRITE_FAULT: u8 = 7;
-
-/// The status where memory ran out.
-const NO_MEMORY: u8 = 10;
 
 /// Reads a script and writes the rendered replies to its requests, from the opening cluster; touches no disk. At status 0
 /// the whole output of a trace of all events was written, and the input was read to its end. At every other status the
 /// output gained a front of such an output, which ends at the end of a reply except at status 7.
 pub fn simulate<S: Source, K: Sink>(alloc: Global, input: &mut S, output: &mut K) -> u8
-    ensures { Simulates result (S.rest input.old) (S.rest input.new) (S.read_faults input.old) (S.read_faults input.new)
-        (K.written output.old) (K.written output.new) (K.write_faults output.old) (K.write_faults output.new) }
+    ensures { Simulates result (S.rest input.old) (S.rest input.new)
+        (S.read_faults input.old) (S.read_faults input.new)
+        (K.written output.old) (K.written output.new)
+        (K.write_faults output.old) (K.write_faults output.new) }
 {
     match read_script(alloc, input) {
         Ok(script) => match answer_script(alloc, script.as_slice(), output) {

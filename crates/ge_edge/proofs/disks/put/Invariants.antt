@@ -1,0 +1,9 @@
+-- What is written lies within the piece.
+use Rattle.std.proofs.Common.{◌-◌, ◌≤◌, length}
+use Rattle.ge_edge.proofs.disks.put.Given as goal
+
+abbrev pub invariant-loop-done : goal.invariant-loop-done
+invariant-loop-done g l = l.done ≤ length l.piece
+
+abbrev pub decreases-loop-done : goal.decreases-loop-done
+decreases-loop-done g l = length l.piece - l.done

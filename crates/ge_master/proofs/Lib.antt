@@ -1,0 +1,10 @@
+pub mod ReadAgain
+pub mod Standing
+pub mod Bounds
+pub mod Stops
+pub mod Staged
+pub mod Handled
+pub mod Singles
+pub mod AtHome
+pub mod ReadBack
+pub mod Opened

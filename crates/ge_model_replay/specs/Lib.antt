@@ -1,0 +1,5 @@
+pub mod View
+pub mod Runs
+pub mod Replaying
+pub mod Showing
+pub mod Faultless

@@ -1,0 +1,263 @@
+-- How far a replay has come, and what each exit leaves.
+use Rattle.std.proofs.Common.{◌≡◌, ◌⊎◌, ℕ, suc, ◌+◌, ◌*◌, ◌<◌, ◌≤◌, Bool, true, false, List, [], ◌∷◌, ◌++◌, length, take, Option, Ok, refl, ap, ◌∙◌, sym, subst, append_assoc, arith, inl, inr, ⊎_elim, flat_map}
+use Rattle.std.proofs.lemmas.List.{length-append, append-nil}
+use Rattle.std.proofs.lemmas.List.Concat.{flat_map-append}
+use Rattle.std.proofs.Math.Nat.{suc-mul}
+use Rattle.std.proofs.Math.Seq.{take-append-add, take-length, take-append_seam}
+use Rattle.ge_outside.specs.Streams.{Gains, GainsPrefix, Gains-append}
+use Rattle.ge_model_rows.specs.ClusterRows.{Cluster}
+use Rattle.ge_model_rows.specs.EntryRows.{Entry}
+use Rattle.ge_model_rows.specs.EventRows.{Event, Reply, Planned}
+use Rattle.ge_model_disk.specs.Disk.{Content}
+use Rattle.ge_model_core.specs.Render.{rendered}
+use Rattle.ge_model_batch.specs.Traced.{Traced, onto, ends_at, traced}
+use Rattle.ge_model_store.specs.StandsFor.{stands_for, StandsForOneOf}
+use Rattle.ge_model_replay.specs.Runs.{written_of, EachStandsFor, EachStandsForOneOf, IsTooLong, Syncs, RanTo, RanCut, RanAll, RanFull}
+use Rattle.ge_master.proofs.Staged.{onto-onto, onto-end}
+use Rattle.ge_top.proofs.Traces.{Gains-nothing}
+use Rattle.ge_top.proofs.TracedBatches.{traced-batch, traced-alone}
+
+-- one batch more than some
+one_more : (k size : ℕ) → (k + 1) * size ≡ k * size + size
+one_more k size = let next : k + 1 ≡ suc k = omega arith in ap (λ n. n * size) next ∙ suc-mul k size
+
+-- A batch more is begun, with these events of those that are left: all before it were full.
+begun-more : (k size marks more : ℕ) (left batch rest : List Event) → (k * size ≤ marks) ⊎ (left ≡ []) → left ≡ batch ++ rest → 0 < length batch → more ≡ length batch
+    → (k + 1) * size < marks + more + size
+begun-more k size marks more left batch rest (inl full) split some counted = omega (arith, one_more k size, full, some, counted)
+begun-more k size marks more left batch rest (inr none) split some counted =
+    absurd (omega (arith, ap length none, ap length split, length-append batch rest, some))
+
+-- it is full, or the last
+full-more : (k size marks more : ℕ) (left batch rest : List Event) → (k * size ≤ marks) ⊎ (left ≡ []) → left ≡ batch ++ rest → 0 < length batch → more ≡ length batch
+    → (length batch ≡ size) ⊎ (rest ≡ []) → ((k + 1) * size ≤ marks + more) ⊎ (rest ≡ [])
+full-more k size marks more left batch rest (inl full) split some counted (inl all) = inl (omega (arith, one_more k size, full, counted, all))
+full-more k size marks more left batch rest (inr none) split some counted (inl all) =
+    absurd (omega (arith, ap length none, ap length split, length-append batch rest, some))
+full-more k size marks more left batch rest full split some counted (inr last) = inr last
+
+module _ (plan : Cluster → Event → Planned) (start : Cluster) (events : List Event) (old : Option (List ℕ)) (size before : ℕ) where
+  -- the replies so far are written, and what the rest gives from the cluster that was reached is what is missing
+  pub record HasRun (now : Option (List ℕ)) (later : ℕ) (reached : Cluster) (rest : List Event) : Type 0 where
+    pub marks : List Bool
+    pub replies : List Reply
+    pub entries : List Entry
+    pub counted : length marks + length rest ≡ length events
+    pub goes_on : (more : List Bool) → traced plan start events (marks ++ more) ≡ onto replies entries (traced plan reached rest more)
+    pub wrote : Gains old now (flat_map rendered replies)
+    pub batches : ℕ
+    pub begun : batches * size < length marks + size
+    pub full : (batches * size ≤ length marks) ⊎ (rest ≡ [])
+    pub few : later ≤ before + 3 * batches
+
+  -- the trace so far
+  so-far : (now : Option (List ℕ)) (later : ℕ) (reached : Cluster) (rest : List Event) (run : HasRun now later reached rest)
+      → traced plan start events run.marks ≡ record { replies = run.replies; entries = run.entries; cluster = reached; stopped = false }
+  so-far now later reached rest run =
+      ap (traced plan start events) (sym (append-nil run.marks)) ∙ run.goes_on [] ∙ ends reached rest ∙ onto-end run.replies run.entries false reached
+    where
+      ends : (c : Cluster) (rest : List Event) → onto run.replies run.entries (traced plan c rest []) ≡ onto run.replies run.entries (ends_at false c)
+      ends c [] = refl
+      ends c (e ∷ rest) = refl
+
+  -- no batch is in hand
+  syncs-so-far : (now : Option (List ℕ)) (later : ℕ) (reached : Cluster) (rest : List Event) (run : HasRun now later reached rest) → Syncs size (length run.marks) before later
+  syncs-so-far now later reached rest run = record { batches = run.batches; begun = run.begun; few = run.few }
+
+  -- one batch more
+  module _ (now after : Option (List ℕ)) (later last : ℕ) (reached new : Cluster) (batch rest left : List Event) (run : HasRun now later reached left) (split : left ≡ batch ++ rest)
+      (ms : List Bool) (counted : length ms ≡ length batch) (some : 0 < length batch) (few : length batch ≤ size) (took : last ≤ later + 3)
+      (cluster : new ≡ (traced plan reached batch ms).cluster) where
+    -- the trace with the batch
+    with-batch : traced plan start events (run.marks ++ ms) ≡ onto run.replies run.entries (traced plan reached batch ms)
+    with-batch = run.goes_on ms ∙ ap (λ es. onto run.replies run.entries (traced plan reached es ms)) split ∙ ap (onto run.replies run.entries) (traced-alone plan reached batch rest ms counted)
+
+    new-is : (traced plan start events (run.marks ++ ms)).cluster ≡ new
+    new-is = ap (λ t. t.cluster) with-batch ∙ sym cluster
+
+    within : length (run.marks ++ ms) ≤ length events
+    within = omega (arith, length-append run.marks ms, run.counted, ap length split, length-append batch rest, counted)
+
+    syncs-with : Syncs size (length (run.marks ++ ms)) before last
+    syncs-with = record {
+      batches = run.batches + 1;
+      begun = subst (λ n. (run.batches + 1) * size < n + size) (sym (length-append run.marks ms))
+          (begun-more run.batches size (length run.marks) (length ms) left batch rest run.full split some counted);
+      few = omega (arith, run.few, took);
+    }
+
+    -- the batch is in hand: it may be kept or not, and its replies aren't written
+    pub in-hand : (home : Type 0) (a b : List Content) → (home → EachStandsForOneOf a b reached new) → RanTo plan start events home old now a b size before last
+    in-hand home a b images =
+        let first : take (length run.marks) (run.marks ++ ms) ≡ run.marks = take-append_seam run.marks ms in
+        let back : traced plan start events (take (length run.marks) (run.marks ++ ms)) ≡ record { replies = run.replies; entries = run.entries; cluster = reached; stopped = false } =
+        ap (traced plan start events) first ∙ so-far now later reached left run in
+        record {
+          marks = run.marks ++ ms;
+          n = length run.marks;
+          answered = omega (arith, length-append run.marks ms);
+          in_hand = omega (arith, length-append run.marks ms, counted, few);
+          within = within;
+          wrote = subst (λ (t : Traced). Gains old now (written_of t)) (sym back) run.wrote;
+          images = λ at_home. λ c d of_c of_d.
+              subst (λ x. StandsForOneOf x (traced plan start events (run.marks ++ ms)).cluster c d) (ap (λ t. t.cluster) (sym back))
+              (subst (λ y. StandsForOneOf reached y c d) (sym new-is) (images at_home c d of_c of_d));
+          syncs = syncs-with;
+        }
+
+    -- the master stopped since the cluster after the batch is too long
+    pub too-full : (home : Type 0) (a b : List Content) (last_generation : Type 0) → (home → EachStandsFor a b reached)
+        → IsTooLong new ⊎ last_generation → RanFull plan start events home old now a b size before last last_generation
+    too-full home a b last_generation images long =
+        let there = so-far now later reached left run in
+        record {
+          marks = run.marks;
+          more = ms;
+          few = omega (arith, counted, few);
+          within = within;
+          wrote = subst (λ (t : Traced). Gains old now (written_of t)) (sym there) run.wrote;
+          images = λ at_home. λ c d of_c of_d. images at_home c d of_c of_d ∙ ap (λ (t : Traced). Ok t.cluster) (sym there);
+          too_long = ⊎_elim (λ h. inl (subst IsTooLong (sym new-is) h)) (λ h. inr h) long;
+          syncs = syncs-with;
+        }
+
+    -- the replies are those of the batch
+    module _ (replies : List Reply) (same : replies ≡ (traced plan reached batch ms).replies) where
+      bytes-are : written_of (traced plan start events (run.marks ++ ms)) ≡ flat_map rendered run.replies ++ flat_map rendered replies
+      bytes-are = ap written_of with-batch ∙ flat_map-append rendered run.replies (traced plan reached batch ms).replies ∙ ap (λ rs. flat_map rendered run.replies ++ flat_map rendered rs) (sym same)
+
+      -- a write of the replies failed
+      pub cut-short : (home : Type 0) (a b : List Content) → GainsPrefix now after (flat_map rendered replies) → (home → EachStandsFor a b new)
+          → RanCut plan start events home old after a b size before last
+      cut-short home a b gains images =
+          let front = flat_map rendered run.replies in
+          let back = flat_map rendered replies in
+          let first : take (length run.marks) (run.marks ++ ms) ≡ run.marks = take-append_seam run.marks ms in
+          let there : written_of (traced plan start events (take (length run.marks) (run.marks ++ ms))) ≡ front = ap (λ xs. written_of (traced plan start events xs)) first ∙ ap written_of (so-far now later reached left run) in
+          record {
+            marks = run.marks ++ ms;
+            n = length run.marks;
+            answered = omega (arith, length-append run.marks ms);
+            in_hand = omega (arith, length-append run.marks ms, counted, few);
+            within = within;
+            size = length front + gains.0;
+            least = omega (arith, ap length there);
+            most = omega (arith, ap length bytes-are, length-append front back, gains.1);
+            wrote = subst (λ (xs : List ℕ). Gains old after (take (length front + gains.0) xs)) (sym bytes-are)
+                (rw (take-append-add front back gains.0) (Gains-append old now after front (take gains.0 back) run.wrote gains.2));
+            images = λ at_home. subst (λ x. EachStandsFor a b x) (sym new-is) (images at_home);
+            syncs = syncs-with;
+          }
+
+      wrote-all : Gains now after (flat_map rendered replies) → Gains old after (written_of (traced plan start events (run.marks ++ ms)))
+      wrote-all gains = subst (λ (xs : List ℕ). Gains old after xs) (sym bytes-are) (Gains-append old now after (flat_map rendered run.replies) (flat_map rendered replies) run.wrote gains)
+
+      -- the replies are written and the master stops
+      pub stopped-here : (home : Type 0) (a b : List Content) → (traced plan reached batch ms).stopped ≡ true → Gains now after (flat_map rendered replies) → (home → EachStandsFor a b new)
+          → RanAll plan start events home old after a b size before last
+      stopped-here home a b stopped gains images = record {
+        marks = run.marks ++ ms;
+        within = within;
+        all = inr (ap (λ t. t.stopped) with-batch ∙ stopped);
+        wrote = wrote-all gains;
+        images = λ at_home. subst (λ x. EachStandsFor a b x) (sym new-is) (images at_home);
+        syncs = syncs-with;
+      }
+
+      -- the replies are written and the run goes on
+      pub goes-on : (length batch ≡ size) ⊎ (rest ≡ []) → (traced plan reached batch ms).stopped ≡ false → Gains now after (flat_map rendered replies) → HasRun after last new rest
+      unfolding syncs-with
+      goes-on filled going gains = record {
+        marks = run.marks ++ ms;
+        replies = run.replies ++ replies;
+        entries = run.entries ++ (traced plan reached batch ms).entries;
+        counted = omega (arith, length-append run.marks ms, run.counted, ap length split, length-append batch rest, counted);
+        goes_on = λ more.
+            ap (traced plan start events) (append_assoc run.marks ms more)
+            ∙ run.goes_on (ms ++ more)
+            ∙ ap (λ es. onto run.replies run.entries (traced plan reached es (ms ++ more))) split
+            ∙ ap (onto run.replies run.entries) (traced-batch plan reached batch rest ms more counted going)
+            ∙ onto-onto run.replies (traced plan reached batch ms).replies run.entries (traced plan reached batch ms).entries (traced plan (traced plan reached batch ms).cluster rest more)
+            ∙ (λ i. onto (run.replies ++ sym same i) (run.entries ++ (traced plan reached batch ms).entries) (traced plan (sym cluster i) rest more));
+        wrote = subst (λ (xs : List ℕ). Gains old after xs) (sym (flat_map-append rendered run.replies replies)) (Gains-append old now after (flat_map rendered run.replies) (flat_map rendered replies) run.wrote gains);
+        batches = run.batches + 1;
+        begun = syncs-with.begun;
+        full = subst (λ n. ((run.batches + 1) * size ≤ n) ⊎ (rest ≡ [])) (sym (length-append run.marks ms))
+            (full-more run.batches size (length run.marks) (length ms) left batch rest run.full split some counted filled);
+        few = syncs-with.few;
+      }
+
+  -- nothing is in hand
+  pub nothing-in-hand : (now : Option (List ℕ)) (later : ℕ) (reached : Cluster) (rest : List Event) (run : HasRun now later reached rest) (home : Type 0) (a b : List Content)
+      → (home → EachStandsFor a b reached) → RanTo plan start events home old now a b size before later
+  nothing-in-hand now later reached rest run home a b images =
+      let there = so-far now later reached rest run in
+      record {
+        marks = run.marks;
+        n = length run.marks;
+        answered = omega arith;
+        in_hand = omega arith;
+        within = omega (arith, run.counted);
+        wrote = subst (λ (xs : List Bool). Gains old now (written_of (traced plan start events xs))) (sym (take-length run.marks)) (subst (λ (t : Traced). Gains old now (written_of t)) (sym there) run.wrote);
+        images = λ at_home. λ c d of_c of_d. inr (images at_home c d of_c of_d ∙ ap (λ (t : Traced). Ok t.cluster) (sym there));
+        syncs = syncs-so-far now later reached rest run;
+      }
+
+  -- all events are answered
+  pub all-answered : (now : Option (List ℕ)) (later : ℕ) (reached : Cluster) (rest : List Event) (run : HasRun now later reached rest) (home : Type 0) (a b : List Content)
+      → rest ≡ [] → (home → EachStandsFor a b reached) → RanAll plan start events home old now a b size before later
+  all-answered now later reached rest run home a b none images =
+      let there = so-far now later reached rest run in
+      record {
+        marks = run.marks;
+        within = omega (arith, run.counted);
+        all = inl (omega (arith, run.counted, ap length none));
+        wrote = subst (λ (t : Traced). Gains old now (written_of t)) (sym there) run.wrote;
+        images = λ at_home. λ c d of_c of_d. images at_home c d of_c of_d ∙ ap (λ (t : Traced). Ok t.cluster) (sym there);
+        syncs = syncs-so-far now later reached rest run;
+      }
+
+  pub HasRun-none : 0 < size → HasRun old before start events
+  HasRun-none some = record {
+    marks = [];
+    replies = [];
+    entries = [];
+    counted = omega arith;
+    goes_on = λ more. refl;
+    wrote = Gains-nothing old;
+    batches = 0;
+    begun = omega (arith, some);
+    full = inl (omega arith);
+    few = omega arith;
+  }
+
+-- where all is answered, all that is answered is kept
+pub all-to : (plan : Cluster → Event → Planned) (start : Cluster) (events : List Event) (home : Type 0) (old new : Option (List ℕ)) (a b : List Content) (size before later : ℕ)
+    → RanAll plan start events home old new a b size before later → RanTo plan start events home old new a b size before later
+all-to plan start events home old new a b size before later ran = record {
+  marks = ran.marks;
+  n = length ran.marks;
+  answered = omega arith;
+  in_hand = omega arith;
+  within = ran.within;
+  wrote = subst (λ (xs : List Bool). Gains old new (written_of (traced plan start events xs))) (sym (take-length ran.marks)) ran.wrote;
+  images = λ at_home. λ c d of_c of_d. inr (ran.images at_home c d of_c of_d);
+  syncs = ran.syncs;
+}
+
+-- where a cluster is too long, all before it that is answered is kept
+pub full-to : (plan : Cluster → Event → Planned) (start : Cluster) (events : List Event) (home : Type 0) (old new : Option (List ℕ)) (a b : List Content) (size before later : ℕ) (last : Type 0)
+    → RanFull plan start events home old new a b size before later last → RanTo plan start events home old new a b size before later
+full-to plan start events home old new a b size before later last ran =
+    let first : take (length ran.marks) (ran.marks ++ ran.more) ≡ ran.marks = take-append_seam ran.marks ran.more in
+    record {
+      marks = ran.marks ++ ran.more;
+      n = length ran.marks;
+      answered = omega (arith, length-append ran.marks ran.more);
+      in_hand = omega (arith, length-append ran.marks ran.more, ran.few);
+      within = ran.within;
+      wrote = subst (λ (xs : List Bool). Gains old new (written_of (traced plan start events xs))) (sym first) ran.wrote;
+      images = λ at_home. λ c d of_c of_d.
+          inl (subst (λ (xs : List Bool). stands_for c d ≡ Ok (traced plan start events xs).cluster) (sym first) (ran.images at_home c d of_c of_d));
+      syncs = ran.syncs;
+    }
