@@ -1,0 +1,70 @@
+-- What all ends of a connection have in common.
+use Rattle.std.proofs.Common.{◌≡◌, ◌⊎◌, ℕ, ◌+◌, ◌≤◌, Bool, true, false, List, [], ◌∷◌, ◌++◌, length, Option, Some, None, refl, ap, sym, subst, ⊎_elim, arith}
+use Rattle.std.proofs.lemmas.List.{append-nil}
+use Rattle.ge_outside.specs.Clocks.{Answers, later_answers}
+use Rattle.ge_model_rows.specs.ClusterRows.{Cluster}
+use Rattle.ge_model_rows.specs.EventRows.{Event, Planned}
+use Rattle.ge_model_wire.specs.Frames.{frames_of}
+use Rattle.ge_model_serve.specs.Answered.{FrameMarks, answered}
+use Rattle.ge_model_serve.specs.Links.{InHand, LeftWhole, LeftAll, LeftInHand, HoldsOneOf, EndsAs}
+use Rattle.ge_model_serve.specs.declared.LinkEnd.{LinkEnd}
+use Rattle.ge_model_serve.specs.declared.LinkEnd.TheVariants as end
+
+module _ (plan : Cluster → Event → Planned) (start : Cluster) (clock : Answers) (bytes : List ℕ) (Leaves : ℕ → Cluster → Cluster → Type 0) where
+  -- what is said of the areas may be put otherwise
+  module _ (Others : ℕ → Cluster → Cluster → Type 0) (say : (n : ℕ) (c d : Cluster) → n ≤ length (frames_of bytes) → Leaves n c d → Others n c d) where
+    abbrev pub map-hand : InHand plan start clock bytes Leaves → InHand plan start clock bytes Others
+    map-hand h = record { marks = h.marks; hand = h.hand; few = h.few; one = h.one; areas = say _ _ _ h.few h.areas }
+
+    module _ (old now : Option (List ℕ)) (later : Option Answers) (reached : Cluster) (stopping : Bool) where
+      abbrev pub map-whole : LeftWhole plan start clock bytes Leaves old now later reached stopping → LeftWhole plan start clock bytes Others old now later reached stopping
+      map-whole w = record { marks = w.marks; few = w.few; wrote = w.wrote; ticks = w.ticks; holds = w.holds; areas = say _ _ _ w.few w.areas }
+
+      map-all : LeftAll plan start clock bytes Leaves old now later reached stopping → LeftAll plan start clock bytes Others old now later reached stopping
+      map-all a = record { whole = map-whole a.whole; all = a.all; going = a.going }
+
+      abbrev pub map-left : LeftInHand plan start clock bytes Leaves old now later → LeftInHand plan start clock bytes Others old now later
+      map-left l = record { in_hand = map-hand l.in_hand; least = l.least; most = l.most; wrote = l.wrote; ticks = l.ticks }
+
+      pub map-ends : (end : LinkEnd) → EndsAs plan start clock bytes Leaves old now later end reached stopping → EndsAs plan start clock bytes Others old now later end reached stopping
+      map-ends end.Done e = (map-all e.0, e.1, e.2)
+      map-ends end.Stopped e = (map-whole e.0, e.1)
+      map-ends end.Read e = (map-whole e.0, e.1)
+      map-ends end.Write e = (map-left e.0, e.1)
+      map-ends (end.Frame place) e = (map-all e.0, e.1, e.2, e.3)
+      map-ends end.Long e = (map-whole e.0, e.1, e.2)
+      map-ends end.Memory e = (map-left e.0, e.1)
+
+  -- frames that were answered whole, with none in hand
+  whole-hand : (old now : Option (List ℕ)) (later : Option Answers) (reached : Cluster) (stopping : Bool) → LeftWhole plan start clock bytes Leaves old now later reached stopping → InHand plan start clock bytes Leaves
+  whole-hand old now later reached stopping w = record {
+    marks = w.marks;
+    hand = [];
+    few = omega (arith, w.few, ap length (append-nil w.marks));
+    one = omega arith;
+    areas = subst (λ (ms : List FrameMarks). Leaves (length ms) (answered plan start clock (frames_of bytes) w.marks).cluster (answered plan start clock (frames_of bytes) ms).cluster) (sym (append-nil w.marks)) w.areas;
+  }
+
+  module _ (old now : Option (List ℕ)) (later : Option Answers) (reached : Cluster) (stopping : Bool) where
+    -- at each end there are frames that are answered, and perhaps one in hand
+    pub hand-of : (end : LinkEnd) → EndsAs plan start clock bytes Leaves old now later end reached stopping → InHand plan start clock bytes Leaves
+    hand-of end.Done e = whole-hand old now later reached stopping e.0.whole
+    hand-of end.Stopped e = whole-hand old now later reached stopping e.0
+    hand-of end.Read e = whole-hand old now later reached stopping e.0
+    hand-of end.Write e = e.0.in_hand
+    hand-of (end.Frame place) e = whole-hand old now later reached stopping e.0.whole
+    hand-of end.Long e = whole-hand old now later reached stopping e.0
+    hand-of end.Memory e = e.0.in_hand
+
+    left-told : LeftInHand plan start clock bytes Leaves old now later → (answers : Answers) × (later ≡ Some answers)
+    left-told l = ⊎_elim (λ e. (_, e)) (λ e. (_, e)) l.ticks
+
+    -- a clock that told its answers goes on telling them
+    pub later-told : (end : LinkEnd) → EndsAs plan start clock bytes Leaves old now later end reached stopping → (answers : Answers) × (later ≡ Some answers)
+    later-told end.Done e = (_, e.0.whole.ticks)
+    later-told end.Stopped e = (_, e.0.ticks)
+    later-told end.Read e = (_, e.0.ticks)
+    later-told end.Write e = left-told e.0
+    later-told (end.Frame place) e = (_, e.0.whole.ticks)
+    later-told end.Long e = (_, e.0.ticks)
+    later-told end.Memory e = left-told e.0

@@ -1,0 +1,4 @@
+pub mod Own
+pub mod Serving
+pub mod Ending
+pub mod LinksOn

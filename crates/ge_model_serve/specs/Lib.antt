@@ -1,0 +1,5 @@
+pub mod Moments
+pub mod Answered
+pub mod Links
+pub mod Served
+pub mod Doors

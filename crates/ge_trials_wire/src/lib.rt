@@ -1,0 +1,15 @@
+//! Tries frames, the client and the adapters of connections: over streams and doors in memory, and over the loopback.
+//!
+//! Expected values were worked out by hand. Nothing stands on this crate.
+#![tactic(auto)]
+
+#[cfg(test)]
+mod asking;
+#[cfg(test)]
+mod events;
+#[cfg(test)]
+mod loopback;
+#[cfg(test)]
+mod replies;
+#[cfg(test)]
+mod requests;

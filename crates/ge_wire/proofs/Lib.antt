@@ -1,0 +1,5 @@
+pub mod Gained
+pub mod Filled
+pub mod Cases
+pub mod ReplyCases
+pub mod Exactly
