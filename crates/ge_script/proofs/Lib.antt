@@ -1,1 +1,3 @@
 pub mod FirstRequest
+pub mod RequestEnds
+pub mod PieceByPiece

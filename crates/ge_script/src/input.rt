@@ -1,5 +1,5 @@
 // A whole script, read from a source.
-ghost use Rattle.std.specs.Prelude.{◌≡◌, ◌≤◌, ◌<◌, ◌^◌, ℕ, [], ◌++◌, length, take, vec_len, IfOk, OnOk, IfSome, IsErrOf, IsTrue, true, false, MatchBool, ⊤};
+ghost use Rattle.std.specs.Prelude.{◌≡◌, ◌≤◌, ◌<◌, ◌+◌, ◌^◌, ℕ, [], ◌++◌, length, take, vec_len, IfOk, OnOk, IfSome, IsErrOf, IsTrue, true, false, MatchBool, ⊤};
 ghost use Rattle.ge_outside.specs.Faults.{Rose};
 ghost use Rattle.ge_script.specs.declared.input.ScriptFault.TheVariants.{Read, Memory};
 ghost use Rattle.ge_limits.specs.Limits.{script_bytes};
@@ -39,21 +39,24 @@ impl From<AllocError> for ScriptFault {
     }
 }
 
-fn new_chunk(alloc: Global) -> Result<Vec<u8>, AllocError>
-    ensures { IfOk result (λ chunk. 0 < vec_len chunk) }
+pub(crate) fn new_chunk(alloc: Global) -> Result<Vec<u8>, AllocError>
+    ensures room { IfOk result (λ chunk. 0 < vec_len chunk) }
+    ensures narrow { IfOk result (λ chunk. vec_len chunk ≤ 65536) }
 {
     vec![in alloc; 0u8; CHUNK]
 }
 
 // Moves what one read gives to the end of the bytes, and tells whether there was any.
-fn read_more<S: Source>(
+pub(crate) fn read_more<S: Source>(
     input: &mut S,
     chunk: &mut [u8],
     bytes: &mut Vec<u8>,
 ) -> Result<bool, ScriptFault>
     requires { 0 < length chunk.old }
     ensures moved { IfOk result (λ some. Moved (S.rest input.old) (S.rest input.new) bytes.old.items bytes.new.items) }
+    ensures kept { IfOk result (λ some. take (length bytes.old.items) bytes.new.items ≡ bytes.old.items) }
     ensures more { IfOk result (λ some. MatchBool some (vec_len bytes.old < vec_len bytes.new) (vec_len bytes.new ≡ vec_len bytes.old)) }
+    ensures few { IfOk result (λ some. vec_len bytes.new ≤ vec_len bytes.old + length chunk.old) }
     ensures ended { IfOk result (λ some. MatchBool some ⊤ (IsReadToEnd (S.rest input.new))) }
     ensures later { S.read_faults input.old ≤ S.read_faults input.new }
     ensures fault { IsErrOf result ScriptFault.Read → Rose (S.read_faults input.old) (S.read_faults input.new) }

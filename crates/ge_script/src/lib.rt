@@ -4,6 +4,7 @@
 //! request is an event. Every list of bytes is a script. Contracts see a script as the list of its bytes and cite
 //! `events_of`, the events that it stands for.
 //!
+//! - [`Script`]: a script read from a source in pieces, event by event, in the memory of one request.
 //! - [`read_script`]: the bytes of a whole script from a source.
 //! - [`next_request`]: the first request of a script, and the rest of the script.
 //! - [`read_event`]: the event of a request.
@@ -12,8 +13,10 @@
 mod events;
 mod header;
 mod input;
+mod pieces;
 mod requests;
 mod texts;
 
 pub use events::{next_request, read_event};
 pub use input::{ScriptFault, read_script};
+pub use pieces::Script;
