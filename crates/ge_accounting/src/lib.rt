@@ -15,6 +15,3 @@ mod summing;
 
 pub use fields::line_text;
 pub use queries::account;
-
-#[cfg(test)]
-mod tests;

@@ -44,6 +44,3 @@ pub use naming::{
     starts_with_digit,
 };
 pub use reading::ReadFault;
-
-#[cfg(test)]
-mod tests;

@@ -25,6 +25,3 @@ mod values;
 
 pub use items::print_item;
 pub use values::values_text;
-
-#[cfg(test)]
-mod tests;

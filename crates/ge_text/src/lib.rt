@@ -22,6 +22,3 @@ pub use ge_model_text::{Form, Span, ValueFault};
 pub use patterns::matches;
 pub use spans::Spans;
 pub use splitting::{TextFault, words};
-
-#[cfg(test)]
-mod tests;

@@ -13,6 +13,3 @@ mod numbers;
 
 pub use joining::join_words;
 pub use numbers::{decimal_text, decimals4, fixed, number_list};
-
-#[cfg(test)]
-mod tests;

@@ -1,6 +1,6 @@
 //! Each call once.
 
-use super::{decimal_text, decimals4, fixed, join_words, number_list};
+use ge_wording::{decimal_text, decimals4, fixed, join_words, number_list};
 use std::test::Fail;
 
 #[test]

@@ -1,6 +1,6 @@
 //! An object of each kind, as an independent program prints it.
 
-use super::print_item;
+use ge_printing::print_item;
 use ge_rows::{
     Allocation, Cluster, Filter, Item, List, PeRow, ProjectRow, QueueRow, QuotaRow, Rule,
     ShareNode, Table, Text, Twin, UrgencySlots, UserRow, Value, default_queue, default_sched,

@@ -1,6 +1,6 @@
 //! What a query answers.
 
-use super::{account, line_text};
+use ge_accounting::{account, line_text};
 use ge_rows::{Cluster, Line, Query, Text, opening};
 use std::alloc::{AllocError, Global};
 use std::test::Fail;

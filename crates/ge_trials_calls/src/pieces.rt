@@ -1,8 +1,8 @@
 //! Each call that takes memory once, with values worked out by hand from the manual pages' rules, and the calls of one
 //! line of rules that a table shows best.
 
-use super::*;
 use ge_base::Refusal;
+use ge_pieces::*;
 use ge_rows::{List, Text};
 use std::alloc::Global;
 use std::test::Fail;

@@ -1,11 +1,11 @@
 //! Tables with values from outside: from the manual pages' rules worked by hand, and from a second reading of
 //! them in another language.
 
-use super::{
+use ValueFault::{Digit, Empty, TooLarge};
+use ge_text::{
     Form, TextFault, ValueFault, amount, matches, read_fixed, read_int, read_memory, read_time,
     words,
 };
-use ValueFault::{Digit, Empty, TooLarge};
 use std::alloc::Global;
 use std::test::Fail;
 

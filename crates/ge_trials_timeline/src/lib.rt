@@ -1,0 +1,12 @@
+//! Tries the indexed timeline: thousands of drawn bookings against plain sums, bookings that are taken out again, ends,
+//! and a hundred thousand bookings with ten times as many windows. Nothing stands on this crate.
+#![tactic(auto)]
+
+#[cfg(test)]
+mod drawn;
+#[cfg(test)]
+mod making;
+#[cfg(test)]
+mod many;
+#[cfg(test)]
+mod removing;
