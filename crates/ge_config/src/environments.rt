@@ -1,6 +1,6 @@
 //! Parallel environments: sge_pe(5).
 
-ghost use Rattle.ge_model_config.specs.Objects.{slots_read, allocation_read, assumed_read, pe_item};
+ghost use Rattle.ge_model_config.specs.Environments.{slots_read, allocation_read, assumed_read, pe_item};
 ghost use Rattle.ge_pieces.specs.Gives.{Reads};
 
 use crate::named::{given_text, note_name};
@@ -64,7 +64,7 @@ fn read_assumed(
 }
 
 /// A parallel environment.
-#[tactic(auto, unfolding(ge_model_config::specs::Objects::pe_item))]
+#[tactic(auto, unfolding(ge_model_config::specs::Environments::pe_item))]
 pub fn read_environment(
     alloc: Global,
     c: &Cluster,

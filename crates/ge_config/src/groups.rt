@@ -3,7 +3,7 @@
 ghost use Rattle.std.specs.Prelude.{◌≡◌, OnOk};
 ghost use Rattle.ge_collections.specs.Keyed.{put_text};
 ghost use Rattle.ge_model_value.specs.Faults.{after_faults};
-ghost use Rattle.ge_model_config.specs.Objects.{group_item, loops_among};
+ghost use Rattle.ge_model_config.specs.Groups.{group_item, loops_among};
 ghost use Rattle.ge_pieces.specs.Gives.{Reads};
 
 use crate::named::{given_text, note_name};
@@ -36,7 +36,7 @@ fn note_loops(
 }
 
 /// A group of hosts and other groups; none may reach itself.
-#[tactic(auto, unfolding(ge_model_config::specs::Objects::group_item))]
+#[tactic(auto, unfolding(ge_model_config::specs::Groups::group_item))]
 pub fn read_group(
     alloc: Global,
     c: &Cluster,

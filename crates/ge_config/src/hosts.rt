@@ -1,6 +1,6 @@
 //! Hosts: host_conf(5).
 
-ghost use Rattle.ge_model_config.specs.Objects.{host_item};
+ghost use Rattle.ge_model_config.specs.Hosts.{host_item};
 ghost use Rattle.ge_pieces.specs.Gives.{Reads};
 
 use crate::named::{given_text, note_absent_of_host, note_name};
@@ -13,7 +13,7 @@ use ge_rows::{Cluster, Item, ObjectKind, Text};
 use std::alloc::{AllocError, Global};
 
 /// A host and its complex_values.
-#[tactic(auto, unfolding(ge_model_config::specs::Objects::host_item))]
+#[tactic(auto, unfolding(ge_model_config::specs::Hosts::host_item))]
 pub fn read_host(
     alloc: Global,
     c: &Cluster,

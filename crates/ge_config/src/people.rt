@@ -1,6 +1,6 @@
 //! Users and projects: user(5), project(5).
 
-ghost use Rattle.ge_model_config.specs.Objects.{tickets_read, user_item, project_item};
+ghost use Rattle.ge_model_config.specs.People.{tickets_read, user_item, project_item};
 ghost use Rattle.ge_pieces.specs.Gives.{Reads};
 
 use crate::named::{given_text, note_name};
@@ -29,7 +29,7 @@ fn read_tickets(
 }
 
 /// A user's tickets.
-#[tactic(auto, unfolding(ge_model_config::specs::Objects::user_item))]
+#[tactic(auto, unfolding(ge_model_config::specs::People::user_item))]
 pub fn read_user(
     alloc: Global,
     c: &Cluster,
@@ -47,7 +47,7 @@ pub fn read_user(
 }
 
 /// A project's tickets, and who may use it.
-#[tactic(auto, unfolding(ge_model_config::specs::Objects::project_item))]
+#[tactic(auto, unfolding(ge_model_config::specs::People::project_item))]
 pub fn read_project(
     alloc: Global,
     c: &Cluster,

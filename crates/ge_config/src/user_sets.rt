@@ -2,7 +2,7 @@
 
 ghost use Rattle.std.specs.Prelude.{◌≡◌};
 ghost use Rattle.std.specs.List.{list_all};
-ghost use Rattle.ge_model_config.specs.Objects.{is_member_name, set_item};
+ghost use Rattle.ge_model_config.specs.UserSets.{is_member_name, set_item};
 ghost use Rattle.ge_pieces.specs.Gives.{Reads};
 
 use crate::named::{given_text, note_name};
@@ -26,7 +26,7 @@ fn may_be_members(entries: &[Text]) -> bool
 }
 
 /// A user set: users, and groups of users with their at sign.
-#[tactic(auto, unfolding(ge_model_config::specs::Objects::set_item))]
+#[tactic(auto, unfolding(ge_model_config::specs::UserSets::set_item))]
 pub fn read_user_set(
     alloc: Global,
     c: &Cluster,

@@ -13,7 +13,11 @@ use Rattle.std.specs.Prelude.{codes}
 use Rattle.ge_collections.specs.Keyed.{text_eq}
 use Rattle.ge_model_config.specs.Cited.{Read, amount_within, cited, is_host_or_group, has_name, names_read, number_read}
 use Rattle.ge_model_config.specs.Complexes.{complexes_item, row_faults, use_faults}
-use Rattle.ge_model_config.specs.Objects.{allocation_read, assumed_read, group_item, host_item, pe_item, project_item, set_item, user_item}
+use Rattle.ge_model_config.specs.Environments.{allocation_read, assumed_read, pe_item}
+use Rattle.ge_model_config.specs.Groups.{group_item}
+use Rattle.ge_model_config.specs.Hosts.{host_item}
+use Rattle.ge_model_config.specs.People.{project_item, user_item}
+use Rattle.ge_model_config.specs.UserSets.{set_item}
 use Rattle.ge_model_config.specs.Overrides.{attr_read, attr_with, filled, override_read, overrides_of, plain_part}
 use Rattle.ge_model_config.specs.Pairs.{any_fits, item_read, number_fits, pair_read, value_for, values_read, with_pair}
 use Rattle.ge_model_config.specs.Queues.{limit_kind, limits_read, queue_item, queue_read, with_queue_limit as queue_limit}

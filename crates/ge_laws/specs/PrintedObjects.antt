@@ -13,7 +13,8 @@ use Rattle.ge_model_grammar.specs.declared.Body.{Body}
 use Rattle.ge_model_grammar.specs.Bodies.{body_of}
 use Rattle.ge_model_grammar.specs.Configuring.{is_group_name}
 use Rattle.ge_model_grammar.specs.Lines.{ends_in}
-use Rattle.ge_model_config.specs.Printing.{printed as printed_lines, values_text}
+use Rattle.ge_model_config.specs.Printing.{printed as printed_lines}
+use Rattle.ge_model_config.specs.Pairs.{values_text}
 use Rattle.ge_model_config.specs.Reading.{item_of}
 use Rattle.ge_model_config.specs.Settings.{formula_faults}
 use Rattle.ge_model_jobs.specs.Configuring.{with_item}

@@ -16,7 +16,8 @@ use Rattle.ge_model_grammar.specs.Bodies.{body_of}
 use Rattle.ge_model_grammar.specs.Configuring.{is_group_name}
 use Rattle.ge_model_config.specs.Cited.{has_name, cited, is_host_or_group}
 use Rattle.ge_model_config.specs.Named.{name_faults}
-use Rattle.ge_model_config.specs.Objects.{loops_among, is_member_name}
+use Rattle.ge_model_config.specs.Groups.{loops_among}
+use Rattle.ge_model_config.specs.UserSets.{is_member_name}
 use Rattle.ge_model_config.specs.Reading.{item_of}
 use Rattle.ge_model_config.specs.Printing.{printed}
 use Rattle.ge_model_config.proofs.ReadBackBodies.{text_of_lines, HasAttributes, IsAttributes, are_attributes}

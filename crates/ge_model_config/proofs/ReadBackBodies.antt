@@ -12,7 +12,7 @@ use Rattle.ge_model_grammar.specs.Attributes.{known_attributes, naming_attribute
 use Rattle.ge_model_grammar.specs.declared.Body.{Body}
 use Rattle.ge_model_grammar.specs.declared.Body.TheVariants.{Attributes}
 use Rattle.ge_model_grammar.specs.Bodies.{counts, joined_lines, body_lines, attribute_line, has_attribute, with_attribute, attributes_after, if_named, attribute_body, body_of_lines, body_of}
-use Rattle.ge_model_config.specs.Printing.{printed_attribute as printed_line}
+use Rattle.ge_model_config.specs.Cited.{printed_attribute as printed_line}
 use Rattle.ge_model_config.proofs.ReadBackTexts.{is_printing_byte, is_printing, is_shown, shown_bytes, all_weaker, shown_plain, plain_without_feed, not_joined, shown_printing, shown_whole, trimmed_between, trimmed_shown, word_before, text_behind}
 
 -- ---- lines

@@ -12,7 +12,7 @@ use Rattle.ge_model_grammar.specs.Bodies.{body_of}
 use Rattle.ge_model_grammar.specs.Configuring.{is_name_of}
 use Rattle.ge_model_config.specs.Cited.{is_host_or_group, cited, has_name}
 use Rattle.ge_model_config.specs.Named.{name_faults}
-use Rattle.ge_model_config.specs.Objects.{loops_among}
+use Rattle.ge_model_config.specs.Groups.{loops_among}
 use Rattle.ge_model_config.specs.Reading.{item_of}
 use Rattle.ge_model_config.specs.Printing.{printed}
 use Rattle.ge_model_config.proofs.Site.{with_item}

@@ -21,8 +21,8 @@ use Rattle.ge_model_grammar.specs.declared.Body.{Body}
 use Rattle.ge_model_grammar.specs.declared.ComplexLine.{ComplexLine}
 use Rattle.ge_model_grammar.specs.declared.Body.TheVariants.{ComplexRows}
 use Rattle.ge_model_grammar.specs.Bodies.{complex_line, complex_body, body_lines, body_of}
-use Rattle.ge_model_config.specs.Complexes.{fits_use, older_complex, kind_in, relop_in, consumable_in, urgency_read, complex_row, row_faults, put_complex, are_distinct, names_of_complex, use_faults, complexes_item}
-use Rattle.ge_model_config.specs.Printing.{printed_complex as printed_line, printed}
+use Rattle.ge_model_config.specs.Complexes.{fits_use, older_complex, kind_in, relop_in, consumable_in, urgency_read, complex_row, row_faults, put_complex, are_distinct, names_of_complex, use_faults, complexes_item, printed_complex as printed_line}
+use Rattle.ge_model_config.specs.Printing.{printed}
 use Rattle.ge_model_config.specs.Reading.{item_of}
 use Rattle.ge_model_config.proofs.ReadBackTables.{AllAbove, Rises, above_put, above_more, put_behind}
 use Rattle.ge_model_config.proofs.ReadBackBodies.{AreLines, AreWhole, text_of_lines, lines_back}

@@ -12,9 +12,9 @@ use Rattle.ge_model_grammar.specs.declared.Body.TheVariants.{Attributes}
 use Rattle.ge_model_grammar.specs.Bodies.{body_of}
 use Rattle.ge_model_config.specs.Cited.{Read, number_read, has_name, cited, given, none_text}
 use Rattle.ge_model_config.specs.Named.{name_faults}
-use Rattle.ge_model_config.specs.Objects.{slots_read, allocation_read, assumed_read, pe_item}
+use Rattle.ge_model_config.specs.Environments.{slots_read, allocation_read, assumed_read, pe_item, allocation_text, assumed_text}
 use Rattle.ge_model_config.specs.Reading.{item_of}
-use Rattle.ge_model_config.specs.Printing.{allocation_text, assumed_text, printed}
+use Rattle.ge_model_config.specs.Printing.{printed}
 use Rattle.ge_model_config.proofs.ReadBackTexts.{is_shown}
 use Rattle.ge_model_config.proofs.ReadBackBodies.{body_back}
 use Rattle.ge_model_config.proofs.ReadBackLists.{list_shown, list_back}

@@ -9,7 +9,7 @@ use Rattle.ge_model_grammar.specs.declared.Body.TheVariants.{Attributes}
 use Rattle.ge_model_grammar.specs.Bodies.{body_of}
 use Rattle.ge_model_config.specs.Cited.{cited, given, none_text, is_host_or_group}
 use Rattle.ge_model_config.specs.Named.{name_faults}
-use Rattle.ge_model_config.specs.Objects.{group_item, loops_among}
+use Rattle.ge_model_config.specs.Groups.{group_item, loops_among}
 use Rattle.ge_model_config.specs.Reading.{item_of}
 use Rattle.ge_model_config.specs.Printing.{printed}
 use Rattle.ge_model_config.proofs.ReadBackBodies.{body_back}

@@ -11,9 +11,9 @@ use Rattle.ge_model_grammar.specs.declared.Body.TheVariants.{Attributes}
 use Rattle.ge_model_grammar.specs.Bodies.{body_of}
 use Rattle.ge_model_config.specs.Cited.{given, none_text}
 use Rattle.ge_model_config.specs.Named.{name_faults, absent_faults}
-use Rattle.ge_model_config.specs.Objects.{host_item}
-use Rattle.ge_model_config.specs.Pairs.{any_fits, values_read}
-use Rattle.ge_model_config.specs.Printing.{values_text, printed}
+use Rattle.ge_model_config.specs.Hosts.{host_item}
+use Rattle.ge_model_config.specs.Pairs.{any_fits, values_read, values_text}
+use Rattle.ge_model_config.specs.Printing.{printed}
 use Rattle.ge_model_config.specs.Reading.{item_of}
 use Rattle.ge_model_config.proofs.ReadBackTexts.{is_shown, shown_printing, shown_whole}
 use Rattle.ge_model_config.proofs.ReadBackBodies.{printing_back}

@@ -22,7 +22,11 @@ use Rattle.ge_model_grammar.specs.declared.Body.TheVariants.{Attributes, RuleSet
 use Rattle.ge_model_grammar.specs.Configuring.{is_group_name}
 use Rattle.ge_model_config.specs.Columns.{is_same_kind}
 use Rattle.ge_model_config.specs.Complexes.{row_faults, urgency_read, complex_row, put_complex, breaks_use, use_faults, complexes_item}
-use Rattle.ge_model_config.specs.Objects.{host_item, group_item, pe_item, set_item, user_item, project_item}
+use Rattle.ge_model_config.specs.Hosts.{host_item}
+use Rattle.ge_model_config.specs.Groups.{group_item}
+use Rattle.ge_model_config.specs.Environments.{pe_item}
+use Rattle.ge_model_config.specs.UserSets.{set_item}
+use Rattle.ge_model_config.specs.People.{user_item, project_item}
 use Rattle.ge_model_config.specs.Queues.{queue_item}
 use Rattle.ge_model_config.specs.Quotas.{quota_item}
 use Rattle.ge_model_config.specs.Settings.{formula_faults, sched_item}

@@ -17,7 +17,8 @@ use Rattle.ge_model_grammar.specs.Bodies.{body_of}
 use Rattle.ge_model_grammar.specs.Configuring.{is_group_name}
 use Rattle.ge_model_config.specs.Cited.{Read, number_read, has_name, cited, given, none_text}
 use Rattle.ge_model_config.specs.Named.{name_faults}
-use Rattle.ge_model_config.specs.Objects.{is_member_name, set_item, tickets_read, user_item, project_item}
+use Rattle.ge_model_config.specs.UserSets.{is_member_name, set_item}
+use Rattle.ge_model_config.specs.People.{tickets_read, user_item, project_item}
 use Rattle.ge_model_config.specs.Reading.{item_of}
 use Rattle.ge_model_config.specs.Printing.{printed}
 use Rattle.ge_model_config.proofs.ReadBackTexts.{all_weaker}

@@ -7,7 +7,7 @@ use Rattle.ge_model_rows.specs.ValueRows.{Kind, infinity, million}
 use Rattle.ge_model_text.specs.Value.{is_digit}
 use Rattle.ge_model_value.specs.Values.{digit_at, fixed_text, clock_text}
 use Rattle.ge_model_tasks.proofs.Digits.{decimal_digits, all_digits}
-use Rattle.ge_model_config.specs.Printing.{number_text}
+use Rattle.ge_model_config.specs.Cited.{number_text}
 use Rattle.ge_model_config.proofs.ReadBackTexts.{is_shown, all_weaker}
 use Rattle.ge_model_config.proofs.ReadBackLists.{is_item_byte, is_item}
 use Rattle.ge_model_config.proofs.ReadBackNames.{item_shown}

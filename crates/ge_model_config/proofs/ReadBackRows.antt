@@ -16,8 +16,8 @@ use Rattle.ge_model_value.specs.Values.{value_of, value_text, fixed_text}
 use Rattle.ge_model_grammar.specs.declared.ComplexLine.{ComplexLine}
 use Rattle.ge_model_grammar.specs.Bodies.{complex_with, complex_line}
 use Rattle.ge_model_config.specs.Columns.{kind_text, kind_of, relop_text, relop_of, requestable_text, requestable_of, consumable_text, consumable_of}
-use Rattle.ge_model_config.specs.Complexes.{fits_use, older_complex, kind_in, relop_in, consumable_in, urgency_read, complex_row, row_faults}
-use Rattle.ge_model_config.specs.Printing.{number_text, printed_complex as printed_line}
+use Rattle.ge_model_config.specs.Complexes.{fits_use, older_complex, kind_in, relop_in, consumable_in, urgency_read, complex_row, row_faults, printed_complex as printed_line}
+use Rattle.ge_model_config.specs.Cited.{number_text}
 use Rattle.ge_model_config.proofs.ReadBackTexts.{is_printing_byte, is_printing, all_weaker, no_blank, shown_printing}
 use Rattle.ge_model_config.proofs.ReadBackLists.{is_piece_byte}
 use Rattle.ge_model_config.proofs.ReadBackNames.{name_item, item_shown}

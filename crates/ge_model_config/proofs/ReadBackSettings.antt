@@ -12,10 +12,10 @@ use Rattle.ge_model_value.specs.Pieces.{list_text}
 use Rattle.ge_model_value.specs.Values.{fixed_text}
 use Rattle.ge_model_value.specs.Complexes.{complex_at}
 use Rattle.ge_model_grammar.specs.declared.Body.TheVariants.{Attributes}
-use Rattle.ge_model_config.specs.Cited.{Read, amount_within, number_read}
-use Rattle.ge_model_config.specs.Printing.{number_text, sort_text, usage_text, printed}
+use Rattle.ge_model_config.specs.Cited.{Read, amount_within, number_read, number_text}
+use Rattle.ge_model_config.specs.Printing.{printed}
 use Rattle.ge_model_config.specs.Reading.{item_of}
-use Rattle.ge_model_config.specs.Settings.{sort_read, formula_faults, with_weight_item, weights_read, weight_at, sched_item}
+use Rattle.ge_model_config.specs.Settings.{sort_read, formula_faults, with_weight_item, weights_read, weight_at, sched_item, sort_text, usage_text}
 use Rattle.ge_model_config.proofs.ReadBackTexts.{is_shown}
 use Rattle.ge_model_config.proofs.ReadBackBodies.{AreShown, body_back}
 use Rattle.ge_model_config.proofs.ReadBackLists.{is_item, list_back, list_shown, text_joined}

@@ -14,8 +14,7 @@ use Rattle.ge_model_value.specs.Pieces.{is_empty, has_byte, before_byte, behind_
 use Rattle.ge_model_value.specs.Values.{is_word_byte, value_text}
 use Rattle.ge_model_value.specs.Complexes.{complex_at, pair_text, kind_for}
 use Rattle.ge_model_tasks.proofs.Digits.{before_it, behind_it, it_is_there}
-use Rattle.ge_model_config.specs.Pairs.{any_fits, beside, value_for, pair_read, item_read, put_value, with_pair, values_read}
-use Rattle.ge_model_config.specs.Printing.{values_text}
+use Rattle.ge_model_config.specs.Pairs.{any_fits, beside, value_for, pair_read, item_read, put_value, with_pair, values_read, values_text}
 use Rattle.ge_model_config.proofs.ReadBackTables.{Rises, put_behind}
 use Rattle.ge_model_config.proofs.ReadBackTexts.{is_printing, all_weaker}
 use Rattle.ge_model_config.proofs.ReadBackLists.{is_piece_byte, is_piece, is_only_none, item_piece, pieces_back, list_printing}

@@ -1,15 +1,15 @@
--- Values of a body as they are read: each beside the refusals whose conditions hold. Every part is read, also where another one is refused.
-use Rattle.std.specs.Prelude.{ℕ, Bool, not, ◌||◌, List, [], ◌∷◌, Option, Some, None, Result, Ok, Err, is_some, unwrap_or, if◌then◌else◌, codes}
+-- Values of a body as they are read, each beside the refusals whose conditions hold, and as they are printed. Every part is read, also where another one is refused.
+use Rattle.std.specs.Prelude.{ℕ, Bool, not, ◌||◌, List, [], ◌∷◌, Option, Some, None, Result, Ok, Err, is_some, unwrap_or, if◌then◌else◌, codes, ◌++◌}
 use Rattle.std.specs.List.{list_all}
 use Rattle.std.specs.Int.{is_in_range}
 use Rattle.ge_collections.specs.Keyed.{at_text}
 use Rattle.ge_base.specs.declared.refusal.Refusal.{Refusal}
 use Rattle.ge_base.specs.declared.refusal.Refusal.TheVariants.{NoSuchObject, BadValue}
 use Rattle.ge_model_rows.specs.ClusterRows.{Cluster}
-use Rattle.ge_model_rows.specs.ValueRows.{Value, Kind}
+use Rattle.ge_model_rows.specs.ValueRows.{Value, Kind, Amount}
 use Rattle.ge_model_value.specs.Faults.{when, first_fault}
 use Rattle.ge_model_value.specs.Pieces.{list_items}
-use Rattle.ge_model_value.specs.Values.{value_of, amount_in}
+use Rattle.ge_model_value.specs.Values.{value_of, amount_in, value_text}
 use Rattle.ge_model_grammar.specs.Bodies.{attribute_in}
 
 -- a value, and the refusals whose conditions hold: where there is one, nothing comes of the value
@@ -52,3 +52,11 @@ names_read is_known text = (list_items text, cited is_known (list_items text))
 -- what a hostlist may name: a host, or a group by its name with the at sign (hostgroup)
 abbrev pub is_host_or_group : Cluster → List ℕ → Bool
 is_host_or_group c name = has_name c.hosts name || has_name c.groups name
+
+-- an attribute, a blank and its value
+abbrev pub printed_attribute : List ℕ → List ℕ → List ℕ
+printed_attribute attribute value = attribute ++ codes " " ++ value
+
+-- an amount as its kind prints it
+abbrev pub number_text : Kind → ℕ → List ℕ
+number_text k n = value_text k (Amount n)

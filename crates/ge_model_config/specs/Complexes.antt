@@ -1,4 +1,4 @@
--- The table of complexes read from a body (complex).
+-- The table of complexes read from a body and printed (complex).
 use Rattle.std.specs.Prelude.{ℕ, Bool, true, false, not, ◌&&◌, ◌||◌, nat_lt, if◌then◌else◌, List, [], ◌∷◌, ◌++◌, length, fold, map, flat_map, Option, Some, None, is_none, unwrap_or, codes}
 use Rattle.ge_collections.specs.Keyed.{text_eq, at_text, put_text}
 use Rattle.ge_base.specs.declared.refusal.Refusal.{Refusal}
@@ -10,12 +10,12 @@ use Rattle.ge_model_rows.specs.ValueRows.{Amount, Kind, Relop, Requestable, Cons
 use Rattle.ge_model_rows.specs.ValueRows.{infinity}
 use Rattle.ge_model_script.specs.Names.{is_name}
 use Rattle.ge_model_value.specs.Faults.{when}
-use Rattle.ge_model_value.specs.Pieces.{is_one_of}
-use Rattle.ge_model_value.specs.Values.{value_of, is_number_kind}
+use Rattle.ge_model_value.specs.Pieces.{is_one_of, joined_by}
+use Rattle.ge_model_value.specs.Values.{value_of, is_number_kind, value_text, fixed_text}
 use Rattle.ge_model_value.specs.Complexes.{complex_at, is_consumed}
 use Rattle.ge_model_grammar.specs.declared.ComplexLine.{ComplexLine}
 use Rattle.ge_model_config.specs.Cited.{Read, number_read, has_name}
-use Rattle.ge_model_config.specs.Columns.{kind_of, is_same_kind, relop_of, is_relop, requestable_of, consumable_of}
+use Rattle.ge_model_config.specs.Columns.{kind_of, is_same_kind, relop_of, is_relop, requestable_of, consumable_of, kind_text, relop_text, requestable_text, consumable_text}
 use Rattle.ge_model_config.specs.Used.{is_complex_used, rule_where}
 
 -- a complex that nothing is known of
@@ -123,3 +123,9 @@ complexes_item c adding lines =
           ++ flat_map (use_faults c table) c.complexes
           ++ when (nat_lt limit.complexes (length table)) Limit,
     )
+
+-- a row of the table of complexes: eight words (complex)
+abbrev pub printed_complex : List ℕ × ComplexDef → List ℕ
+printed_complex row =
+    joined_by (codes " ") (row.0 ∷ row.1.shortcut ∷ kind_text row.1.kind ∷ relop_text row.1.relop ∷ requestable_text row.1.requestable
+    ∷ consumable_text row.1.consumable ∷ value_text row.1.kind row.1.fallback ∷ fixed_text row.1.urgency ∷ [])

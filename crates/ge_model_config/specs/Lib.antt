@@ -3,7 +3,11 @@ pub mod Pairs
 pub mod Overrides
 pub mod Named
 pub mod Queues
-pub mod Objects
+pub mod Hosts
+pub mod Groups
+pub mod Environments
+pub mod UserSets
+pub mod People
 pub mod Settings
 pub mod Quotas
 pub mod Columns

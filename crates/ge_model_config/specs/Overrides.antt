@@ -1,5 +1,5 @@
 -- Values of a queue with overrides: VALUE,[HOST=VALUE],[@GROUP=VALUE] (queue_conf).
-use Rattle.std.specs.Prelude.{ℕ, Bool, true, false, ◌&&◌, ◌==◌, if◌then◌else◌, List, [], ◌∷◌, ◌++◌, map, flat_map, Option, Some, None, is_some}
+use Rattle.std.specs.Prelude.{ℕ, Bool, true, false, ◌&&◌, ◌==◌, if◌then◌else◌, List, [], ◌∷◌, ◌++◌, map, flat_map, Option, Some, None, is_some, codes}
 use Rattle.std.specs.List.{list_all}
 use Rattle.std.specs.Option.{option_and_then}
 use Rattle.ge_base.specs.declared.refusal.Refusal.TheVariants.{BadValue}
@@ -79,3 +79,11 @@ module _ {T : Type 0} where
         | None ↦ (fallback, [])
         | Some text ↦ attr_with c fallback.plain read (trimmed (plain_part text)) (overrides_of text)
       ]
+
+  -- ,[HOST=VALUE]
+  abbrev pub override_text : (T → List ℕ) → List ℕ × T → List ℕ
+  override_text show o = codes ",[" ++ o.0 ++ codes "=" ++ show o.1 ++ codes "]"
+
+  -- a value and its overrides, in the order in which they were written
+  abbrev pub attr_text : (T → List ℕ) → Attr T → List ℕ
+  attr_text show attr = show attr.plain ++ flat_map (override_text show) attr.overrides

@@ -1,13 +1,13 @@
 -- Lists of name=value over the complexes: complex_values, load_thresholds, the resources of a rule.
-use Rattle.std.specs.Prelude.{ℕ, Bool, true, not, if◌then◌else◌, List, [], ◌∷◌, ◌++◌, fold, Option, Some, None, is_none}
+use Rattle.std.specs.Prelude.{ℕ, Bool, true, not, if◌then◌else◌, List, [], ◌∷◌, ◌++◌, fold, Option, Some, None, is_none, map}
 use Rattle.ge_collections.specs.Keyed.{put_text}
 use Rattle.ge_base.specs.declared.refusal.Refusal.TheVariants.{NoSuchObject, BadValue}
 use Rattle.ge_model_rows.specs.ClusterRows.{Cluster}
 use Rattle.ge_model_rows.specs.ValueRows.{Value, ComplexDef}
 use Rattle.ge_model_value.specs.Faults.{when}
-use Rattle.ge_model_value.specs.Pieces.{list_items, has_byte, before_byte, behind_byte}
+use Rattle.ge_model_value.specs.Pieces.{list_items, has_byte, before_byte, behind_byte, list_text}
 use Rattle.ge_model_value.specs.Values.{value_of, is_number_kind}
-use Rattle.ge_model_value.specs.Complexes.{complex_at}
+use Rattle.ge_model_value.specs.Complexes.{complex_at, pair_text}
 use Rattle.ge_model_config.specs.Cited.{Read}
 
 -- which complexes fit, by name and row
@@ -57,3 +57,7 @@ with_pair c fits values item = with_value values (item_read c fits item)
 -- a list of name=value
 abbrev pub values_read : Cluster → Fits → List ℕ → Read (List (List ℕ × Value))
 values_read c fits text = fold (with_pair c fits) ([], []) (list_items text)
+
+-- a list of name=value, by name
+abbrev pub values_text : Cluster → List (List ℕ × Value) → List ℕ
+values_text c table = list_text (map (pair_text c) table)

@@ -1,16 +1,16 @@
--- Queues read from a body (queue_conf).
-use Rattle.std.specs.Prelude.{ℕ, Bool, if◌then◌else◌, List, [], ◌++◌, fold, codes}
-use Rattle.ge_collections.specs.Keyed.{put_text}
+-- Queues read from a body and printed (queue_conf).
+use Rattle.std.specs.Prelude.{ℕ, Bool, if◌then◌else◌, List, [], ◌++◌, fold, codes, ◌∷◌, map, unwrap_or, decimal}
+use Rattle.ge_collections.specs.Keyed.{put_text, at_text}
 use Rattle.ge_limits.specs.Limits as limit
 use Rattle.ge_model_rows.specs.ClusterRows.{Cluster, default_queue, plain_attr, limit_names}
 use Rattle.ge_model_rows.specs.EntryRows.{Item, Queue, ObjectKind}
 use Rattle.ge_model_rows.specs.QueueRows.{QueueRow, Attr}
 use Rattle.ge_model_rows.specs.ValueRows.{Kind, infinity}
-use Rattle.ge_model_value.specs.Pieces.{is_one_of}
+use Rattle.ge_model_value.specs.Pieces.{is_one_of, list_text}
 use Rattle.ge_model_value.specs.Complexes.{time_limits}
-use Rattle.ge_model_config.specs.Cited.{Read, given, none_text, number_read, names_read, has_name, is_host_or_group}
-use Rattle.ge_model_config.specs.Pairs.{values_read, any_fits, number_fits}
-use Rattle.ge_model_config.specs.Overrides.{attr_read}
+use Rattle.ge_model_config.specs.Cited.{Read, given, none_text, number_read, names_read, has_name, is_host_or_group, printed_attribute, number_text}
+use Rattle.ge_model_config.specs.Pairs.{values_read, any_fits, number_fits, values_text}
+use Rattle.ge_model_config.specs.Overrides.{attr_read, attr_text}
 use Rattle.ge_model_config.specs.Named.{name_faults, absent_faults}
 
 -- the limits of run time and processor time are times, the others sizes
@@ -62,3 +62,23 @@ queue_item c adding values =
     let name = given values (codes "qname") [] in
     let queue = queue_read c values in
     (Queue name queue.0, name_faults ObjectKind.Queue limit.queues c.queues adding name ++ absent_faults ObjectKind.Queue values ++ queue.1)
+
+-- a limit of a queue; one that its table doesn't have is INFINITY
+abbrev pub limit_line : List (List ℕ × Attr ℕ) → List ℕ → List ℕ
+limit_line limits name = printed_attribute name (attr_text (number_text (limit_kind name)) (unwrap_or (at_text limits name) (plain_attr infinity)))
+
+-- queue_conf
+abbrev pub queue_lines : Cluster → List ℕ → QueueRow → List (List ℕ)
+queue_lines c name q =
+    printed_attribute (codes "qname") name
+    ∷ printed_attribute (codes "hostlist") (list_text q.hosts)
+    ∷ printed_attribute (codes "seq_no") (attr_text decimal q.seq_no)
+    ∷ printed_attribute (codes "load_thresholds") (attr_text (values_text c) q.thresholds)
+    ∷ printed_attribute (codes "pe_list") (attr_text list_text q.pes)
+    ∷ printed_attribute (codes "user_lists") (attr_text list_text q.users)
+    ∷ printed_attribute (codes "xuser_lists") (attr_text list_text q.xusers)
+    ∷ printed_attribute (codes "projects") (attr_text list_text q.projects)
+    ∷ printed_attribute (codes "xprojects") (attr_text list_text q.xprojects)
+    ∷ printed_attribute (codes "complex_values") (attr_text (values_text c) q.values)
+    ∷ printed_attribute (codes "slots") (attr_text decimal q.slots)
+    ∷ map (limit_line q.limits) limit_names

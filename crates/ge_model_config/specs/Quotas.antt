@@ -1,19 +1,20 @@
--- Rule sets read from a body (sge_resource_quota).
+-- Rule sets read from a body and printed (sge_resource_quota).
 use Rattle.std.specs.Prelude.{ℕ, Bool, true, false, not, ◌||◌, ◌==◌, nat_lt, if◌then◌else◌, List, [], ◌∷◌, ◌++◌, length, map, flat_map, fold, Option, Some, None, codes}
 use Rattle.ge_collections.specs.Keyed.{text_eq, put_text}
 use Rattle.ge_base.specs.declared.refusal.Refusal.TheVariants.{BadValue, Limit}
 use Rattle.ge_limits.specs.Limits as limit
 use Rattle.ge_model_rows.specs.ClusterRows.{Cluster}
 use Rattle.ge_model_rows.specs.EntryRows.{Item, ObjectKind}
-use Rattle.ge_model_rows.specs.QuotaRows.{Rule, Filter}
-use Rattle.ge_model_rows.specs.ValueRows.{Value, Kind, ComplexDef}
+use Rattle.ge_model_rows.specs.QuotaRows.{Rule, Filter, QuotaRow}
+use Rattle.ge_model_rows.specs.ValueRows.{Value, Kind, ComplexDef, Amount}
 use Rattle.ge_model_script.specs.Names.{is_name}
 use Rattle.ge_model_value.specs.Faults.{when}
-use Rattle.ge_model_value.specs.Values.{value_of, amount_in}
+use Rattle.ge_model_value.specs.Pieces.{joined_by}
+use Rattle.ge_model_value.specs.Values.{value_of, amount_in, flag_text}
 use Rattle.ge_model_value.specs.Complexes.{is_consumable}
 use Rattle.ge_model_grammar.specs.declared.RuleLine.{RuleLine}
-use Rattle.ge_model_config.specs.Cited.{Read, given, none_text, cited, has_name}
-use Rattle.ge_model_config.specs.Pairs.{pair_read}
+use Rattle.ge_model_config.specs.Cited.{Read, given, none_text, cited, has_name, printed_attribute}
+use Rattle.ge_model_config.specs.Pairs.{pair_read, values_text}
 use Rattle.ge_model_config.specs.Named.{name_faults}
 
 -- the elements of a filter, plain ones and those that take away
@@ -89,3 +90,47 @@ quota_item c adding values lines =
       }),
       name_faults ObjectKind.Quota limit.rule_sets c.quotas adding name ++ enabled.1 ++ flat_map (λ rule. rule.1) rules ++ when (nat_lt limit.rules (length lines)) Limit,
     )
+
+-- ---- printed
+
+-- the plain elements, then those that take away
+abbrev pub elements_text : Filter → List ℕ
+elements_text filter = joined_by (codes ",") (filter.plain ++ map (λ element. codes "!" ++ element) filter.without)
+
+-- a filter, in braces or without
+abbrev pub filter_text : Filter → List ℕ
+filter_text filter = if filter.braces then codes "{" ++ elements_text filter ++ codes "}" else elements_text filter
+
+-- a filter behind its name; nothing where the rule has none
+abbrev pub filter_part : List ℕ → Option Filter → List ℕ
+filter_part name None = []
+filter_part name (Some filter) = codes " " ++ name ++ codes " " ++ filter_text filter
+
+-- the name of a rule, if it has one
+abbrev pub name_part : List ℕ → List ℕ
+name_part [] = []
+name_part (b ∷ name) = codes " name " ++ b ∷ name
+
+-- what a rule limits, by name
+abbrev pub limits_text : Cluster → List (List ℕ × ℕ) → List ℕ
+limits_text c limits = values_text c (map (λ limit. (limit.0, Amount limit.1)) limits)
+
+-- sge_resource_quota
+abbrev pub rule_line : Cluster → Rule → List ℕ
+rule_line c rule =
+    codes "limit" ++ name_part rule.name ++ filter_part (codes "users") rule.users ++ filter_part (codes "projects") rule.projects
+    ++ filter_part (codes "pes") rule.pes ++ filter_part (codes "queues") rule.queues ++ filter_part (codes "hosts") rule.hosts
+    ++ codes " to " ++ limits_text c rule.limits
+
+-- no description is NONE
+abbrev pub description_text : List ℕ → List ℕ
+description_text [] = none_text
+description_text (b ∷ text) = b ∷ text
+
+-- a rule set: its lines between braces (sge_resource_quota)
+abbrev pub quota_lines : Cluster → List ℕ → QuotaRow → List (List ℕ)
+quota_lines c name set =
+    codes "{" ∷ printed_attribute (codes "name") name
+    ∷ printed_attribute (codes "description") (description_text set.description)
+    ∷ printed_attribute (codes "enabled") (flag_text set.enabled)
+    ∷ map (rule_line c) set.rules ++ codes "}" ∷ []

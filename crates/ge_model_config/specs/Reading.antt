@@ -11,7 +11,11 @@ use Rattle.ge_model_value.specs.Complexes.{opening_complexes}
 use Rattle.ge_model_site.specs.Groups.{has_loop}
 use Rattle.ge_model_config.specs.Cited.{answered}
 use Rattle.ge_model_config.specs.Queues.{queue_item, queue_read}
-use Rattle.ge_model_config.specs.Objects.{host_item, group_item, pe_item, set_item, user_item, project_item}
+use Rattle.ge_model_config.specs.Hosts.{host_item}
+use Rattle.ge_model_config.specs.Groups.{group_item}
+use Rattle.ge_model_config.specs.Environments.{pe_item}
+use Rattle.ge_model_config.specs.UserSets.{set_item}
+use Rattle.ge_model_config.specs.People.{user_item, project_item}
 use Rattle.ge_model_config.specs.Settings.{sched_item}
 use Rattle.ge_model_config.specs.Quotas.{quota_item}
 use Rattle.ge_model_config.specs.Complexes.{complexes_item}

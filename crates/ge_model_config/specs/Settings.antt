@@ -1,18 +1,18 @@
--- The scheduler's settings read from a body (sched_conf).
-use Rattle.std.specs.Prelude.{ℕ, Bool, not, ◌&&◌, if◌then◌else◌, List, [], ◌∷◌, ◌++◌, fold, Option, Some, None, unwrap_or, codes}
+-- The scheduler's settings read from a body and printed (sched_conf).
+use Rattle.std.specs.Prelude.{ℕ, Bool, not, ◌&&◌, if◌then◌else◌, List, [], ◌∷◌, ◌++◌, fold, Option, Some, None, unwrap_or, codes, decimal}
 use Rattle.ge_collections.specs.Keyed.{text_eq, at_text, put_text}
 use Rattle.ge_base.specs.declared.refusal.Refusal.{Refusal}
 use Rattle.ge_base.specs.declared.refusal.Refusal.TheVariants.{NoSuchObject, BadValue}
 use Rattle.ge_model_rows.specs.ClusterRows.{Cluster, default_sched}
 use Rattle.ge_model_rows.specs.EntryRows.{Item}
-use Rattle.ge_model_rows.specs.SettingRows.{SortMethod, Load, Seqno}
+use Rattle.ge_model_rows.specs.SettingRows.{SortMethod, Load, Seqno, Sched}
 use Rattle.ge_model_rows.specs.ValueRows.{Kind, ComplexDef, infinity}
 use Rattle.ge_model_value.specs.Faults.{when}
 use Rattle.ge_model_value.specs.Pieces.{list_items, has_byte, before_byte, behind_byte, is_one_of}
-use Rattle.ge_model_value.specs.Values.{is_number_kind}
+use Rattle.ge_model_value.specs.Values.{is_number_kind, fixed_text}
 use Rattle.ge_model_value.specs.Complexes.{complex_at}
 use Rattle.ge_model_grammar.specs.Bodies.{attribute_in}
-use Rattle.ge_model_config.specs.Cited.{Read, number_read}
+use Rattle.ge_model_config.specs.Cited.{Read, number_read, printed_attribute, number_text}
 
 module _ {T : Type 0} where
   -- a setting, or its default where the body leaves it out
@@ -111,3 +111,36 @@ sched_item c values =
       interval.1 ++ maxujobs.1 ++ sort.1 ++ load_formula.1 ++ w_priority.1 ++ w_urgency.1 ++ w_ticket.1 ++ w_waiting.1 ++ w_deadline.1 ++ functional.1
           ++ share.1 ++ w_user.1 ++ w_project.1 ++ w_job.1 ++ halftime.1 ++ max_reservation.1 ++ default_duration.1 ++ usage.1 ++ max_pending.1,
     )
+
+-- sched_conf, queue_sort_method
+abbrev pub sort_text : SortMethod → List ℕ
+sort_text SortMethod.Load = codes "load"
+sort_text SortMethod.Seqno = codes "seqno"
+
+-- the weights of usage
+abbrev pub usage_text : Sched → List ℕ
+usage_text s = codes "cpu=" ++ fixed_text s.u_cpu ++ codes ",mem=" ++ fixed_text s.u_mem ++ codes ",io=" ++ fixed_text s.u_io
+
+-- sched_conf
+abbrev pub sched_lines : Sched → List (List ℕ)
+sched_lines s =
+    printed_attribute (codes "schedule_interval") (number_text Kind.Time s.interval)
+    ∷ printed_attribute (codes "maxujobs") (decimal s.maxujobs)
+    ∷ printed_attribute (codes "queue_sort_method") (sort_text s.sort)
+    ∷ printed_attribute (codes "load_formula") s.load_formula
+    ∷ printed_attribute (codes "weight_priority") (fixed_text s.w_priority)
+    ∷ printed_attribute (codes "weight_urgency") (fixed_text s.w_urgency)
+    ∷ printed_attribute (codes "weight_ticket") (fixed_text s.w_ticket)
+    ∷ printed_attribute (codes "weight_waiting_time") (fixed_text s.w_waiting)
+    ∷ printed_attribute (codes "weight_deadline") (fixed_text s.w_deadline)
+    ∷ printed_attribute (codes "weight_tickets_functional") (decimal s.functional)
+    ∷ printed_attribute (codes "weight_tickets_share") (decimal s.share)
+    ∷ printed_attribute (codes "weight_user") (fixed_text s.w_user)
+    ∷ printed_attribute (codes "weight_project") (fixed_text s.w_project)
+    ∷ printed_attribute (codes "weight_job") (fixed_text s.w_job)
+    ∷ printed_attribute (codes "halftime") (decimal s.halftime)
+    ∷ printed_attribute (codes "max_reservation") (decimal s.max_reservation)
+    ∷ printed_attribute (codes "default_duration") (number_text Kind.Time s.default_duration)
+    ∷ printed_attribute (codes "usage_weight_list") (usage_text s)
+    ∷ printed_attribute (codes "max_pending_tasks_per_job") (decimal s.max_pending)
+    ∷ []

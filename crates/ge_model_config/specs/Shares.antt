@@ -1,5 +1,5 @@
--- The share tree read from a body (share_tree).
-use Rattle.std.specs.Prelude.{ℕ, zero, suc, min, ◌+◌, ◌-◌, ◌^◌, ◌==◌, Bool, true, false, not, ◌&&◌, ◌||◌, nat_lt, if◌then◌else◌, List, [], ◌∷◌, ◌++◌, length, slice_get, fold, map, flat_map, filter, filter_map, count_by, Option, Some, None, is_none, codes}
+-- The share tree read from a body and printed (share_tree).
+use Rattle.std.specs.Prelude.{ℕ, zero, suc, min, ◌+◌, ◌-◌, ◌^◌, ◌==◌, Bool, true, false, not, ◌&&◌, ◌||◌, nat_lt, if◌then◌else◌, List, [], ◌∷◌, ◌++◌, length, slice_get, fold, map, flat_map, filter, filter_map, count_by, Option, Some, None, is_none, codes, decimal}
 use Rattle.std.specs.List.{list_any, list_all}
 use Rattle.std.specs.Map.{keys_of}
 use Rattle.ge_collections.specs.Keyed.{text_eq, at_number, put_number}
@@ -12,7 +12,7 @@ use Rattle.ge_model_rows.specs.PeopleRows.{ShareNode}
 use Rattle.ge_model_rows.specs.ValueRows.{Value, Kind}
 use Rattle.ge_model_script.specs.Names.{is_name}
 use Rattle.ge_model_value.specs.Faults.{when}
-use Rattle.ge_model_value.specs.Pieces.{is_empty, lists_number, each_number_once, with_one_number, list_items, is_digits, number_of}
+use Rattle.ge_model_value.specs.Pieces.{is_empty, lists_number, each_number_once, with_one_number, list_items, is_digits, number_of, list_text}
 use Rattle.ge_model_value.specs.Values.{value_of, amount_in}
 use Rattle.ge_model_grammar.specs.declared.NodeLines.{NodeLines}
 use Rattle.ge_model_config.specs.Cited.{Read, number_read, cited, has_name}
@@ -171,3 +171,15 @@ shares_item c adding nodes =
           ++ tree_faults table owned (flat_map (line_faults c) nodes ++ node_faults nodes table owned)
           ++ when (nat_lt limit.share_nodes (length nodes)) Limit,
     )
+
+-- ---- printed
+
+-- a node of the share tree: five lines (share_tree)
+abbrev pub node_lines : ℕ × ShareNode → List (List ℕ)
+node_lines node =
+    (codes "id=" ++ decimal node.0)
+    ∷ (codes "name=" ++ node.1.name)
+    ∷ (codes "type=" ++ (if node.1.project then codes "1" else codes "0"))
+    ∷ (codes "shares=" ++ decimal node.1.shares)
+    ∷ (codes "childnodes=" ++ list_text (map decimal node.1.children))
+    ∷ []

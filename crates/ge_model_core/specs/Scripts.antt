@@ -34,7 +34,11 @@ use Rattle.ge_model_grammar.specs.Parsing.{parsed}
 use Rattle.ge_model_grammar.specs.Rules.{rule_line_of}
 use Rattle.ge_model_grammar.specs.Shapes.{read_options, merged_options}
 use Rattle.ge_model_config.specs.Complexes.{complexes_item}
-use Rattle.ge_model_config.specs.Objects.{host_item, group_item, pe_item, set_item, user_item, project_item}
+use Rattle.ge_model_config.specs.Hosts.{host_item}
+use Rattle.ge_model_config.specs.Groups.{group_item}
+use Rattle.ge_model_config.specs.Environments.{pe_item}
+use Rattle.ge_model_config.specs.UserSets.{set_item}
+use Rattle.ge_model_config.specs.People.{user_item, project_item}
 use Rattle.ge_model_config.specs.Printing.{printed, item_at}
 use Rattle.ge_model_config.specs.Queues.{queue_read, queue_item}
 use Rattle.ge_model_config.specs.Quotas.{quota_item}

@@ -2,7 +2,9 @@
 
 ghost use Rattle.std.specs.Prelude.{◌≡◌, ◌++◌, ◌∷◌, [], IfOk, OnOk, codes, decimal, flat_map, List as Items, ℕ};
 ghost use Rattle.ge_model_value.specs.Pieces.{list_text};
-ghost use Rattle.ge_model_config.specs.Printing.{printed_attribute, values_text, number_text, override_text, attr_text};
+ghost use Rattle.ge_model_config.specs.Cited.{printed_attribute, number_text};
+ghost use Rattle.ge_model_config.specs.Pairs.{values_text};
+ghost use Rattle.ge_model_config.specs.Overrides.{override_text, attr_text};
 
 use crate::values::values_text;
 use ge_complex::amount_text;

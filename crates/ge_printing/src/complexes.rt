@@ -2,7 +2,7 @@
 
 ghost use Rattle.std.specs.Prelude.{◌≡◌, IfOk, codes, map};
 ghost use Rattle.ge_model_config.specs.Columns.{kind_text, relop_text, requestable_text, consumable_text};
-ghost use Rattle.ge_model_config.specs.Printing.{printed_complex};
+ghost use Rattle.ge_model_config.specs.Complexes.{printed_complex};
 
 use ge_complex::{fixed_text, value_text};
 use ge_rows::{ComplexDef, Consumable, Kind, List, Relop, Requestable, Table, Text};

@@ -2,7 +2,9 @@
 
 ghost use Rattle.std.specs.Prelude.{◌≡◌, ◌++◌, ◌∷◌, [], IfOk, codes};
 ghost use Rattle.ge_model_value.specs.Pieces.{list_text};
-ghost use Rattle.ge_model_config.specs.Printing.{printed_attribute, printed, values_text};
+ghost use Rattle.ge_model_config.specs.Cited.{printed_attribute};
+ghost use Rattle.ge_model_config.specs.Printing.{printed};
+ghost use Rattle.ge_model_config.specs.Pairs.{values_text};
 
 use crate::complexes::print_complexes;
 use crate::lines::{put, put_names};

@@ -1,7 +1,7 @@
 //! Users and projects: see the manual pages user and project.
 
 ghost use Rattle.std.specs.Prelude.{◌≡◌, ◌++◌, ◌∷◌, [], IfOk, codes, decimal};
-ghost use Rattle.ge_model_config.specs.Printing.{project_lines, user_lines};
+ghost use Rattle.ge_model_config.specs.People.{project_lines, user_lines};
 
 use crate::lines::{put, put_names, put_number};
 use ge_rows::{List, ProjectRow, Text, UserRow};

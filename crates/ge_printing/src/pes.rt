@@ -1,7 +1,7 @@
 //! Parallel environments: see the manual page sge_pe.
 
 ghost use Rattle.std.specs.Prelude.{◌≡◌, ◌++◌, ◌∷◌, [], IfOk, codes, decimal};
-ghost use Rattle.ge_model_config.specs.Printing.{allocation_text, assumed_text, pe_lines};
+ghost use Rattle.ge_model_config.specs.Environments.{allocation_text, assumed_text, pe_lines};
 
 use crate::lines::{put, put_names, put_number};
 use ge_rows::{Allocation, List, PeRow, Text, UrgencySlots};

@@ -2,8 +2,7 @@
 
 ghost use Rattle.std.specs.Prelude.{◌≡◌, ◌++◌, ◌∷◌, [], IfOk, OnOk, map};
 ghost use Rattle.ge_model_rows.specs.ClusterRows.{limit_names};
-ghost use Rattle.ge_model_config.specs.Queues.{limit_kind};
-ghost use Rattle.ge_model_config.specs.Printing.{limit_line, queue_lines};
+ghost use Rattle.ge_model_config.specs.Queues.{limit_kind, limit_line, queue_lines};
 
 use crate::attributes::{Amounts, Names, Numbers, Values, put_attr};
 use crate::lines::{put, put_names};

@@ -4,7 +4,7 @@ ghost use Rattle.std.specs.Prelude.{◌≡◌, ◌++◌, ◌∷◌, [], IfOk, On
 ghost use Rattle.ge_model_rows.specs.ValueRows.{Amount};
 ghost use Rattle.ge_model_value.specs.Complexes.{pair_text};
 ghost use Rattle.ge_model_value.specs.Values.{flag_text};
-ghost use Rattle.ge_model_config.specs.Printing.{description_text, elements_text, filter_part, filter_text, limits_text, name_part, quota_lines, rule_line};
+ghost use Rattle.ge_model_config.specs.Quotas.{description_text, elements_text, filter_part, filter_text, limits_text, name_part, quota_lines, rule_line};
 
 use crate::lines::put;
 use ge_complex::pair_text;

@@ -1,7 +1,7 @@
 //! The scheduler's settings: see the manual page sched_conf.
 
 ghost use Rattle.std.specs.Prelude.{◌≡◌, ◌++◌, ◌∷◌, [], IfOk, codes};
-ghost use Rattle.ge_model_config.specs.Printing.{sched_lines, sort_text, usage_text};
+ghost use Rattle.ge_model_config.specs.Settings.{sched_lines, sort_text, usage_text};
 
 use crate::lines::{put, put_fixed, put_number, put_time};
 use ge_complex::fixed_text;

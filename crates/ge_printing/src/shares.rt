@@ -2,7 +2,7 @@
 
 ghost use Rattle.std.specs.Prelude.{◌≡◌, ◌++◌, ◌∷◌, [], IfOk, OnOk, codes, decimal, flat_map, map, if◌then◌else◌};
 ghost use Rattle.ge_model_value.specs.Pieces.{list_text};
-ghost use Rattle.ge_model_config.specs.Printing.{node_lines};
+ghost use Rattle.ge_model_config.specs.Shares.{node_lines};
 
 use ge_rows::{List, ShareNode, Table, Text};
 use ge_wording::{decimal_text, number_list};

@@ -2,7 +2,7 @@
 
 ghost use Rattle.std.specs.Prelude.{◌≡◌, IfOk, map};
 ghost use Rattle.ge_model_value.specs.Complexes.{pair_text};
-ghost use Rattle.ge_model_config.specs.Printing.{values_text};
+ghost use Rattle.ge_model_config.specs.Pairs.{values_text};
 
 use ge_complex::pair_text;
 use ge_pieces::join_list;

@@ -1,6 +1,6 @@
 use Rattle.std.proofs.Common.{◌≡◌, ◌++◌, take}
 use Rattle.std.specs.Prelude.{flat_map}
-use Rattle.ge_model_config.specs.Printing.{override_text}
+use Rattle.ge_model_config.specs.Overrides.{override_text}
 use Rattle.ge_printing.proofs.attributes.append_overrides.Given as goal
 
 abbrev pub invariant-loop-name : goal.invariant-loop-name

@@ -1,5 +1,5 @@
 use Rattle.std.proofs.Common.{◌≡◌, ◌++◌, map}
-use Rattle.ge_model_config.specs.Printing.{printed_complex}
+use Rattle.ge_model_config.specs.Complexes.{printed_complex}
 use Rattle.ge_printing.proofs.complexes.print_complexes.Given as goal
 
 abbrev pub invariant-loop-name : goal.invariant-loop-name

@@ -1,5 +1,5 @@
 use Rattle.std.proofs.Common.{◌≡◌, ◌++◌, take, map}
-use Rattle.ge_model_config.specs.Printing.{limit_line}
+use Rattle.ge_model_config.specs.Queues.{limit_line}
 use Rattle.ge_printing.proofs.queues.put_limits.Given as goal
 
 abbrev pub invariant-loop-name : goal.invariant-loop-name

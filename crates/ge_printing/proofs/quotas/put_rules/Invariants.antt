@@ -1,5 +1,5 @@
 use Rattle.std.proofs.Common.{◌≡◌, ◌++◌, take, map}
-use Rattle.ge_model_config.specs.Printing.{rule_line}
+use Rattle.ge_model_config.specs.Quotas.{rule_line}
 use Rattle.ge_printing.proofs.quotas.put_rules.Given as goal
 
 abbrev pub invariant-loop-rule : goal.invariant-loop-rule
