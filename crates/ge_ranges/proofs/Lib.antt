@@ -4,3 +4,8 @@ pub mod Listed
 pub mod Written
 pub mod Stays
 pub mod Walked
+pub mod Multiples
+pub mod Looked
+pub mod NextShared
+pub mod Shared
+pub mod SharedSets

@@ -20,7 +20,8 @@ spanned a q d = by (a == a + q * d) refl
         more zero is = absurd (eqb-false a (a + 0 * d) is (omega arith))
         more (suc q) is = le-leb (a + d) (a + suc q * d) (omega arith)
 
-stretched : (a bound d : ℕ) → have_seconds (stretch a bound d) ≡ true
+-- a stretch of whole steps
+pub stretched : (a bound d : ℕ) → have_seconds (stretch a bound d) ≡ true
 stretched a bound d = by (nat_lt bound a)
   where
     by : (none : Bool) → have_seconds (if none then [] else span_of a (a + (bound - a) / d * d) d ∷ []) ≡ true

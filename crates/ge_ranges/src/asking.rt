@@ -6,7 +6,8 @@ ghost use Rattle.ge_model_tasks.specs.Sets.{has_number, first_number, next_numbe
 use crate::cutting::{above_part, quotient, rest_of};
 use ge_rows::{TaskSet, TaskSpan};
 
-fn is_inside(span: &TaskSpan, n: u32) -> bool
+/// Whether a span has a number.
+pub(crate) fn is_inside(span: &TaskSpan, n: u32) -> bool
     ensures { result ≡ in_span n span.now }
 {
     span.first <= n && n <= span.last && rest_of(n.saturating_sub(span.first), span.step) == 0

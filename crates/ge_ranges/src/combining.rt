@@ -4,6 +4,7 @@ ghost use Rattle.ge_model_rows.specs.TaskRows.{is_form};
 ghost use Rattle.ge_model_tasks.specs.Sets.{together, count_of, union as union_of, meet as meet_of, difference as difference_of};
 
 use crate::asking::len;
+use crate::meeting::meet_together;
 use crate::merging::{Wanted, merge};
 use ge_rows::{List, TaskSet, TaskSpan};
 use std::alloc::{AllocError, Global};
@@ -40,12 +41,7 @@ pub fn union(alloc: Global, s: &TaskSet, t: &TaskSet) -> Result<TaskSet, AllocEr
 pub fn meet(alloc: Global, s: &TaskSet, t: &TaskSet) -> Result<TaskSet, AllocError>
     ensures { IfOk result (λ made. made ≡ meet_of s.now t.now) }
 {
-    let wanted = Wanted {
-        alone: false,
-        shared: true,
-        others: false,
-    };
-    let spans = put_together(alloc, wanted, s, t)?;
+    let spans = meet_together(alloc, s, t)?;
     Ok(TaskSet::from_spans(spans))
 }
 

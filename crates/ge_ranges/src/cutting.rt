@@ -37,8 +37,8 @@ pub(crate) fn span_by(first: u32, last: u32, step: u32) -> TaskSpan
     }
 }
 
-// The numbers from a first one that aren't above a bound.
-fn stretched(first: u32, bound: u32, step: u32) -> Option<TaskSpan>
+/// The numbers from a first one that aren't above a bound.
+pub(crate) fn stretched(first: u32, bound: u32, step: u32) -> Option<TaskSpan>
     ensures { option_to_list result ≡ stretch first bound step }
 {
     if bound < first {

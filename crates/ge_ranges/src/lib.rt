@@ -16,6 +16,7 @@ mod combining;
 mod cutting;
 mod forming;
 mod listing;
+mod meeting;
 mod merging;
 mod parsing;
 mod putting;
