@@ -15,7 +15,7 @@ use Rattle.ge_model_place.specs.Placement.{everywhere, are_admissible, placement
 use Rattle.ge_model_place.proofs.Moments.{admissible_is, is_admissible}
 use Rattle.ge_model_place.proofs.Placed.{places_of}
 
-sum_grows : (limit : LimitId) (moment : ℕ) (bookings more : List Booking) → plain_sum bookings limit moment ≤ plain_sum (bookings ++ more) limit moment
+pub sum_grows : (limit : LimitId) (moment : ℕ) (bookings more : List Booking) → plain_sum bookings limit moment ≤ plain_sum (bookings ++ more) limit moment
 sum_grows limit moment bookings more =
     let whole = sum_by-append (taken_by limit moment) bookings more in omega (arith, whole)
 

@@ -1,9 +1,9 @@
 -- One more task is decided, and a job whose tasks wait is kept.
-use Rattle.std.proofs.Common.{◌+◌, ◌<◌, length, take, get_or, fold, ◌≡◌, ℕ, Bool, true, false, cond, List, [], ◌∷◌, ◌++◌, Option, Some, None, IfSome, refl, sym, subst, ap, ◌∙◌}
+use Rattle.std.proofs.Common.{◌+◌, ◌≤◌, ◌<◌, ◌==◌, ◌&&◌, length, take, get_or, fold, ◌≡◌, ℕ, Bool, true, false, cond, List, [], ◌∷◌, ◌++◌, Option, Some, None, IfSome, refl, sym, subst, ap, ◌∙◌}
 use Rattle.std.specs.Prelude.{nat_lt}
 use Rattle.std.specs.Ordering.{nat_cmp}
 use Rattle.std.specs.BTreeSet.{BTreeSet, contains}
-use Rattle.std.proofs.lemmas.Bool.{true≢false}
+use Rattle.std.proofs.lemmas.Bool.{true≢false, and_right, le-ltb}
 use Rattle.std.proofs.lemmas.List.{append-nil, take_more}
 use Rattle.std.proofs.lemmas.List.Sums.{fold-append}
 use Rattle.ge_collections.specs.Keyed.{at_number}
@@ -15,13 +15,16 @@ use Rattle.ge_model_rows.specs.JobRows.{Job, Grant}
 use Rattle.ge_model_rows.specs.ScheduleRows.{Booking}
 use Rattle.ge_model_rows.specs.TaskRows.{TaskId}
 use Rattle.ge_model_place.specs.Placement.{placement_of}
-use Rattle.ge_model_place.specs.Running.{owner_is_full, serial_after, earliest_end, booked_by, start_with, reserve_at, decision_of, decide}
+use Rattle.ge_model_place.specs.Running.{owner_is_full, serial_after, may_reserve, earliest_end, booked_by, start_with, reserve_at, decision_of, decide}
 use Rattle.ge_scheduling.specs.declared.counting.Tally.{Tally}
 use Rattle.ge_scheduling.specs.Counts.{is_over, may_be_reserved, IsTallied}
 use Rattle.ge_collections.specs.declared.short_row.ShortRow.{ShortRow}
 use Rattle.ge_rows.specs.declared.labels.JobFacts.{JobFacts}
-use Rattle.ge_scheduling.specs.KindNotes.{kind_in, is_noted, noted_with, kind_after, NoneStarts, AreShut}
+use Rattle.ge_scheduling.specs.KindNotes.{kind_in, is_noted, noted_with, kind_after, started_by, NoneStarts, AreShut}
 use Rattle.ge_scheduling.specs.Passing.{passed_by, Waits, Follows}
+use Rattle.ge_scheduling.specs.declared.rests.Rest.{Rest}
+use Rattle.ge_scheduling.specs.Rests.{AreLeft}
+use Rattle.ge_scheduling.specs.Vacant.{AreVacant}
 use Rattle.ge_scheduling.specs.Verdicts.{grants_at, can_be_placed, reserved_from, reserved, waiting, placed_with, decision_by, decision_at}
 use Rattle.ge_scheduling.proofs.Bridged.{by_parts, model_by_parts, may_same, decision_tallied}
 use Rattle.ge_scheduling.proofs.Shut.{must_wait, shut_later, shut_after}
@@ -121,6 +124,24 @@ module _ (c : Cluster) (groups : Groups) (order : List InstanceId) (now : ℕ) w
       here None is e = absurd (true≢false (sym e))
       here (Some kind) is e = (shut kind e number job there is).1
 
+  -- where nothing can be placed now and no task may be reserved
+  pub all_must_wait : (booked : List Booking) (decisions : List Decision) (tally : Tally) (number : ℕ) → IsTallied c decisions tally → ((job : Job) → placement_of c groups order booked job now ≡ None)
+      → c.sched.max_reservation ≤ tally.reserved → Waits c groups order now booked decisions number
+  all_must_wait booked decisions tally number tallied nowhere enough task same =
+      model_by_parts c groups order now booked decisions task ∙ here (at_number c.jobs task.job)
+    where
+      unreserved : (job : Job) → may_reserve c decisions (Some job) ≡ false
+      unreserved job =
+          sym (may_same c decisions tally tallied job)
+          ∙ and_right (job.reserve && job.advance == 0) (nat_lt tally.reserved c.sched.max_reservation) (le-ltb tally.reserved c.sched.max_reservation enough)
+
+      here : (job : Option Job) → by_parts c groups order now booked decisions job task ≡ Skip task
+      here None = refl
+      here (Some job) =
+          ap (λ m. decision_by c groups order now booked (owner_is_full c decisions job.owner) m (serial_after c decisions) (Some job) task) (unreserved job)
+          ∙ must_wait c groups order now booked (owner_is_full c decisions job.owner) (serial_after c decisions) (Some job) task (placement_of c groups order booked job now)
+          (ap (λ given. started_by (owner_is_full c decisions job.owner) (serial_after c decisions) task given) (nowhere job))
+
   -- a job whose tasks wait, after one more that does
   waits_still : (booked : List Booking) (decisions : List Decision) (tally : Tally) (skipped : TaskId) (passed : Option ℕ) → IsTallied c decisions tally
       → IfSome passed (Waits c groups order now booked decisions) → IfSome passed (Waits c groups order now booked (decisions ++ Skip skipped ∷ []))
@@ -129,13 +150,13 @@ module _ (c : Cluster) (groups : Groups) (order : List InstanceId) (now : ℕ) w
       sym (decision_tallied c groups order now booked (decisions ++ Skip skipped ∷ []) tally (tallied_skip c decisions skipped tally is) u)
       ∙ decision_tallied c groups order now booked decisions tally is u ∙ waits u same
 
-  pub weighed_follows : (rows : List (ℕ × ShortRow JobFacts)) (booked more : List Booking) (decisions longer : List Decision) (tally next : Tally) (passed noted : Option ℕ) (full now_full : BTreeSet ℕ) (task : TaskId) (made : Decision)
-      → Follows c groups order now rows booked decisions tally noted full
+  pub weighed_follows : (rows : List (ℕ × ShortRow JobFacts)) (booked more : List Booking) (decisions longer : List Decision) (tally next : Tally) (passed noted : Option ℕ) (full now_full : BTreeSet ℕ) (vacant fewer : List InstanceId) (rests less : List (List Rest)) (task : TaskId) (made : Decision)
+      → Follows c groups order now rows booked decisions tally noted full vacant rests
       → made ≡ decision_of c groups order now booked decisions task → more ≡ booked ++ booked_by c groups now made → longer ≡ decisions ++ made ∷ []
       → IsTallied c (decisions ++ made ∷ []) next → passed ≡ passed_by task.job made
       → ((other : ℕ) → contains nat_cmp now_full other ≡ noted_with full (kind_after made (at_number c.jobs task.job) (kind_in rows task.job)) other)
-      → Follows c groups order now rows more longer next passed now_full
-  weighed_follows rows booked more decisions longer tally next passed noted full now_full task made follows made_is books pushes counted passes notes =
+      → AreVacant c groups now more order fewer → AreLeft c groups now more order less → Follows c groups order now rows more longer next passed now_full fewer less
+  weighed_follows rows booked more decisions longer tally next passed noted full now_full vacant fewer rests less task made follows made_is books pushes counted passes notes are room =
       record {
         told = follows.told;
         tallied = subst (λ ds. IsTallied c ds next) (sym pushes) counted;
@@ -146,15 +167,17 @@ module _ (c : Cluster) (groups : Groups) (order : List InstanceId) (now : ℕ) w
         shut = subst (λ bs. AreShut c groups order now bs longer rows now_full) (sym books)
             (subst (λ ds. AreShut c groups order now (booked ++ booked_by c groups now made) ds rows now_full) (sym pushes)
             (shut_after c groups order now rows follows.told booked decisions full now_full task made follows.shut made_is notes));
+        left = are;
+        room = room;
       }
 
-  module _ (rows : List (ℕ × ShortRow JobFacts)) (booked : List Booking) (decisions longer : List Decision) (tally : Tally) (passed : Option ℕ) (full : BTreeSet ℕ) (task : TaskId)
-      (follows : Follows c groups order now rows booked decisions tally passed full) (waits : Waits c groups order now booked decisions task.job) (pushes : longer ≡ decisions ++ Skip task ∷ []) where
+  module _ (rows : List (ℕ × ShortRow JobFacts)) (booked : List Booking) (decisions longer : List Decision) (tally : Tally) (passed : Option ℕ) (full : BTreeSet ℕ) (vacant : List InstanceId) (rests : List (List Rest)) (task : TaskId)
+      (follows : Follows c groups order now rows booked decisions tally passed full vacant rests) (waits : Waits c groups order now booked decisions task.job) (pushes : longer ≡ decisions ++ Skip task ∷ []) where
     -- a task of a job whose tasks wait
     pub passed_decides : (booked, longer) ≡ decide c groups order now (booked, decisions) task
     passed_decides = weighed_decides booked booked decisions longer task (Skip task) (sym (waits task refl)) (sym (append-nil booked)) pushes
 
-    pub passed_follows : Follows c groups order now rows booked longer tally passed full
+    pub passed_follows : Follows c groups order now rows booked longer tally passed full vacant rests
     passed_follows =
         record {
           told = follows.told;
@@ -162,6 +185,8 @@ module _ (c : Cluster) (groups : Groups) (order : List InstanceId) (now : ℕ) w
           waits = subst (λ ds. IfSome passed (Waits c groups order now booked ds)) (sym pushes) (waits_still booked decisions tally task passed follows.tallied follows.waits);
           shut = subst (λ ds. AreShut c groups order now booked ds rows full) (sym pushes)
               (subst (λ bs. AreShut c groups order now bs (decisions ++ Skip task ∷ []) rows full) (append-nil booked) (shut_later c groups order now rows booked [] decisions (Skip task) full follows.shut));
+          left = follows.left;
+          room = follows.room;
         }
 
 -- one turn of a loop that folds a list

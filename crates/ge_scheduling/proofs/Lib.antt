@@ -5,5 +5,11 @@ pub mod Exact
 pub mod OneKind
 pub mod Grown
 pub mod Shut
+pub mod Admitting
+pub mod Nowhere
+pub mod Thinned
+pub mod Everywhere
+pub mod LeftOut
+pub mod Remaining
 pub mod Kept
 pub mod Sound

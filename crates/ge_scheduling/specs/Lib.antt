@@ -1,5 +1,8 @@
 pub mod Counts
 pub mod Verdicts
 pub mod KindNotes
+pub mod Vacant
+pub mod Common
+pub mod Rests
 pub mod Passing
 pub mod Sooner

@@ -1,5 +1,5 @@
 // One task after the other.
-ghost use Rattle.std.specs.Prelude.{◌≡◌, [], Some, IfOk, OnOk, IsTrue, fold};
+ghost use Rattle.std.specs.Prelude.{◌≡◌, ◌≤◌, [], Some, IfOk, OnOk, IsTrue, fold};
 ghost use Rattle.ge_model_place.specs.Windows.{base_bookings};
 ghost use Rattle.ge_model_place.specs.Running.{decide as with_task};
 ghost use Rattle.ge_scheduling.specs.KindNotes.{TellKinds};
@@ -9,14 +9,16 @@ use crate::bookings::{book, first_booked};
 use crate::counting::{Tally, count, first_tally, may_reserve};
 use crate::deciding::decision;
 use crate::kinds::{is_noted, note};
+use crate::rests::{Rest, all_rests, renew_started};
 use crate::setting::Setting;
-use ge_rows::{Decision, List, TaskId};
+use crate::vacancy::{leave_out_started, vacant_instances};
+use ge_rows::{Decision, InstanceId, List, TaskId};
 use ge_timeline::Timeline;
 use std::alloc::{AllocError, Global};
 use std::collections::BTreeSet;
 
-/// What is booked and decided so far, what is counted of that, a job whose tasks all wait until something is booked, and kinds
-/// of jobs of which no task can start any more.
+/// What is booked and decided so far, what is counted of that, a job whose tasks all wait until something is booked, kinds of
+/// jobs of which no task can start any more, the instances but for some all of whose slots are booked, and what is left at each.
 #[derive(Drop)]
 pub(crate) struct Progress {
     pub(crate) booked: Timeline,
@@ -24,6 +26,8 @@ pub(crate) struct Progress {
     pub(crate) tally: Tally,
     pub(crate) passed: Option<u32>,
     pub(crate) full: BTreeSet<u32>,
+    pub(crate) vacant: List<InstanceId>,
+    pub(crate) rests: List<List<Rest>>,
 }
 
 /// Before any task is decided.
@@ -34,16 +38,21 @@ pub(crate) fn begin(alloc: Global, at: &Setting<'_>) -> Result<Progress, AllocEr
     ensures decisions { IfOk result (λ so_far. so_far.decisions ≡ []) }
     ensures follows { IfOk result (λ so_far. Follows at.now.cluster.now at.now.groups.now
         at.now.order.now at.now.moment at.now.kinds.now.entries so_far.booked so_far.decisions
-        so_far.tally so_far.passed so_far.full) }
+        so_far.tally so_far.passed so_far.full so_far.vacant
+        so_far.rests) }
 {
     let booked = first_booked(alloc, at)?;
     let tally = first_tally(alloc, at.cluster)?;
+    let vacant = vacant_instances(alloc, at, &booked)?;
+    let rests = all_rests(alloc, at, &booked)?;
     Ok(Progress {
         booked,
         decisions: List::new(alloc),
         tally,
         passed: None,
         full: BTreeSet::new(alloc),
+        vacant,
+        rests,
     })
 }
 
@@ -60,7 +69,8 @@ fn is_passed(passed: Option<u32>, number: u32) -> bool
 fn is_shut(at: &Setting<'_>, so_far: &Progress, number: u32) -> bool
     requires { Follows at.now.cluster.now at.now.groups.now at.now.order.now
         at.now.moment at.now.kinds.now.entries so_far.now.booked so_far.now.decisions
-        so_far.now.tally so_far.now.passed so_far.now.full }
+        so_far.now.tally so_far.now.passed so_far.now.full so_far.now.vacant
+        so_far.now.rests }
     ensures { IsTrue result → Waits at.now.cluster.now at.now.groups.now at.now.order.now
         at.now.moment so_far.now.booked so_far.now.decisions number }
 {
@@ -73,15 +83,30 @@ fn is_shut(at: &Setting<'_>, so_far: &Progress, number: u32) -> bool
     is_noted(at.kinds, &so_far.full, number)
 }
 
+// Whether no task can start any more, and none may have slots kept: no instance has a slot left, there is no reservation that
+// a job may be sent into, and as many tasks have slots kept as may.
+fn nothing_is_left(at: &Setting<'_>, so_far: &Progress) -> bool
+    ensures { IsTrue result → (so_far.now.vacant ≡ []) × (at.now.cluster.now.advances ≡ [])
+        × (at.now.cluster.now.sched.max_reservation ≤ so_far.now.tally.reserved) }
+{
+    so_far.vacant.is_empty()
+        && at.cluster.advances.is_empty()
+        && at.cluster.sched.max_reservation <= so_far.tally.reserved
+}
+
 // Whether the tasks of a job are known to wait.
 fn waits(at: &Setting<'_>, so_far: &Progress, number: u32) -> bool
     requires { Follows at.now.cluster.now at.now.groups.now at.now.order.now
         at.now.moment at.now.kinds.now.entries so_far.now.booked so_far.now.decisions
-        so_far.now.tally so_far.now.passed so_far.now.full }
+        so_far.now.tally so_far.now.passed so_far.now.full so_far.now.vacant
+        so_far.now.rests }
     ensures { IsTrue result → Waits at.now.cluster.now at.now.groups.now at.now.order.now
         at.now.moment so_far.now.booked so_far.now.decisions number }
 {
     if is_passed(so_far.passed, number) {
+        return true;
+    }
+    if nothing_is_left(at, so_far) {
         return true;
     }
     is_shut(at, so_far, number)
@@ -105,18 +130,29 @@ fn weigh(
 ) -> Result<(), AllocError>
     requires { Follows at.now.cluster.now at.now.groups.now at.now.order.now
         at.now.moment at.now.kinds.now.entries so_far.old.booked so_far.old.decisions
-        so_far.old.tally so_far.old.passed so_far.old.full }
+        so_far.old.tally so_far.old.passed so_far.old.full so_far.old.vacant
+        so_far.old.rests }
     ensures decided { OnOk result ((so_far.new.booked, so_far.new.decisions)
         ≡ with_task at.now.cluster.now at.now.groups.now at.now.order.now at.now.moment
         (so_far.old.booked, so_far.old.decisions) task) }
     ensures follows { OnOk result (Follows at.now.cluster.now at.now.groups.now at.now.order.now
         at.now.moment at.now.kinds.now.entries so_far.new.booked so_far.new.decisions
-        so_far.new.tally so_far.new.passed so_far.new.full) }
+        so_far.new.tally so_far.new.passed so_far.new.full so_far.new.vacant
+        so_far.new.rests) }
 {
-    let made = decision(alloc, at, &so_far.booked, &so_far.tally, task)?;
+    let made = decision(
+        alloc,
+        at,
+        &so_far.booked,
+        &so_far.tally,
+        &so_far.rests,
+        task,
+    )?;
     book(alloc, at, &mut so_far.booked, &made)?;
     count(alloc, at.cluster, &mut so_far.tally, &made)?;
     note(at.cluster, at.kinds, &mut so_far.full, task.job, &made)?;
+    leave_out_started(alloc, at, &so_far.booked, &mut so_far.vacant, &made)?;
+    renew_started(alloc, at, &so_far.booked, &mut so_far.rests, &made)?;
     so_far.passed = passed_by(task.job, &made);
     so_far.decisions.push(made)?;
     Ok(())
@@ -131,13 +167,15 @@ fn advance(
 ) -> Result<(), AllocError>
     requires { Follows at.now.cluster.now at.now.groups.now at.now.order.now
         at.now.moment at.now.kinds.now.entries so_far.old.booked so_far.old.decisions
-        so_far.old.tally so_far.old.passed so_far.old.full }
+        so_far.old.tally so_far.old.passed so_far.old.full so_far.old.vacant
+        so_far.old.rests }
     ensures decided { OnOk result ((so_far.new.booked, so_far.new.decisions)
         ≡ with_task at.now.cluster.now at.now.groups.now at.now.order.now at.now.moment
         (so_far.old.booked, so_far.old.decisions) task) }
     ensures follows { OnOk result (Follows at.now.cluster.now at.now.groups.now at.now.order.now
         at.now.moment at.now.kinds.now.entries so_far.new.booked so_far.new.decisions
-        so_far.new.tally so_far.new.passed so_far.new.full) }
+        so_far.new.tally so_far.new.passed so_far.new.full so_far.new.vacant
+        so_far.new.rests) }
 {
     if waits(at, so_far, task.job) {
         so_far.decisions.push(Decision::Skip(task))?;
@@ -155,7 +193,8 @@ pub(crate) fn advance_all(
 ) -> Result<List<Decision>, AllocError>
     requires { Follows at.now.cluster.now at.now.groups.now at.now.order.now
         at.now.moment at.now.kinds.now.entries start.booked start.decisions
-        start.tally start.passed start.full }
+        start.tally start.passed start.full start.vacant
+        start.rests }
     ensures { IfOk result (λ decisions. decisions
         ≡ (fold (with_task at.now.cluster.now at.now.groups.now at.now.order.now at.now.moment)
         (start.booked, start.decisions) order.now).1) }
@@ -170,6 +209,8 @@ pub(crate) fn advance_all(
         tally: _,
         passed: _,
         full: _,
+        vacant: _,
+        rests: _,
     } = so_far;
     Ok(decisions)
 }

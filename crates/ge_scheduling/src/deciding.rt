@@ -1,15 +1,20 @@
 // The decision of one task.
-ghost use Rattle.std.specs.Prelude.{◌≡◌, Some, IfOk};
+ghost use Rattle.std.specs.Prelude.{◌≡◌, Some, IfOk, All};
 ghost use Rattle.ge_collections.specs.Keyed.{at_number};
 ghost use Rattle.ge_model_place.specs.Running.{start_with as started};
+ghost use Rattle.ge_scheduling.specs.Common.{IsAsked};
 ghost use Rattle.ge_scheduling.specs.Counts.{is_over, may_be_reserved};
+ghost use Rattle.ge_scheduling.specs.Rests.{AreLeft};
 ghost use Rattle.ge_scheduling.specs.Verdicts.{waiting, decision_by, decision_at};
 
+use crate::asking::asked_limits;
 use crate::counting::{Tally, is_full, may_reserve};
+use crate::placing::place_now;
 use crate::reserving::reserve;
+use crate::rests::Rest;
 use crate::setting::Setting;
+use ge_demands::Counted;
 use ge_limits::LAST_SERIAL;
-use ge_place::place_job;
 use ge_rows::{Decision, Grant, Job, List, Start, TaskId};
 use ge_timeline::Timeline;
 use std::alloc::{AllocError, Global};
@@ -35,15 +40,20 @@ fn keep_waiting(
     at: &Setting<'_>,
     booked: &Timeline,
     tally: &Tally,
+    rests: &List<List<Rest>>,
+    asked: &List<Counted>,
     job: &Job,
     task: TaskId,
 ) -> Result<Decision, AllocError>
+    requires left { AreLeft at.now.cluster.now at.now.groups.now at.now.moment booked.now
+        at.now.order.now rests.now }
+    requires asked { All (IsAsked at.now.cluster.now at.now.groups.now job.now) asked.now }
     ensures { IfOk result (λ decision. decision
         ≡ waiting at.now.cluster.now at.now.groups.now at.now.order.now at.now.moment
         booked.now (may_be_reserved at.now.cluster.now.sched tally.now job.now) (Some job.now) task) }
 {
     if may_reserve(&at.cluster.sched, tally, job) {
-        reserve(alloc, at, booked, job, task)
+        reserve(alloc, at, booked, rests, asked, job, task)
     } else {
         Ok(Decision::Skip(task))
     }
@@ -55,9 +65,12 @@ fn decision_for(
     at: &Setting<'_>,
     booked: &Timeline,
     tally: &Tally,
+    rests: &List<List<Rest>>,
     job: &Job,
     task: TaskId,
 ) -> Result<Decision, AllocError>
+    requires { AreLeft at.now.cluster.now at.now.groups.now at.now.moment booked.now
+        at.now.order.now rests.now }
     ensures { IfOk result (λ decision. decision
         ≡ decision_by at.now.cluster.now at.now.groups.now at.now.order.now at.now.moment
         booked.now (is_over at.now.cluster.now.sched tally.now job.now.owner)
@@ -67,30 +80,33 @@ fn decision_for(
     if is_full(&at.cluster.sched, tally, &job.owner) {
         return Ok(Decision::Skip(task));
     }
-    match place_job(
-        alloc, at.cluster, at.groups, at.order, booked, job, at.moment,
-    )? {
+    let asked = asked_limits(alloc, at, job)?;
+    match place_now(alloc, at, booked, rests, &asked, job)? {
         Some(grants) => Ok(start_with(task, tally.serial, grants)),
-        None => keep_waiting(alloc, at, booked, tally, job, task),
+        None => keep_waiting(alloc, at, booked, tally, rests, &asked, job, task),
     }
 }
 
 /// The decision of a task over what is booked, by what is counted of the decisions before: a start, where the job's owner may
 /// have one more and it can be placed now; slots kept, where the job asks for that and may; else it waits, as a task does whose
-/// job isn't there (sched_conf, `maxujobs`, `max_reservation`).
+/// job isn't there (sched_conf, `maxujobs`, `max_reservation`). What is left at each instance is lent, so that one with too
+/// little isn't looked at.
 pub(crate) fn decision(
     alloc: Global,
     at: &Setting<'_>,
     booked: &Timeline,
     tally: &Tally,
+    rests: &List<List<Rest>>,
     task: TaskId,
 ) -> Result<Decision, AllocError>
+    requires { AreLeft at.now.cluster.now at.now.groups.now at.now.moment booked.now
+        at.now.order.now rests.now }
     ensures { IfOk result (λ decision. decision
         ≡ decision_at at.now.cluster.now at.now.groups.now at.now.order.now at.now.moment
         booked.now tally.now (at_number at.now.cluster.now.jobs task.job) task) }
 {
     match at.cluster.jobs.get(&task.job) {
-        Some(job) => decision_for(alloc, at, booked, tally, job, task),
+        Some(job) => decision_for(alloc, at, booked, tally, rests, job, task),
         None => Ok(Decision::Skip(task)),
     }
 }

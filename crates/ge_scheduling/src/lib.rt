@@ -5,19 +5,27 @@
 //! `ge_model_place` what a run is, and what holds of it.
 //!
 //! - `setting`: what stays the same during a run. `counting`: what is counted of the decisions so far. `kinds`: the kinds of jobs
-//!   of which no task can start any more.
+//!   of which no task can start any more. `vacancy`: the instances that have a slot left.
+//! - `rests`: what is left at each instance. `finding`: the first that may take a slot now.
+//! - `asking`: what one slot of a job asks of limits, and which of them count at whatever instance.
 //! - `reserving`: the first moment at which a task can be placed. `deciding`: the decision of one task.
 //! - `bookings`: what a decision books. `advancing`: one task after the other.
 //! - [`run`]: the decisions of a run.
 #![tactic(auto)]
 
 mod advancing;
+mod asking;
 mod bookings;
 mod counting;
 mod deciding;
+mod finding;
 mod kinds;
+mod placing;
 mod reserving;
+mod rests;
 mod running;
 mod setting;
+mod thinning;
+mod vacancy;
 
 pub use running::run;

@@ -1,29 +1,38 @@
 // Slots that are kept for a task which can't start now.
-ghost use Rattle.std.specs.Prelude.{◌≡◌, Some, IfOk};
+ghost use Rattle.std.specs.Prelude.{◌≡◌, Some, IfOk, All};
+ghost use Rattle.ge_scheduling.specs.Common.{IsAsked};
+ghost use Rattle.ge_scheduling.specs.Rests.{AreLeft};
 ghost use Rattle.ge_scheduling.specs.Verdicts.{reserved as reserved_for};
 
+use crate::placing::place_then;
+use crate::rests::Rest;
 use crate::setting::Setting;
-use ge_place::place_job;
-use ge_rows::{Decision, Job, Reservation, TaskId};
+use ge_demands::Counted;
+use ge_rows::{Decision, Job, List, Reservation, TaskId};
 use ge_timeline::Timeline;
 use std::alloc::{AllocError, Global};
 
 /// Keeps slots for a task at the first end of a booking at which it can be placed (sched_conf, `max_reservation`). Ends are
-/// taken as they rise, each moment once.
+/// taken as they rise, each moment once; no instance is looked at where one of the limits that count everywhere has no room.
 pub(crate) fn reserve(
     alloc: Global,
     at: &Setting<'_>,
     booked: &Timeline,
+    rests: &List<List<Rest>>,
+    asked: &List<Counted>,
     job: &Job,
     task: TaskId,
 ) -> Result<Decision, AllocError>
+    requires left { AreLeft at.now.cluster.now at.now.groups.now at.now.moment booked.now
+        at.now.order.now rests.now }
+    requires asked { All (IsAsked at.now.cluster.now at.now.groups.now job.now) asked.now }
     ensures { IfOk result (λ decision. decision
         ≡ reserved_for at.now.cluster.now at.now.groups.now at.now.order.now at.now.moment
         booked.now (Some job.now) task) }
 {
     let mut moment = at.moment;
     while let Some(end) = booked.next_end_after(moment) {
-        if let Some(grants) = place_job(alloc, at.cluster, at.groups, at.order, booked, job, end)? {
+        if let Some(grants) = place_then(alloc, at, booked, rests, asked, job, end)? {
             return Ok(Decision::Reserve(Reservation {
                 task,
                 at: end,

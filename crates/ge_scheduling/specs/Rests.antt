@@ -1,0 +1,85 @@
+-- What is left at the moment of a run of an instance's slots and of its host's values, at most.
+use Rattle.std.specs.Prelude.{◌≡◌, ℕ, ◌+◌, ◌-◌, ◌≤◌, ◌<◌, ◌==◌, Bool, true, false, ◌&&◌, is_some, nat_lt, min, All, List, [], ◌∷◌, map, length, slice_index_or, Option, Some, None}
+use Rattle.std.specs.List.{list_any}
+use Rattle.ge_collections.specs.Keyed.{text_eq, at_text}
+use Rattle.ge_model_bookings.specs.Bookings.{plain_sum}
+use Rattle.ge_model_rows.specs.ClusterRows.{Cluster}
+use Rattle.ge_model_rows.specs.HostRows.{HostRow, Groups, InstanceId}
+use Rattle.ge_model_rows.specs.JobRows.{Job}
+use Rattle.ge_model_rows.specs.ScheduleRows.{LimitId, Instance, Host, Global, Pe, Quota, Booking}
+use Rattle.ge_model_rows.specs.ScheduleRows.{Advance as Booked}
+use Rattle.ge_model_place.specs.Demands.{counts_for}
+use Rattle.ge_model_place.specs.Limits.{greatest_demand, capacity_of, consumables, resource_of}
+use Rattle.ge_model_place.specs.Opening.{is_open}
+use Rattle.ge_model_place.specs.Windows.{next_moment}
+use Rattle.ge_timeline.specs.Looks.{window_peak}
+use Rattle.ge_demands.specs.declared.counting.Counted.{Counted}
+use Rattle.ge_scheduling.specs.declared.rests.Rest.{Rest}
+use Rattle.ge_scheduling.specs.Vacant.{goes_on, slots_of}
+
+-- what is left of a limit
+abbrev pub rest_of : Cluster → Groups → ℕ → List Booking → LimitId → Rest
+rest_of c groups now booked limit =
+    record { limit = limit; resource = resource_of limit; there = capacity_of c groups limit; most = capacity_of c groups limit - window_peak booked limit now (next_moment now) }
+
+abbrev pub host_rests : Cluster → Groups → ℕ → List Booking → List ℕ → Option HostRow → List Rest
+host_rests c groups now booked host None = []
+host_rests c groups now booked host (Some row) = map (λ name. rest_of c groups now booked (Host host name)) (consumables c row.values)
+
+-- of the slots of an instance and of the values of its host: host_conf, complex_values
+abbrev pub rests_at : Cluster → Groups → ℕ → List Booking → InstanceId → List Rest
+rests_at c groups now booked at = rest_of c groups now booked (slots_of at) ∷ host_rests c groups now booked at.host (at_text c.hosts at.host)
+
+-- whether a limit counts a resource by its name
+abbrev pub is_of : LimitId → List ℕ → Bool
+is_of (Instance at name) resource = text_eq name resource
+is_of (Host host name) resource = text_eq name resource
+is_of (Global name) resource = text_eq name resource
+is_of (Pe name) resource = false
+is_of (Quota key) resource = text_eq key.resource resource
+is_of (Booked number at) resource = false
+
+-- whether more is asked of a resource than is left
+abbrev pub asks_more : List ℕ → ℕ → Counted → Bool
+asks_more resource most counted = is_of counted.limit resource && nat_lt most (min counted.amount greatest_demand)
+
+abbrev pub is_short : List Counted → List ℕ → ℕ → Bool
+is_short asked resource most = list_any (asks_more resource most) asked
+
+abbrev pub is_short_now : List Counted → Rest → Bool
+is_short_now asked rest = is_short asked rest.resource rest.most
+
+-- whether it is of one of them
+abbrev pub are_short : List Counted → List Rest → Bool
+are_short asked rests = list_any (is_short_now asked) rests
+
+-- what is left at another moment
+abbrev pub left_then : List Booking → ℕ → Rest → ℕ
+left_then booked moment rest = rest.there - window_peak booked rest.limit moment (next_moment moment)
+
+abbrev pub is_short_then : List Booking → ℕ → List Counted → Rest → Bool
+is_short_then booked moment asked rest = is_short asked rest.resource (left_then booked moment rest)
+
+abbrev pub are_short_then : List Booking → ℕ → List Counted → List Rest → Bool
+are_short_then booked moment asked rests = list_any (is_short_then booked moment asked) rests
+
+-- whether a host is among those that are kept
+abbrev pub has_host : List (List ℕ × ℕ) → List ℕ → Bool
+has_host hosts host = is_some (at_text hosts host)
+
+-- hosts that were kept are still kept, and those of instances before a place at which nothing is short
+pub record AreKept (booked : List Booking) (moment : ℕ) (asked : List Counted) (order : List InstanceId) (rests : List (List Rest)) (place : ℕ) (hosts : List (List ℕ × ℕ)) : Type 0 where
+  pub short : (k : ℕ) (at : InstanceId) (none : List Rest) → k < place → has_host hosts (slice_index_or order k at).host ≡ false → are_short_then booked moment asked (slice_index_or rests k none) ≡ true
+
+module _ (c : Cluster) (groups : Groups) (now : ℕ) (booked : List Booking) where
+  -- no more of a resource is left of a limit that each job counts for to which the instance is open and that is sent into no reservation
+  pub record IsLeft (at : InstanceId) (rest : Rest) : Type 0 where
+    pub of_it : resource_of rest.limit ≡ rest.resource
+    pub counts : (job : Job) → is_open c groups job at ≡ true → (job.advance == 0) ≡ true → counts_for c groups job rest.limit (record { at = at; slots = 1 }) ≡ true
+    pub whole : rest.there ≡ capacity_of c groups rest.limit
+    pub within : capacity_of c groups rest.limit ≤ plain_sum booked rest.limit now + rest.most
+
+  -- for each instance what is left there
+  pub record AreLeft (order : List InstanceId) (rests : List (List Rest)) : Type 0 where
+    pub long : length rests ≡ length order
+    pub each : (k : ℕ) (at : InstanceId) (none : List Rest) → k < length order → All (IsLeft (slice_index_or order k at)) (slice_index_or rests k none)

@@ -1,0 +1,112 @@
+// Where a task is placed, now and later. What a look at numbers alone rules out isn't tried.
+ghost use Rattle.std.specs.Prelude.{◌≡◌, ◌==◌, true, IfOk, All};
+ghost use Rattle.ge_model_place.specs.Placement.{placement_of};
+ghost use Rattle.ge_scheduling.specs.Common.{IsAsked};
+ghost use Rattle.ge_scheduling.specs.Rests.{AreLeft};
+ghost use Rattle.ge_scheduling.specs.Vacant.{goes_on as has_moment};
+
+use crate::asking::is_refused;
+use crate::finding::first_candidate;
+use crate::rests::Rest;
+use crate::setting::Setting;
+use crate::thinning::place_on_hosts;
+use crate::vacancy::goes_on;
+use ge_demands::Counted;
+use ge_place::place_job;
+use ge_rows::{Grant, Job, List};
+use ge_timeline::Timeline;
+use std::alloc::{AllocError, Global};
+
+// The grants of a task of a job that is sent into no reservation and starts now. Instances before the first that may take a
+// slot aren't tried.
+fn place_left(
+    alloc: Global,
+    at: &Setting<'_>,
+    booked: &Timeline,
+    rests: &List<List<Rest>>,
+    asked: &List<Counted>,
+    job: &Job,
+) -> Result<Option<List<Grant>>, AllocError>
+    requires goes_on { has_moment at.now.cluster.now at.now.moment ≡ true }
+    requires free { (job.now.advance == 0) ≡ true }
+    requires left { AreLeft at.now.cluster.now at.now.groups.now at.now.moment booked.now
+        at.now.order.now rests.now }
+    requires asked { All (IsAsked at.now.cluster.now at.now.groups.now job.now) asked.now }
+    ensures { IfOk result (λ grants. grants
+        ≡ placement_of at.now.cluster.now at.now.groups.now at.now.order.now booked.now job.now
+        at.now.moment) }
+{
+    let first = first_candidate(alloc, at, booked, rests, asked, job)?;
+    if first >= at.order.len() {
+        return Ok(None);
+    }
+    match &job.request.pe {
+        None => {
+            let (_, behind) = at.order.split_at(first);
+            let grants = place_job(alloc, at.cluster, at.groups, behind, booked, job, at.moment)?;
+            Ok(grants)
+        }
+        Some(_) => {
+            let moment = at.moment;
+            let grants = place_on_hosts(alloc, at, booked, rests, asked, job, moment)?;
+            Ok(grants)
+        }
+    }
+}
+
+/// The grants of a task of a job that starts now. Nothing is looked for where a limit that counts everywhere has no room.
+pub(crate) fn place_now(
+    alloc: Global,
+    at: &Setting<'_>,
+    booked: &Timeline,
+    rests: &List<List<Rest>>,
+    asked: &List<Counted>,
+    job: &Job,
+) -> Result<Option<List<Grant>>, AllocError>
+    requires left { AreLeft at.now.cluster.now at.now.groups.now at.now.moment booked.now
+        at.now.order.now rests.now }
+    requires asked { All (IsAsked at.now.cluster.now at.now.groups.now job.now) asked.now }
+    ensures { IfOk result (λ grants. grants
+        ≡ placement_of at.now.cluster.now at.now.groups.now at.now.order.now booked.now job.now
+        at.now.moment) }
+{
+    if is_refused(alloc, at, booked, asked, job, at.moment)? {
+        return Ok(None);
+    }
+    if job.advance == 0 && goes_on(at.cluster, at.moment) {
+        let grants = place_left(alloc, at, booked, rests, asked, job)?;
+        return Ok(grants);
+    }
+    let grants = place_job(
+        alloc, at.cluster, at.groups, at.order, booked, job, at.moment,
+    )?;
+    Ok(grants)
+}
+
+/// The grants of a task of a job that starts at a later moment.
+pub(crate) fn place_then(
+    alloc: Global,
+    at: &Setting<'_>,
+    booked: &Timeline,
+    rests: &List<List<Rest>>,
+    asked: &List<Counted>,
+    job: &Job,
+    moment: u64,
+) -> Result<Option<List<Grant>>, AllocError>
+    requires left { AreLeft at.now.cluster.now at.now.groups.now at.now.moment booked.now
+        at.now.order.now rests.now }
+    requires asked { All (IsAsked at.now.cluster.now at.now.groups.now job.now) asked.now }
+    ensures { IfOk result (λ grants. grants
+        ≡ placement_of at.now.cluster.now at.now.groups.now at.now.order.now booked.now job.now
+        moment) }
+{
+    if is_refused(alloc, at, booked, asked, job, moment)? {
+        return Ok(None);
+    }
+    if job.advance == 0 && goes_on(at.cluster, moment) {
+        let grants = place_on_hosts(alloc, at, booked, rests, asked, job, moment)?;
+        return Ok(grants);
+    }
+    let grants = place_job(alloc, at.cluster, at.groups, at.order, booked, job, moment)?;
+    Ok(grants)
+}

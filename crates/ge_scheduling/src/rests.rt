@@ -1,0 +1,299 @@
+// What is left at each instance, so that one which has too little is passed by before anything else is asked of it.
+ghost use Rattle.std.specs.Prelude.{◌≡◌, ◌++◌, ◌∷◌, [], map, filter, position, IfOk, OnOk};
+ghost use Rattle.ge_model_bookings.specs.Bookings.{same_instance};
+ghost use Rattle.ge_model_value.specs.Complexes.{is_consumable as is_consumed};
+ghost use Rattle.ge_model_place.specs.Limits.{consumables, resource_of};
+ghost use Rattle.ge_model_rows.specs.ScheduleRows.{Host};
+ghost use Rattle.ge_scheduling.specs.Rests.{rest_of as left_of, rests_at as left_at, is_of, asks_more as more_than, is_short as short_of, is_short_now as short_now, are_short as all_short_of, left_then as rest_then, is_short_then as short_then, are_short_then as all_short_then, AreLeft};
+ghost use Rattle.ge_scheduling.specs.Vacant.{slots_of};
+
+use crate::setting::Setting;
+use crate::vacancy::{is_same, slots_at};
+use ge_complex::is_consumable;
+use ge_demands::{Counted, capacity};
+use ge_rows::{Decision, Grant, HostRow, InstanceId, LimitId, List, Text, Twin, twins3};
+use ge_timeline::Timeline;
+use std::alloc::{AllocError, Global};
+
+/// What is left of a limit at an instance.
+#[derive(Drop)]
+pub(crate) struct Rest {
+    /// The limit.
+    pub(crate) limit: LimitId,
+    /// Its resource.
+    pub(crate) resource: Text,
+    /// How much of it there is.
+    pub(crate) there: u128,
+    /// No more is left now.
+    pub(crate) most: u128,
+}
+
+fn rest_of(
+    alloc: Global,
+    at: &Setting<'_>,
+    booked: &Timeline,
+    limit: LimitId,
+    resource: Text,
+) -> Result<Rest, AllocError>
+    requires { resource ≡ resource_of limit }
+    ensures { IfOk result (λ rest. rest
+        ≡ left_of at.now.cluster.now at.now.groups.now at.now.moment booked.now limit) }
+{
+    let there = capacity(alloc, at.cluster, at.groups, &limit)?;
+    let taken = booked.greatest(&limit, at.moment, at.moment.saturating_add(1));
+    Ok(Rest {
+        limit,
+        resource,
+        there,
+        most: there.saturating_sub(taken),
+    })
+}
+
+fn slots_left(
+    alloc: Global,
+    at: &Setting<'_>,
+    booked: &Timeline,
+    instance: &InstanceId,
+) -> Result<Rest, AllocError>
+    ensures { IfOk result (λ rest. rest ≡ left_of at.now.cluster.now at.now.groups.now
+        at.now.moment booked.now (slots_of instance.now)) }
+{
+    let limit = slots_at(alloc, instance)?;
+    let resource = Text::from_bytes(alloc, b"slots")?;
+    let rest = rest_of(alloc, at, booked, limit, resource)?;
+    Ok(rest)
+}
+
+fn value_left(
+    alloc: Global,
+    at: &Setting<'_>,
+    booked: &Timeline,
+    host: &Text,
+    name: &Text,
+) -> Result<Rest, AllocError>
+    ensures { IfOk result (λ rest. rest ≡ left_of at.now.cluster.now at.now.groups.now
+        at.now.moment booked.now (Host host.now name.now)) }
+{
+    let (host, name, resource) = twins3(alloc, host, name, name)?;
+    let limit = LimitId::Host(host, name);
+    let rest = rest_of(alloc, at, booked, limit, resource)?;
+    Ok(rest)
+}
+
+fn add_value(
+    alloc: Global,
+    at: &Setting<'_>,
+    booked: &Timeline,
+    host: &Text,
+    rests: &mut List<Rest>,
+    name: &Text,
+) -> Result<(), AllocError>
+    ensures { OnOk result (rests.new ≡ rests.old ++ map (λ name. left_of at.now.cluster.now
+        at.now.groups.now at.now.moment booked.now (Host host.now name))
+        (filter (is_consumed at.now.cluster.now) (name.now ∷ []))) }
+{
+    if !is_consumable(at.cluster, name) {
+        return Ok(());
+    }
+    let rest = value_left(alloc, at, booked, host, name)?;
+    rests.push(rest)
+}
+
+fn add_values(
+    alloc: Global,
+    at: &Setting<'_>,
+    booked: &Timeline,
+    host: &Text,
+    rests: &mut List<Rest>,
+    row: &HostRow,
+) -> Result<(), AllocError>
+    ensures { OnOk result (rests.new ≡ rests.old ++ map (λ name. left_of at.now.cluster.now
+        at.now.groups.now at.now.moment booked.now (Host host.now name))
+        (consumables at.now.cluster.now row.now.values)) }
+{
+    for name in row.values.keys() {
+        add_value(alloc, at, booked, host, rests, name)?;
+    }
+    Ok(())
+}
+
+fn rests_at(
+    alloc: Global,
+    at: &Setting<'_>,
+    booked: &Timeline,
+    instance: &InstanceId,
+) -> Result<List<Rest>, AllocError>
+    ensures { IfOk result (λ rests. rests ≡ left_at at.now.cluster.now at.now.groups.now
+        at.now.moment booked.now instance.now) }
+{
+    let mut rests = List::new(alloc);
+    let slots = slots_left(alloc, at, booked, instance)?;
+    rests.push(slots)?;
+    let Some(row) = at.cluster.hosts.get(&instance.host) else {
+        return Ok(rests);
+    };
+    add_values(alloc, at, booked, &instance.host, &mut rests, row)?;
+    Ok(rests)
+}
+
+fn rests_of_all(
+    alloc: Global,
+    at: &Setting<'_>,
+    booked: &Timeline,
+) -> Result<List<List<Rest>>, AllocError>
+    ensures { IfOk result (λ rests. rests
+        ≡ map (left_at at.now.cluster.now at.now.groups.now at.now.moment booked.now)
+        at.now.order.now) }
+{
+    let mut rests = List::new(alloc);
+    for instance in at.order {
+        let left = rests_at(alloc, at, booked, instance)?;
+        rests.push(left)?;
+    }
+    Ok(rests)
+}
+
+/// What is left at each instance now.
+pub(crate) fn all_rests(
+    alloc: Global,
+    at: &Setting<'_>,
+    booked: &Timeline,
+) -> Result<List<List<Rest>>, AllocError>
+    ensures { IfOk result (λ rests. AreLeft at.now.cluster.now at.now.groups.now at.now.moment
+        booked.now at.now.order.now rests) }
+{
+    let rests = rests_of_all(alloc, at, booked)?;
+    Ok(rests)
+}
+
+fn place_of(order: &[InstanceId], instance: &InstanceId) -> Option<usize>
+    ensures { result ≡ position (λ other. same_instance other instance.now) order.now }
+{
+    order.iter().position(|other| is_same(other, instance))
+}
+
+fn renew_at(
+    alloc: Global,
+    at: &Setting<'_>,
+    booked: &Timeline,
+    rests: &mut List<List<Rest>>,
+    instance: &InstanceId,
+) -> Result<(), AllocError>
+    requires { AreLeft at.now.cluster.now at.now.groups.now at.now.moment booked.now
+        at.now.order.now rests.old }
+    ensures { OnOk result (AreLeft at.now.cluster.now at.now.groups.now at.now.moment booked.now
+        at.now.order.now rests.new) }
+{
+    match place_of(at.order, instance) {
+        Some(place) => {
+            let left = rests_at(alloc, at, booked, instance)?;
+            let _before = rests.replace(place, left);
+            Ok(())
+        }
+        None => Ok(()),
+    }
+}
+
+fn renew_granted(
+    alloc: Global,
+    at: &Setting<'_>,
+    booked: &Timeline,
+    rests: &mut List<List<Rest>>,
+    grants: &[Grant],
+) -> Result<(), AllocError>
+    requires { AreLeft at.now.cluster.now at.now.groups.now at.now.moment booked.now
+        at.now.order.now rests.old }
+    ensures { OnOk result (AreLeft at.now.cluster.now at.now.groups.now at.now.moment booked.now
+        at.now.order.now rests.new) }
+{
+    for grant in grants {
+        renew_at(alloc, at, booked, rests, &grant.at)?;
+    }
+    Ok(())
+}
+
+/// What is left where a start took slots is taken anew. What a reservation takes is taken later.
+pub(crate) fn renew_started(
+    alloc: Global,
+    at: &Setting<'_>,
+    booked: &Timeline,
+    rests: &mut List<List<Rest>>,
+    decision: &Decision,
+) -> Result<(), AllocError>
+    requires { AreLeft at.now.cluster.now at.now.groups.now at.now.moment booked.now
+        at.now.order.now rests.old }
+    ensures { OnOk result (AreLeft at.now.cluster.now at.now.groups.now at.now.moment booked.now
+        at.now.order.now rests.new) }
+{
+    match decision {
+        Decision::Start(start) => renew_granted(alloc, at, booked, rests, start.grants.items()),
+        Decision::Reserve(_) | Decision::Skip(_) => Ok(()),
+    }
+}
+
+fn is_of_resource(limit: &LimitId, resource: &Text) -> bool
+    ensures { result ≡ is_of limit.now resource.now }
+{
+    match limit {
+        LimitId::Instance(_, name) => *name == *resource,
+        LimitId::Host(_, name) => *name == *resource,
+        LimitId::Global(name) => *name == *resource,
+        LimitId::Pe(_) => false,
+        LimitId::Quota(key) => key.resource == *resource,
+        LimitId::Advance(_, _) => false,
+    }
+}
+
+fn asks_more(resource: &Text, most: u128, counted: &Counted) -> bool
+    ensures { result ≡ more_than resource.now most counted.now }
+{
+    is_of_resource(&counted.limit, resource) && most < u128::from(counted.amount)
+}
+
+fn is_short(asked: &[Counted], resource: &Text, most: u128) -> bool
+    ensures { result ≡ short_of asked.now resource.now most }
+{
+    asked
+        .iter()
+        .any(|counted| asks_more(resource, most, counted))
+}
+
+fn is_short_now(asked: &[Counted], rest: &Rest) -> bool
+    ensures { result ≡ short_now asked.now rest.now }
+{
+    is_short(asked, &rest.resource, rest.most)
+}
+
+/// Whether more is asked than is left of one of these now.
+pub(crate) fn are_short(asked: &[Counted], rests: &[Rest]) -> bool
+    ensures { result ≡ all_short_of asked.now rests.now }
+{
+    rests.iter().any(|rest| is_short_now(asked, rest))
+}
+
+fn left_then(booked: &Timeline, moment: u64, rest: &Rest) -> u128
+    ensures { result ≡ rest_then booked.now moment rest.now }
+{
+    let taken = booked.greatest(&rest.limit, moment, moment.saturating_add(1));
+    rest.there.saturating_sub(taken)
+}
+
+fn is_short_then(booked: &Timeline, moment: u64, asked: &[Counted], rest: &Rest) -> bool
+    ensures { result ≡ short_then booked.now moment asked.now rest.now }
+{
+    is_short(asked, &rest.resource, left_then(booked, moment, rest))
+}
+
+/// Whether more is asked than is left of one of these at a moment.
+pub(crate) fn are_short_then(
+    booked: &Timeline,
+    moment: u64,
+    asked: &[Counted],
+    rests: &[Rest],
+) -> bool
+    ensures { result ≡ all_short_then booked.now moment asked.now rests.now }
+{
+    rests
+        .iter()
+        .any(|rest| is_short_then(booked, moment, asked, rest))
+}

@@ -1,0 +1,203 @@
+// Instances that have a slot left.
+ghost use Rattle.std.specs.Prelude.{◌≡◌, ◌++◌, ◌∷◌, [], IfOk, OnOk, filter, not};
+ghost use Rattle.std.specs.Option.{option_copied};
+ghost use Rattle.ge_model_bookings.specs.Bookings.{forever, same_instance};
+ghost use Rattle.ge_model_place.specs.Windows.{no_later_than};
+ghost use Rattle.ge_scheduling.specs.Vacant.{goes_on as has_moment, slots_of, is_used_up as used_up, is_occupied as occupied_by, is_vacant, AreVacant};
+
+use crate::setting::Setting;
+use ge_bookings::FOREVER;
+use ge_demands::capacity;
+use ge_rows::{Advance, Cluster, Decision, Grant, InstanceId, LimitId, List, Text, Twin};
+use ge_timeline::Timeline;
+use std::alloc::{AllocError, Global};
+use std::mem;
+
+fn end_of_all(advance: Option<&Advance>) -> u64
+    ensures { result ≡ no_later_than (option_copied advance.entry) forever }
+{
+    match advance {
+        Some(advance) => FOREVER.min(advance.until),
+        None => FOREVER,
+    }
+}
+
+/// Whether the window of a task that starts now has a moment.
+pub(crate) fn goes_on(cluster: &Cluster, now: u64) -> bool
+    ensures { result ≡ has_moment cluster.now now }
+{
+    now < end_of_all(cluster.advances.get(&0))
+}
+
+/// The slots of an instance as a limit.
+pub(crate) fn slots_at(alloc: Global, instance: &InstanceId) -> Result<LimitId, AllocError>
+    ensures { IfOk result (λ limit. limit ≡ slots_of instance.now) }
+{
+    let at = instance.twin(alloc)?;
+    let name = Text::from_bytes(alloc, b"slots")?;
+    Ok(LimitId::Instance(at, name))
+}
+
+fn is_used_up(
+    alloc: Global,
+    at: &Setting<'_>,
+    booked: &Timeline,
+    limit: &LimitId,
+) -> Result<bool, AllocError>
+    ensures { IfOk result (λ used. used
+        ≡ used_up at.now.cluster.now at.now.groups.now at.now.moment booked.now limit.now) }
+{
+    let there = capacity(alloc, at.cluster, at.groups, limit)?;
+    Ok(there <= booked.greatest(limit, at.moment, at.moment.saturating_add(1)))
+}
+
+// Whether all slots of an instance are booked now.
+fn is_occupied(
+    alloc: Global,
+    at: &Setting<'_>,
+    booked: &Timeline,
+    instance: &InstanceId,
+) -> Result<bool, AllocError>
+    ensures { IfOk result (λ occupied. occupied
+        ≡ occupied_by at.now.cluster.now at.now.groups.now at.now.moment booked.now instance.now) }
+{
+    let limit = slots_at(alloc, instance)?;
+    let used = is_used_up(alloc, at, booked, &limit)?;
+    Ok(goes_on(at.cluster, at.moment) && used)
+}
+
+fn add_vacant(
+    alloc: Global,
+    at: &Setting<'_>,
+    booked: &Timeline,
+    vacant: &mut List<InstanceId>,
+    instance: &InstanceId,
+) -> Result<(), AllocError>
+    ensures { OnOk result (vacant.new ≡ vacant.old
+        ++ filter (is_vacant at.now.cluster.now at.now.groups.now at.now.moment booked.now)
+        (instance.now ∷ [])) }
+{
+    if is_occupied(alloc, at, booked, instance)? {
+        return Ok(());
+    }
+    let instance = instance.twin(alloc)?;
+    vacant.push(instance)
+}
+
+fn vacant_among(
+    alloc: Global,
+    at: &Setting<'_>,
+    booked: &Timeline,
+) -> Result<List<InstanceId>, AllocError>
+    ensures { IfOk result (λ vacant. vacant
+        ≡ filter (is_vacant at.now.cluster.now at.now.groups.now at.now.moment booked.now)
+        at.now.order.now) }
+{
+    let mut vacant = List::new(alloc);
+    for instance in at.order {
+        add_vacant(alloc, at, booked, &mut vacant, instance)?;
+    }
+    Ok(vacant)
+}
+
+/// The instances without those all of whose slots are booked now.
+pub(crate) fn vacant_instances(
+    alloc: Global,
+    at: &Setting<'_>,
+    booked: &Timeline,
+) -> Result<List<InstanceId>, AllocError>
+    ensures { IfOk result (λ vacant. AreVacant at.now.cluster.now at.now.groups.now at.now.moment
+        booked.now at.now.order.now vacant) }
+{
+    let vacant = vacant_among(alloc, at, booked)?;
+    Ok(vacant)
+}
+
+/// Whether two instances are one.
+pub(crate) fn is_same(other: &InstanceId, instance: &InstanceId) -> bool
+    ensures { result ≡ same_instance other.now instance.now }
+{
+    other.queue == instance.queue && other.host == instance.host
+}
+
+fn is_other(other: &InstanceId, instance: &InstanceId) -> bool
+    ensures { result ≡ not (same_instance other.now instance.now) }
+{
+    !is_same(other, instance)
+}
+
+fn keep_others(instances: &mut Vec<InstanceId>, instance: &InstanceId)
+    ensures { instances.new.items
+        ≡ filter (λ other. not (same_instance other instance.now)) instances.old.items }
+{
+    instances.retain(|other| is_other(other, instance));
+}
+
+// An instance is left out, wherever it stands.
+fn leave_out(alloc: Global, vacant: &mut List<InstanceId>, instance: &InstanceId)
+    ensures { vacant.new ≡ filter (λ other. not (same_instance other instance.now)) vacant.old }
+{
+    let mut left = mem::replace(vacant, List::new(alloc)).into_vec();
+    keep_others(&mut left, instance);
+    *vacant = List::from_vec(left);
+}
+
+// An instance at which a task started is left out where that took its last slot.
+fn leave_out_occupied(
+    alloc: Global,
+    at: &Setting<'_>,
+    booked: &Timeline,
+    vacant: &mut List<InstanceId>,
+    instance: &InstanceId,
+) -> Result<(), AllocError>
+    requires { AreVacant at.now.cluster.now at.now.groups.now at.now.moment booked.now
+        at.now.order.now vacant.old }
+    ensures { OnOk result (AreVacant at.now.cluster.now at.now.groups.now at.now.moment booked.now
+        at.now.order.now vacant.new) }
+{
+    let occupied = is_occupied(alloc, at, booked, instance)?;
+    if occupied {
+        leave_out(alloc, vacant, instance);
+        return Ok(());
+    }
+    Ok(())
+}
+
+fn leave_out_granted(
+    alloc: Global,
+    at: &Setting<'_>,
+    booked: &Timeline,
+    vacant: &mut List<InstanceId>,
+    grants: &[Grant],
+) -> Result<(), AllocError>
+    requires { AreVacant at.now.cluster.now at.now.groups.now at.now.moment booked.now
+        at.now.order.now vacant.old }
+    ensures { OnOk result (AreVacant at.now.cluster.now at.now.groups.now at.now.moment booked.now
+        at.now.order.now vacant.new) }
+{
+    for grant in grants {
+        leave_out_occupied(alloc, at, booked, vacant, &grant.at)?;
+    }
+    Ok(())
+}
+
+/// The instances of which a start took the last slot are left out. What a reservation takes is taken later.
+pub(crate) fn leave_out_started(
+    alloc: Global,
+    at: &Setting<'_>,
+    booked: &Timeline,
+    vacant: &mut List<InstanceId>,
+    decision: &Decision,
+) -> Result<(), AllocError>
+    requires { AreVacant at.now.cluster.now at.now.groups.now at.now.moment booked.now
+        at.now.order.now vacant.old }
+    ensures { OnOk result (AreVacant at.now.cluster.now at.now.groups.now at.now.moment booked.now
+        at.now.order.now vacant.new) }
+{
+    match decision {
+        Decision::Start(start) => {
+            leave_out_granted(alloc, at, booked, vacant, start.grants.items())
+        }
+        Decision::Reserve(_) | Decision::Skip(_) => Ok(()),
+    }
+}
