@@ -19,6 +19,7 @@ pub struct TcpDialer<'a, R: Net> {
 impl<'a, R: Net> TcpDialer<'a, R> {
     /// A door that dials this port.
     pub fn new(net: &'a R, port: u16) -> Self
+        ensures port { result.port ≡ port }
         ensures door_faults { result.door_faults ≡ 0 }
         ensures link_faults { result.link_faults ≡ 0 }
     {

@@ -1,5 +1,6 @@
 // A file as a disk.
-ghost use Rattle.std.specs.Prelude.{◌≡◌, ◌≤◌, length, IfOk};
+ghost use Rattle.std.specs.Prelude.{◌≡◌, ◌<◌, ◌≤◌, length, take, IfOk, OnOk};
+ghost use Rattle.std.specs.Io.KnownBytes.{Appends, Consumes, IsAtEnd};
 ghost use Rattle.ge_outside.specs.Faults.{Rose};
 
 use crate::sinks::write_once;
@@ -26,6 +27,7 @@ pub struct FileDisk<'a, R: Files> {
 impl<'a, R: Files> FileDisk<'a, R> {
     /// The file at a path, which no call has touched yet.
     pub fn new(files: &'a R, path: String) -> Self
+        ensures path { result.path ≡ path }
         ensures faults { result.faults ≡ 0 }
         ensures syncs { result.syncs ≡ 0 }
     {
@@ -81,8 +83,12 @@ fn measure<R: Files>(files: &R, path: &str, file: &mut Option<R::File>) -> io::R
 }
 
 // Fills the buffer as far as there are bytes, and tells how many.
+#[tactic(auto, using(crate::proofs::Parts::consumes_nothing, crate::proofs::Parts::consumes_more))]
 fn fill<F: Read>(file: &mut F, buf: &mut [u8]) -> io::Result<usize>
-    ensures { IfOk result (λ n. n ≤ length buf.old) }
+    ensures bound { IfOk result (λ n. n ≤ length buf.old) }
+    ensures bytes { IfOk result (λ n. Consumes (F.remaining file.old) (F.remaining file.new)
+        (take n buf.new)) }
+    ensures end { IfOk result (λ n. n < length buf.old → IsAtEnd (F.remaining file.new)) }
 {
     let mut filled = 0;
     while filled < buf.len() {
@@ -114,7 +120,10 @@ fn read_from<R: Files>(
 }
 
 // Writes the whole piece.
-fn put<F: Write>(file: &mut F, piece: &[u8]) -> io::Result<()> {
+#[tactic(auto, using(crate::proofs::Parts::appends_nothing, crate::proofs::Parts::appends_more, crate::proofs::Parts::appends_whole))]
+fn put<F: Write>(file: &mut F, piece: &[u8]) -> io::Result<()>
+    ensures { OnOk result (Appends (F.contents file.old) (F.contents file.new) piece.now) }
+{
     let mut done = 0;
     while done < piece.len() {
         let (_, rest) = piece.split_at(done);

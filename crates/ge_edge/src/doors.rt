@@ -42,6 +42,7 @@ pub struct TcpDoor<'a, R: Net> {
 impl<'a, R: Net> TcpDoor<'a, R> {
     /// A door at this port.
     pub fn new(net: &'a R, port: u16) -> Self
+        ensures port { result.port ≡ port }
         ensures door_faults { result.door_faults ≡ 0 }
         ensures link_faults { result.link_faults ≡ 0 }
     {
