@@ -1,28 +1,21 @@
 -- Without faults a run over the areas does all, or wants memory.
-use Rattle.std.proofs.Common.{◌≡◌, ◌≢◌, ◌⊎◌, ℕ, ◌+◌, ◌-◌, ◌^◌, ◌<◌, ◌≤◌, ◌==◌, ◌||◌, Bool, true, false, List, [], ◌∷◌, ◌++◌, length, Option, Some, None, Result, Ok, Err, IfSome, refl, ap, ◌∙◌, sym, subst, inl, inr, ⊎_elim, arith}
-use Rattle.std.specs.Prelude.{IsTrue, IsErr}
-use Rattle.std.specs.List.{list_any}
-use Rattle.std.proofs.lemmas.Bool.{eqb-true, false≢true}
+use Rattle.std.proofs.Common.{◌≡◌, ◌≢◌, ◌⊎◌, ℕ, ◌+◌, ◌-◌, ◌^◌, ◌<◌, ◌≤◌, Bool, true, false, List, [], ◌∷◌, ◌++◌, length, Option, Some, None, Result, Ok, Err, IfSome, refl, ap, ◌∙◌, sym, subst, inl, inr, ⊎_elim, arith}
+use Rattle.std.specs.Prelude.{IsErr}
+use Rattle.std.proofs.lemmas.Bool.{false≢true}
 use Rattle.ge_limits.specs.Limits as limit
 use Rattle.ge_model_rows.specs.ClusterRows.{Cluster}
 use Rattle.ge_model_script.specs.Events.{events_of}
 use Rattle.ge_model_core.specs.Plan.{plan_of}
 use Rattle.ge_model_batch.specs.Traced.{traced}
 use Rattle.ge_model_store.specs.StandsFor.{stands_for}
-use Rattle.ge_model_replay.specs.View.{View, said_of, AreStill}
+use Rattle.ge_model_top.proofs.Answered.{first-or-other, no-status, not-long}
+use Rattle.ge_model_top.specs.Statuses.{IsOneStatusOf}
+use Rattle.ge_model_replay.specs.View.{View, said_of}
+use Rattle.ge_model_replay.specs.Keeping.{Ledger, ledger_in}
 use Rattle.ge_model_replay.specs.Runs.{IsTooLong, RanFull}
-use Rattle.ge_model_replay.specs.Replaying.{IsOneStatusOf, Replays, ReplaysAreas, opened_view}
+use Rattle.ge_model_replay.specs.Replaying.{Replays, ReplaysAreas, WereStill, opened_view}
 use Rattle.ge_model_replay.specs.Showing.{ShowsAreas}
 use Rattle.ge_model_replay.specs.Faultless.{AreSound, IsFaultless, AreFaultless}
-
-by-test : (t u : Bool) → IsTrue (t || u) → (t ≡ true) ⊎ IsTrue u
-by-test true u is = inl refl
-by-test false u is = inr is
-
--- the first status of some, or one of the others
-pub first-or-other : (s status : ℕ) (others : List ℕ) → IsOneStatusOf (s ∷ others) status → (status ≡ s) ⊎ IsOneStatusOf others status
-first-or-other s status others is =
-    ⊎_elim (λ h. inl (sym (eqb-true s status h))) inr (by-test (s == status) (list_any (λ n. n == status) others) is)
 
 on-told : {T : Type 0} (P : T → Type 0) (o : Option T) (x : T) → o ≡ Some x → IfSome o P → P x
 on-told P o x is holds = subst (λ o. IfSome o P) is holds
@@ -31,11 +24,11 @@ not-refused : {R E : Type 0} (o : Option (Result R E)) (c : R) → o ≡ Some (O
 not-refused {R = R} {E = E} o c is refused = false≢true (subst (λ (o : Option (Result R E)). IfSome o IsErr) is refused)
 
 -- a replay without faults
-pub replay-answered : (batch status : ℕ) (script rest : Option (List ℕ)) (reads_before reads_after : ℕ) (x y : View) (start : Cluster) (home : Type 0) (generation : ℕ)
-    → IsFaultless script reads_before reads_after x y start generation → Replays status script rest reads_before reads_after x y start home generation batch
+pub replay-answered : (batch status : ℕ) (script rest : Option (List ℕ)) (reads_before reads_after : ℕ) (x y : View) (start : Cluster) (home : Type 0) (ledger : Ledger)
+    → IsFaultless script reads_before reads_after x y start ledger.generation → Replays status script rest reads_before reads_after x y start home ledger batch
     → (status ≡ 0) ⊎ (status ≡ 10)
-replay-answered batch status script rest reads_before reads_after x y start home generation faultless ran =
-    let long : status ≡ 3 → ⊥ = λ is. let far = on-told _ script faultless.bytes faultless.told (ran.causes.long is) in omega (arith, far, faultless.below) in
+replay-answered batch status script rest reads_before reads_after x y start home ledger faultless ran =
+    let long : status ≡ 3 → ⊥ = λ is. not-long faultless.bytes script rest faultless.told faultless.below (ran.causes.long is) in
     let full : status ≡ 5 → ⊥ = λ is.
     let too = on-told _ script faultless.bytes faultless.told (ran.full is) in
     ⊎_elim (λ h. faultless.fits (too.marks ++ too.more) h) (λ last. omega (arith, last, faultless.early, faultless.below)) too.too_long in
@@ -45,16 +38,13 @@ replay-answered batch status script rest reads_before reads_after x y start home
     (λ one. ⊎_elim (λ is. absurd (faultless.reads (ran.causes.read is)))
     (λ one. ⊎_elim (λ is. absurd (faultless.writes (ran.causes.written is)))
     (λ one. ⊎_elim (λ is. absurd (faultless.disks (ran.causes.disk is)))
-    (λ one. ⊎_elim inr (λ none. absurd (no_status none)) (first-or-other 10 status [] one))
+    (λ one. ⊎_elim inr (λ none. absurd (no-status status none)) (first-or-other 10 status [] one))
     (first-or-other 8 status (10 ∷ []) one))
     (first-or-other 7 status (8 ∷ 10 ∷ []) one))
     (first-or-other 6 status (7 ∷ 8 ∷ 10 ∷ []) one))
     (first-or-other 5 status (6 ∷ 7 ∷ 8 ∷ 10 ∷ []) one))
     (first-or-other 3 status (5 ∷ 6 ∷ 7 ∷ 8 ∷ 10 ∷ []) one))
     (first-or-other 0 status (3 ∷ 5 ∷ 6 ∷ 7 ∷ 8 ∷ 10 ∷ []) ran.statuses)
-  where
-    no_status : IsOneStatusOf [] status → ⊥
-    no_status none = false≢true none
 
 -- the same, over areas that were opened
 pub areas-answered : (batch status : ℕ) (script rest : Option (List ℕ)) (reads_before reads_after : ℕ) (x y : View)
@@ -62,7 +52,7 @@ pub areas-answered : (batch status : ℕ) (script rest : Option (List ℕ)) (rea
 areas-answered batch status script rest reads_before reads_after x y areas replays =
     let f = areas.faultless in
     ⊎_elim (λ refused. absurd (not-refused _ areas.start areas.stands (replays.refused refused)))
-    (λ one. replay-answered batch status script rest reads_before reads_after (opened_view x) y areas.start (AreStill x) areas.state.generation
+    (λ one. replay-answered batch status script rest reads_before reads_after (opened_view x) y areas.start (WereStill status x) (ledger_in areas.state)
     (record { reads = f.reads; writes = f.writes; disks = f.disks; bytes = f.bytes; told = f.told; below = f.below; early = f.early; fits = f.fits })
     (replays.ran areas.start areas.state areas.stands areas.means))
     replays.statuses
@@ -74,11 +64,8 @@ look-answered status x y sound shows =
     (λ others. ⊎_elim (λ is. absurd (sound.disks (shows.disk is)))
     (λ one. ⊎_elim inl
     (λ one. ⊎_elim (λ is. absurd (sound.writes (shows.written is)))
-    (λ one. ⊎_elim inr (λ none. absurd (no_status none)) (first-or-other 10 status [] one))
+    (λ one. ⊎_elim inr (λ none. absurd (no-status status none)) (first-or-other 10 status [] one))
     (first-or-other 7 status (10 ∷ []) one))
     (first-or-other 0 status (7 ∷ 10 ∷ []) one))
     others)
     shows.statuses
-  where
-    no_status : IsOneStatusOf [] status → ⊥
-    no_status none = false≢true none

@@ -1,4 +1,5 @@
 pub mod View
+pub mod Keeping
 pub mod Runs
 pub mod Replaying
 pub mod Showing

@@ -1,5 +1,5 @@
 -- How far a replay has come: the replies to the first n events are written, and the areas hold what the first n or the first m events
--- changed. Marks are those of the first m events.
+-- changed. Marks are those of the first m events. Each batch that is answered fits: where it is kept as a snapshot, an area holds that.
 use Rattle.std.specs.Prelude.{◌≡◌, ◌⊎◌, ℕ, ◌+◌, ◌*◌, ◌<◌, ◌≤◌, Bool, true, List, ◌++◌, length, take, flat_map, Option, Ok}
 use Rattle.ge_limits.specs.Limits as limit
 use Rattle.ge_outside.specs.Streams.{Gains}
@@ -9,6 +9,7 @@ use Rattle.ge_model_disk.specs.Disk.{Content, IsImageNow}
 use Rattle.ge_model_core.specs.Render.{rendered}
 use Rattle.ge_model_batch.specs.Traced.{Traced, traced}
 use Rattle.ge_model_store.specs.StandsFor.{stands_for, StandsForOneOf, cluster_bytes}
+use Rattle.ge_model_replay.specs.Keeping.{Ledger, BatchesFit}
 
 -- the replies of a trace as they are written
 abbrev pub written_of : Traced → List ℕ
@@ -33,7 +34,7 @@ pub record Syncs (batch m before later : ℕ) : Type 0 where
   pub few : later ≤ before + 3 * batches
 
 module _ (plan : Cluster → Event → Planned) (start : Cluster) (events : List Event) (home : Type 0) (old new : Option (List ℕ)) (a b : List Content)
-    (batch before later : ℕ) where
+    (batch before later : ℕ) (ledger : Ledger) where
   -- the replies to the first n events are written, and the areas have these events or some of one batch more
   pub record RanTo : Type 0 where
     pub marks : List Bool
@@ -42,6 +43,7 @@ module _ (plan : Cluster → Event → Planned) (start : Cluster) (events : List
     pub in_hand : length marks ≤ n + batch
     pub within : length marks ≤ length events
     pub wrote : Gains old new (written_of (traced plan start events (take n marks)))
+    pub fits : (k : ℕ) → BatchesFit plan batch k ledger start events (take n marks)
     pub images : home → EachStandsForOneOf a b (traced plan start events (take n marks)).cluster (traced plan start events marks).cluster
     pub syncs : Syncs batch (length marks) before later
 
@@ -56,15 +58,17 @@ module _ (plan : Cluster → Event → Planned) (start : Cluster) (events : List
     pub least : length (written_of (traced plan start events (take n marks))) ≤ size
     pub most : size ≤ length (written_of (traced plan start events marks))
     pub wrote : Gains old new (take size (written_of (traced plan start events marks)))
+    pub fits : (k : ℕ) → BatchesFit plan batch k ledger start events marks
     pub images : home → EachStandsFor a b (traced plan start events marks).cluster
     pub syncs : Syncs batch (length marks) before later
 
-  -- all events are answered, or those up to one that stops the master, and the areas have them all
-  pub record RanAll : Type 0 where
+  -- All events are answered and the script is read to its end, or those are up to one that stops the master; and the areas have them all.
+  pub record RanAll (ended : Type 0) : Type 0 where
     pub marks : List Bool
     pub within : length marks ≤ length events
-    pub all : (length marks ≡ length events) ⊎ ((traced plan start events marks).stopped ≡ true)
+    pub all : ((length marks ≡ length events) × ended) ⊎ ((traced plan start events marks).stopped ≡ true)
     pub wrote : Gains old new (written_of (traced plan start events marks))
+    pub fits : (k : ℕ) → BatchesFit plan batch k ledger start events marks
     pub images : home → EachStandsFor a b (traced plan start events marks).cluster
     pub syncs : Syncs batch (length marks) before later
 
@@ -76,6 +80,7 @@ module _ (plan : Cluster → Event → Planned) (start : Cluster) (events : List
     pub few : length more ≤ batch
     pub within : length (marks ++ more) ≤ length events
     pub wrote : Gains old new (written_of (traced plan start events marks))
+    pub fits : (k : ℕ) → BatchesFit plan batch k ledger start events marks
     pub images : home → EachStandsFor a b (traced plan start events marks).cluster
     pub too_long : IsTooLong (traced plan start events (marks ++ more)).cluster ⊎ last_generation
     pub syncs : Syncs batch (length (marks ++ more)) before later

@@ -7,7 +7,7 @@ use Rattle.ge_model_disk.specs.Disk.{IsImageSince}
 use Rattle.ge_model_journal.specs.Journal.{State, meaning}
 use Rattle.ge_model_store.specs.StandsFor.{stands_for}
 use Rattle.ge_model_replay.specs.View.{View, DiskRose, said_of, AreStill, AreKept}
-use Rattle.ge_model_replay.specs.Replaying.{IsOneStatusOf}
+use Rattle.ge_model_top.specs.Statuses.{IsOneStatusOf}
 
 -- the generation, how many records stand behind the snapshot, and how many jobs live
 unfoldable pub status_line : ℕ → ℕ → ℕ → List ℕ

@@ -1,4 +1,6 @@
 pub mod Own
-pub mod Serving
+pub mod Lengths
 pub mod Ending
+pub mod Serving
 pub mod LinksOn
+pub mod Mapped

@@ -1,5 +1,5 @@
 -- One connection more.
-use Rattle.std.proofs.Common.{◌≡◌, Bool, true, false, List, [], ◌∷◌, ◌++◌, refl, subst, sym}
+use Rattle.std.proofs.Common.{◌≡◌, Bool, true, false, List, [], ◌∷◌, ◌++◌, refl, subst}
 use Rattle.std.specs.Prelude.{ℕ}
 use Rattle.ge_outside.specs.Clocks.{Answers}
 use Rattle.ge_outside.specs.Doors.{ClosedLink}

@@ -1,18 +1,20 @@
 -- How far a connection has come, one frame more, and what it leaves when it ends there.
-use Rattle.std.proofs.Common.{◌≡◌, ◌⊎◌, ℕ, ◌+◌, ◌-◌, ◌<◌, ◌≤◌, Bool, true, false, List, [], ◌∷◌, ◌++◌, length, take, drop, Option, Some, None, refl, ap, ◌∙◌, sym, subst, ⊎_elim, append_assoc, arith, inl, inr, flat_map}
+use Rattle.std.proofs.Common.{◌≡◌, ◌⊎◌, ℕ, ◌+◌, ◌<◌, ◌≤◌, Bool, true, false, List, [], ◌∷◌, ◌++◌, length, take, Option, Some, None, refl, ap, ◌∙◌, sym, subst, ⊎_elim, append_assoc, arith, inl, inr}
 use Rattle.std.proofs.lemmas.List.{length-append, append-nil, length-drop}
 use Rattle.std.proofs.lemmas.List.Concat.{flat_map-append}
 use Rattle.std.proofs.lemmas.Bool.Decides.{nat_tests}
-use Rattle.std.proofs.Math.Seq.{take-append-add, take-length}
+use Rattle.std.proofs.Math.Seq.{take-append-add}
 use Rattle.ge_outside.specs.Clocks.{Answers, next_answer, later_answers}
-use Rattle.ge_outside.specs.Streams.{Gains, GainsPrefix, Gains-append}
+use Rattle.ge_outside.specs.Streams.{Gains, Gains-append}
 use Rattle.ge_model_rows.specs.ClusterRows.{Cluster}
 use Rattle.ge_model_rows.specs.EventRows.{Event, Reply, Planned}
-use Rattle.ge_model_batch.specs.Traced.{Traced, traced}
-use Rattle.ge_model_wire.specs.Frames.{frame_size, is_no_frame, frames_of, behind_frames, first_payload, behind_first}
+use Rattle.ge_model_batch.specs.Traced.{Traced}
+use Rattle.ge_model_wire.specs.Frames.{link_bytes, frame_size, is_no_frame, frames_of, behind_frames, first_payload, behind_first, taken_of}
 use Rattle.ge_model_wire.proofs.Cuts.{frames-first, behind-first, frames-none, behind-none}
 use Rattle.ge_model_serve.specs.Answered.{FrameMarks, Answered, answered_at, then_answered, unless_stopped, own_reply, framed, framed_reply, frame_trace, answered}
-use Rattle.ge_model_serve.specs.Links.{InHand, HoldsOneOf, LeftWhole, LeftAll, LeftInHand}
+use Rattle.ge_model_serve.specs.Links.{bytes_to_read, HoldsOneOf, LeftWhole, LeftAll, LeftInHand}
+use Rattle.ge_model_serve.proofs.Ending.{whole-left}
+use Rattle.ge_model_serve.proofs.Lengths.{reads-more}
 
 -- How far a connection has come: what the rest gives is what is missing.
 pub record HasServed (plan : Cluster → Event → Planned) (start : Cluster) (clock : Answers) (bytes : List ℕ) (Leaves : ℕ → Cluster → Cluster → Type 0)
@@ -98,26 +100,11 @@ module _ (plan : Cluster → Event → Planned) where
 
       -- memory was wanted before a frame
       pub nothing-in-hand : (left : LeftInHand plan start clock bytes Leaves old now later) × HoldsOneOf plan start clock bytes Leaves left.in_hand reached false
-      nothing-in-hand =
-          let whole : framed (answered plan start clock (frames_of bytes) s.marks).replies ≡ framed s.replies = ap (λ (a : Answered). framed a.replies) so-far in
-          let same : framed (answered plan start clock (frames_of bytes) (s.marks ++ [])).replies ≡ framed s.replies = ap (λ ms. framed (answered plan start clock (frames_of bytes) ms).replies) (append-nil s.marks) ∙ whole in
-          let all : reached ≡ (answered plan start clock (frames_of bytes) (s.marks ++ [])).cluster =
-          so-far-cluster ∙ ap (λ ms. (answered plan start clock (frames_of bytes) ms).cluster) (sym (append-nil s.marks)) in (
-            record {
-              in_hand = record {
-                marks = s.marks;
-                hand = [];
-                few = omega (arith, s.counted, ap length (append-nil s.marks));
-                one = omega arith;
-                areas = carried Leaves (length s.marks) _ reached _ reached _ (ap length (sym (append-nil s.marks))) so-far-cluster all s.areas;
-              };
-              least = length (framed s.replies);
-              most = omega (arith, ap length whole);
-              wrote = subst (λ (xs : List ℕ). Gains old now (take (length (framed s.replies)) xs)) (sym same) (rw (take-length (framed s.replies)) s.wrote);
-              ticks = inl (s.later_is ∙ ap (λ (a : Answered). Some a.clock) (sym so-far));
-            },
-            inl (so-far-cluster, so-far-going),
-          )
+      nothing-in-hand = whole-left plan start clock bytes Leaves old now later reached false left-whole
+
+      -- so many bytes are read to find the first frame of the rest that a connection has as many as it may
+      pub is-long : link_bytes ≤ place + taken_of s.rest → link_bytes ≤ bytes_to_read bytes
+      is-long past = omega (arith, past, reads-more bytes s.rest place s.place_is s.behind)
 
       -- One frame more; Later: what the areas are left with then.
       module _ (frame : is_no_frame s.rest ≡ false) (m : FrameMarks) (Later : ℕ → Cluster → Cluster → Type 0) where
@@ -150,16 +137,16 @@ module _ (plan : Cluster → Event → Planned) where
         framed-more : framed (s.replies ++ own_reply t.replies) ≡ framed s.replies ++ framed (own_reply t.replies)
         framed-more = flat_map-append framed_reply s.replies (own_reply t.replies)
 
-        -- its reply was written and it stopped the master
-        pub stopped-here : (after : Option (List ℕ)) (new : Cluster) (ticked : Option Answers) → t.stopped ≡ true → new ≡ t.cluster → ticked ≡ Some (later_answers s.left) → Gains now after (framed (own_reply t.replies))
-            → ((n : ℕ) → Leaves n reached reached → Later (n + 1) t.cluster t.cluster) → LeftWhole plan start clock bytes Later old after ticked new true
-        stopped-here after new ticked stops same ticks gains step = record {
+        -- its reply was written
+        pub whole-here : (stopped : Bool) → t.stopped ≡ stopped → (after : Option (List ℕ)) (new : Cluster) (ticked : Option Answers) → new ≡ t.cluster → ticked ≡ Some (later_answers s.left)
+            → Gains now after (framed (own_reply t.replies)) → ((n : ℕ) → Leaves n reached reached → Later (n + 1) t.cluster t.cluster) → LeftWhole plan start clock bytes Later old after ticked new stopped
+        whole-here stopped is after new ticked same ticks gains step = record {
           marks = s.marks ++ m ∷ [];
           few = within;
-          wrote = subst (λ (a : Answered). Gains old after (framed a.replies)) (sym (one-more true stops))
+          wrote = subst (λ (a : Answered). Gains old after (framed a.replies)) (sym (one-more stopped is))
               (subst (λ (xs : List ℕ). Gains old after xs) (sym framed-more) (Gains-append old now after (framed s.replies) (framed (own_reply t.replies)) s.wrote gains));
-          ticks = ticks ∙ ap (λ (a : Answered). Some a.clock) (sym (one-more true stops));
-          holds = (same ∙ one-more-cluster, ap (λ (a : Answered). a.stopped) (sym (one-more true stops)));
+          ticks = ticks ∙ ap (λ (a : Answered). Some a.clock) (sym (one-more stopped is));
+          holds = (same ∙ one-more-cluster, ap (λ (a : Answered). a.stopped) (sym (one-more stopped is)));
           areas = carried Later (length s.marks + 1) _ t.cluster _ t.cluster _ one-longer one-more-cluster one-more-cluster (step (length s.marks) s.areas);
         }
 
@@ -188,11 +175,12 @@ module _ (plan : Cluster → Event → Planned) where
         one-more-replies : framed (answered plan start clock (frames_of bytes) (s.marks ++ m ∷ [])).replies ≡ framed s.replies ++ framed (own_reply t.replies)
         one-more-replies = ap (λ (a : Answered). framed a.replies) (one-more t.stopped refl) ∙ framed-more
 
-        -- it is in hand, and a front of its reply was written
-        pub in-hand : (after : Option (List ℕ)) (new : Cluster) (stopping : Bool) (ticked : Option Answers) → ((new ≡ reached) × (stopping ≡ false)) ⊎ ((new ≡ t.cluster) × (stopping ≡ t.stopped)) → ticked ≡ Some (later_answers s.left) → GainsPrefix now after (framed (own_reply t.replies))
-            → ((n : ℕ) → Leaves n reached reached → Later (n + 1) reached t.cluster)
+        -- it is in hand, and n bytes of its reply were written, but not all
+        pub in-hand : (after : Option (List ℕ)) (new : Cluster) (stopping : Bool) (ticked : Option Answers) → ((new ≡ reached) × (stopping ≡ false)) ⊎ ((new ≡ t.cluster) × (stopping ≡ t.stopped)) → ticked ≡ Some (later_answers s.left)
+            → (n : ℕ) → n < length (framed (own_reply t.replies)) → Gains now after (take n (framed (own_reply t.replies)))
+            → ((k : ℕ) → Leaves k reached reached → Later (k + 1) reached t.cluster)
             → (left : LeftInHand plan start clock bytes Later old after ticked) × HoldsOneOf plan start clock bytes Later left.in_hand new stopping
-        in-hand after new stopping ticked which ticks gains step =
+        in-hand after new stopping ticked which ticks n below gains step =
             let front = framed s.replies in
             let back = framed (own_reply t.replies) in
             let whole : framed (answered plan start clock (frames_of bytes) s.marks).replies ≡ front = ap (λ (a : Answered). framed a.replies) so-far in (
@@ -204,15 +192,12 @@ module _ (plan : Cluster → Event → Planned) where
                   one = omega arith;
                   areas = carried Later (length s.marks + 1) _ reached _ t.cluster _ one-longer so-far-cluster one-more-cluster (step (length s.marks) s.areas);
                 };
-                least = length front + gains.0;
-                most = omega (arith, ap length whole);
-                wrote = subst (λ (xs : List ℕ). Gains old after (take (length front + gains.0) xs)) (sym one-more-replies)
-                    (rw (take-append-add front back gains.0) (Gains-append old now after front (take gains.0 back) s.wrote gains.2));
-                ticks = inr (ticks ∙ ap (λ (a : Answered). Some (later_answers a.clock)) (sym so-far));
+                size = length front + n;
+                least = omega (arith, ap length whole);
+                most = inr (omega (arith, below, ap length one-more-replies, length-append front back));
+                wrote = subst (λ (xs : List ℕ). Gains old after (take (length front + n) xs)) (sym one-more-replies)
+                    (rw (take-append-add front back n) (Gains-append old now after front (take n back) s.wrote gains));
+                ticks = ticks ∙ ap (λ (a : Answered). Some a.clock) (sym (one-more t.stopped refl));
               },
               ⊎_elim (λ e. inl (e.0 ∙ so-far-cluster, e.1 ∙ so-far-going)) (λ e. inr (e.0 ∙ one-more-cluster, e.1 ∙ ap (λ (a : Answered). a.stopped) (sym (one-more t.stopped refl)))) which,
             )
-
-        -- nothing of its reply was written
-        pub unwritten : GainsPrefix now now (framed (own_reply t.replies))
-        unwritten = (0, omega arith, Gains-nothing now)

@@ -1,6 +1,6 @@
 -- What a connection leaves at each of its ends.
-use Rattle.std.specs.Prelude.{◌≡◌, ◌≢◌, ◌⊎◌, ℕ, ◌+◌, ◌<◌, ◌≤◌, Bool, true, false, List, [], ◌++◌, length, take, Option, Some, None}
-use Rattle.ge_outside.specs.Clocks.{Answers, later_answers}
+use Rattle.std.specs.Prelude.{◌≡◌, ◌≢◌, ◌⊎◌, ℕ, ◌+◌, ◌-◌, ◌<◌, ◌≤◌, Bool, true, false, List, [], ◌++◌, length, take, Option, Some, None}
+use Rattle.ge_outside.specs.Clocks.{Answers}
 use Rattle.ge_outside.specs.Streams.{Gains}
 use Rattle.ge_model_rows.specs.ClusterRows.{Cluster}
 use Rattle.ge_model_rows.specs.EventRows.{Event, Planned}
@@ -8,6 +8,10 @@ use Rattle.ge_model_wire.specs.Frames.{link_bytes, taken_of, frames_of, behind_f
 use Rattle.ge_model_serve.specs.Answered.{FrameMarks, Answered, framed, answered}
 use Rattle.ge_model_serve.specs.declared.LinkEnd.{LinkEnd}
 use Rattle.ge_model_serve.specs.declared.LinkEnd.TheVariants as end
+
+-- how many bytes are taken to read the frames of a connection, and to see that no other follows them
+abbrev pub bytes_to_read : List ℕ → ℕ
+bytes_to_read bytes = (length bytes - length (behind_frames bytes)) + taken_of (behind_frames bytes)
 
 -- a fact of a connection and a clock that tell
 abbrev pub OnTold : Option (List ℕ) → Option Answers → (List ℕ → Answers → Type 0) → Type 0
@@ -55,13 +59,14 @@ module _ (plan : Cluster → Event → Planned) (start : Cluster) (clock : Answe
       pub all : length whole.marks ≡ length (frames_of bytes)
       pub going : stopping ≡ false
 
-    -- Frames were answered whole, and of the reply to the one in hand a front is written.
+    -- Frames were answered whole, and of the reply to the one in hand a front is written, but not all of it.
     pub record LeftInHand : Type 0 where
       pub in_hand : InHand
-      pub least : ℕ
-      pub most : length (framed (after_frames in_hand.marks).replies) ≤ least
-      pub wrote : Gains old now (take least (framed (after_frames (in_hand.marks ++ in_hand.hand)).replies))
-      pub ticks : (later ≡ Some (after_frames in_hand.marks).clock) ⊎ (later ≡ Some (later_answers (after_frames in_hand.marks).clock))
+      pub size : ℕ
+      pub least : length (framed (after_frames in_hand.marks).replies) ≤ size
+      pub most : (in_hand.hand ≡ []) ⊎ (size < length (framed (after_frames (in_hand.marks ++ in_hand.hand)).replies))
+      pub wrote : Gains old now (take size (framed (after_frames (in_hand.marks ++ in_hand.hand)).replies))
+      pub ticks : later ≡ Some (after_frames (in_hand.marks ++ in_hand.hand)).clock
 
     -- What each end says: the conditions of no two of Done, Stopped, Frame and Long hold together. A frame that ends where a connection has as
     -- many bytes as it may is Long. At Write and at Memory an accepted stop may be in hand.
@@ -73,5 +78,5 @@ module _ (plan : Cluster → Event → Planned) (start : Cluster) (clock : Answe
     EndsAs (end.Frame place) reached stopping =
         LeftAll reached stopping × (behind_frames bytes ≢ []) × (place + length (behind_frames bytes) ≡ length bytes)
         × (place + taken_of (behind_frames bytes) < link_bytes)
-    EndsAs end.Long reached stopping = LeftWhole reached stopping × (stopping ≡ false) × (link_bytes ≤ length bytes)
+    EndsAs end.Long reached stopping = LeftWhole reached stopping × (stopping ≡ false) × (link_bytes ≤ bytes_to_read bytes)
     EndsAs end.Memory reached stopping = (left : LeftInHand) × HoldsOneOf left.in_hand reached stopping

@@ -1,5 +1,5 @@
 -- Connections that were served one after the other and given back.
-use Rattle.std.specs.Prelude.{◌≡◌, ℕ, ◌<◌, Bool, true, false, List, [], ◌∷◌, length, Option, Some, None}
+use Rattle.std.specs.Prelude.{◌≡◌, ℕ, ◌<◌, Bool, true, false, List, [], ◌∷◌, length, Some}
 use Rattle.std.specs.List.{sum_by}
 use Rattle.ge_outside.specs.Clocks.{Answers}
 use Rattle.ge_outside.specs.Doors.{ClosedLink}

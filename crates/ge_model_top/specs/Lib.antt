@@ -1,2 +1,5 @@
 pub mod Words
+pub mod Statuses
 pub mod Simulating
+pub mod Generating
+pub mod Trials

@@ -10,6 +10,12 @@ pub enum Word {
     Simulate,
     /// A script to its replies over the two areas, so many events at a time.
     Replay(u32),
+    /// So many connections over the two areas, one after the other.
+    Serve(u32),
     /// What the two areas hold.
     Status,
+    /// The script that is made up from a number.
+    Generate(u32),
+    /// That script simulated, and what became of its requests counted.
+    Trial(u32),
 }

@@ -5,24 +5,22 @@ use Rattle.ge_model_rows.specs.ClusterRows.{Cluster}
 use Rattle.ge_model_rows.specs.EventRows.{Event}
 use Rattle.ge_model_disk.specs.Disk.{Content, read_bytes}
 use Rattle.ge_model_script.specs.Events.{events_of}
+use Rattle.ge_model_script.specs.Sources.{IsReadToEnd}
 use Rattle.ge_model_core.specs.Plan.{plan_of}
-use Rattle.ge_model_replay.specs.View.{View, said_of, IsStill, AreStill}
+use Rattle.ge_model_replay.specs.View.{View, said_of, IsStill}
+use Rattle.ge_model_replay.specs.Keeping.{Ledger}
 use Rattle.ge_model_replay.specs.Runs.{EachStandsFor, Syncs, RanTo, RanCut, RanAll, RanFull}
 use Rattle.ge_model_replay.specs.Replaying.{HasCauses, Replays, opened_view}
 use Rattle.ge_spool.specs.Moments.{IsQuiet}
 use Rattle.ge_spool.specs.Opening.{Tells}
 use Rattle.ge_master.specs.Areas.{Areas}
+use Rattle.ge_top.proofs.Fitting.{nothing-fits}
+use Rattle.ge_top.proofs.Told.{no_some, same_some, on-some}
 use Rattle.ge_top.proofs.Traces.{Gains-nothing}
 
 -- the areas of a view
 abbrev pub areas_in : View → Areas
 areas_in x = record { a = x.a; b = x.b; syncs = x.syncs; faults_a = x.faults_a; faults_b = x.faults_b }
-
-no_some : {R : Type 0} (r : R) → ◌≡◌ {A = Option R} None (Some r) → ⊥
-no_some r is = cc
-
-same_some : {R : Type 0} (x r : R) → ◌≡◌ {A = Option R} (Some x) (Some r) → x ≡ r
-same_some x r is = cc
 
 -- what is said of areas as they read, where both tell
 pub said : {R : Type 0} (say : List ℕ → List ℕ → R) (a b : List Content) (r : R) → said_of say a b ≡ Some r → Tells a × Tells b × (say (read_bytes a) (read_bytes b) ≡ r)
@@ -49,24 +47,21 @@ rose-before first mid last later rose = omega (arith, later, rose)
 syncs-before : (batch m first mid last : ℕ) → mid ≤ first → Syncs batch m mid last → Syncs batch m first last
 syncs-before batch m first mid last later syncs = record { batches = syncs.batches; begun = syncs.begun; few = omega (arith, syncs.few, later) }
 
-pub on-some : {T : Type 0} (P Q : T → Type 0) (o : Option T) → ((x : T) → P x → Q x) → IfSome o P → IfSome o Q
-on-some P Q None weaker holds = tt
-on-some P Q (Some x) weaker holds = weaker x holds
-
 -- How far a replay has come, seen from before the areas were opened.
 module _ (start : Cluster) (events : List Event) (home at_rest : Type 0) (old new : Option (List ℕ)) (a b : List Content) (batch first before later : ℕ)
-    (opened : before ≤ first) (brings : at_rest → home) where
-  all-before : RanAll plan_of start events home old new a b batch before later → RanAll plan_of start events at_rest old new a b batch first later
-  all-before ran = record {
+    (ledger : Ledger) (opened : before ≤ first) (brings : at_rest → home) where
+  all-before : (ended : Type 0) → RanAll plan_of start events home old new a b batch before later ledger ended → RanAll plan_of start events at_rest old new a b batch first later ledger ended
+  all-before ended ran = record {
     marks = ran.marks;
     within = ran.within;
     all = ran.all;
     wrote = ran.wrote;
+    fits = ran.fits;
     images = λ rest. ran.images (brings rest);
     syncs = syncs-before batch (length ran.marks) first before later opened ran.syncs;
   }
 
-  to-before : RanTo plan_of start events home old new a b batch before later → RanTo plan_of start events at_rest old new a b batch first later
+  to-before : RanTo plan_of start events home old new a b batch before later ledger → RanTo plan_of start events at_rest old new a b batch first later ledger
   to-before ran = record {
     marks = ran.marks;
     n = ran.n;
@@ -74,11 +69,12 @@ module _ (start : Cluster) (events : List Event) (home at_rest : Type 0) (old ne
     in_hand = ran.in_hand;
     within = ran.within;
     wrote = ran.wrote;
+    fits = ran.fits;
     images = λ rest. ran.images (brings rest);
     syncs = syncs-before batch (length ran.marks) first before later opened ran.syncs;
   }
 
-  cut-before : RanCut plan_of start events home old new a b batch before later → RanCut plan_of start events at_rest old new a b batch first later
+  cut-before : RanCut plan_of start events home old new a b batch before later ledger → RanCut plan_of start events at_rest old new a b batch first later ledger
   cut-before ran = record {
     marks = ran.marks;
     n = ran.n;
@@ -89,17 +85,19 @@ module _ (start : Cluster) (events : List Event) (home at_rest : Type 0) (old ne
     least = ran.least;
     most = ran.most;
     wrote = ran.wrote;
+    fits = ran.fits;
     images = λ rest. ran.images (brings rest);
     syncs = syncs-before batch (length ran.marks) first before later opened ran.syncs;
   }
 
-  full-before : (last : Type 0) → RanFull plan_of start events home old new a b batch before later last → RanFull plan_of start events at_rest old new a b batch first later last
+  full-before : (last : Type 0) → RanFull plan_of start events home old new a b batch before later ledger last → RanFull plan_of start events at_rest old new a b batch first later ledger last
   full-before last ran = record {
     marks = ran.marks;
     more = ran.more;
     few = ran.few;
     within = ran.within;
     wrote = ran.wrote;
+    fits = ran.fits;
     images = λ rest. ran.images (brings rest);
     too_long = ran.too_long;
     syncs = syncs-before batch (length (ran.marks ++ ran.more)) first before later opened ran.syncs;
@@ -119,16 +117,16 @@ module _ (status : ℕ) (script rest : Option (List ℕ)) (reads_before reads_af
     disk = λ is. ⊎_elim (λ h. inl (rose-before x.faults_a faults_a y.faults_a later_a h)) (λ h. inr (rose-before x.faults_b faults_b y.faults_b later_b h)) (causes.disk is);
   }
 
-  pub replays-before : (start : Cluster) (home : Type 0) (generation batch : ℕ) → (AreStill x → home)
-      → Replays status script rest reads_before reads_after (record { output = x.output; writes = x.writes; a = a; b = b; syncs = syncs; faults_a = faults_a; faults_b = faults_b }) y start home generation batch
-      → Replays status script rest reads_before reads_after (opened_view x) y start (AreStill x) generation batch
-  replays-before start home generation batch brings ran = record {
+  pub replays-before : (start : Cluster) (home at_rest : Type 0) (ledger : Ledger) (batch : ℕ) → (at_rest → home)
+      → Replays status script rest reads_before reads_after (record { output = x.output; writes = x.writes; a = a; b = b; syncs = syncs; faults_a = faults_a; faults_b = faults_b }) y start home ledger batch
+      → Replays status script rest reads_before reads_after (opened_view x) y start at_rest ledger batch
+  replays-before start home at_rest ledger batch brings ran = record {
     statuses = ran.statuses;
-    whole = λ is. on-some _ _ script (λ bytes. all-before start (events_of bytes) home (AreStill x) x.output y.output y.a y.b batch (x.syncs + 6) syncs y.syncs opened brings) (ran.whole is);
-    part = λ is. on-some _ _ script (λ bytes. to-before start (events_of bytes) home (AreStill x) x.output y.output y.a y.b batch (x.syncs + 6) syncs y.syncs opened brings) (ran.part is);
-    cut = λ is. on-some _ _ script (λ bytes. cut-before start (events_of bytes) home (AreStill x) x.output y.output y.a y.b batch (x.syncs + 6) syncs y.syncs opened brings) (ran.cut is);
+    whole = λ is. on-some _ _ script (λ bytes. all-before start (events_of bytes) home at_rest x.output y.output y.a y.b batch (x.syncs + 6) syncs y.syncs ledger opened brings (IsReadToEnd rest)) (ran.whole is);
+    part = λ is. on-some _ _ script (λ bytes. to-before start (events_of bytes) home at_rest x.output y.output y.a y.b batch (x.syncs + 6) syncs y.syncs ledger opened brings) (ran.part is);
+    cut = λ is. on-some _ _ script (λ bytes. cut-before start (events_of bytes) home at_rest x.output y.output y.a y.b batch (x.syncs + 6) syncs y.syncs ledger opened brings) (ran.cut is);
     full = λ is. on-some _ _ script
-        (λ bytes. full-before start (events_of bytes) home (AreStill x) x.output y.output y.a y.b batch (x.syncs + 6) syncs y.syncs opened brings (2 ^ 64 - 1 ≤ generation + length bytes)) (ran.full is);
+        (λ bytes. full-before start (events_of bytes) home at_rest x.output y.output y.a y.b batch (x.syncs + 6) syncs y.syncs ledger opened brings (2 ^ 64 - 1 ≤ ledger.generation + length bytes)) (ran.full is);
     causes = record {
       ended = ran.causes.ended;
       long = ran.causes.long;
@@ -140,8 +138,8 @@ module _ (status : ℕ) (script rest : Option (List ℕ)) (reads_before reads_af
   }
 
 -- where no event was begun
-module _ (start : Cluster) (events : List Event) (home : Type 0) (old : Option (List ℕ)) (a b : List Content) (batch before later : ℕ) where
-  pub none-begun : 0 < batch → later ≤ before → (home → EachStandsFor a b start) → RanTo plan_of start events home old old a b batch before later
+module _ (start : Cluster) (events : List Event) (home : Type 0) (old : Option (List ℕ)) (a b : List Content) (batch before later : ℕ) (ledger : Ledger) where
+  pub none-begun : 0 < batch → later ≤ before → (home → EachStandsFor a b start) → RanTo plan_of start events home old old a b batch before later ledger
   none-begun some few images = record {
     marks = [];
     n = 0;
@@ -149,6 +147,7 @@ module _ (start : Cluster) (events : List Event) (home : Type 0) (old : Option (
     in_hand = omega arith;
     within = omega arith;
     wrote = Gains-nothing old;
+    fits = λ k. nothing-fits plan_of batch k ledger start events;
     images = λ at_home. λ c d of_c of_d. inr (images at_home c d of_c of_d);
     syncs = record { batches = 0; begun = omega (arith, some); few = omega (arith, few) };
   }

@@ -7,11 +7,12 @@ use Rattle.ge_model_disk.specs.Disk.{Content, read_bytes}
 use Rattle.ge_model_journal.specs.Journal.{State, meaning}
 use Rattle.ge_model_store.specs.StandsFor.{stands_for}
 use Rattle.ge_model_store.specs.declared.Wrong.{Wrong}
+use Rattle.ge_model_top.specs.Statuses.{IsOneStatusOf}
 use Rattle.ge_model_replay.specs.View.{View, DiskRose, said_of, AreStill, AreKept}
+use Rattle.ge_model_replay.specs.Keeping.{ledger_in}
 use Rattle.ge_model_replay.specs.Runs.{EachStandsFor}
-use Rattle.ge_model_replay.specs.Replaying.{IsOneStatusOf, IsReplayStatus, Replays, ReplaysAreas, opened_view}
+use Rattle.ge_model_replay.specs.Replaying.{IsReplayStatus, Replays, ReplaysAreas, WereStill, opened_view}
 use Rattle.ge_spool.specs.Opening.{Tells}
-use Rattle.ge_spool.specs.Settled.{generation_of}
 use Rattle.ge_spool.specs.declared.faults.OpenFault.{OpenFault}
 use Rattle.ge_spool.specs.declared.faults.OpenFault.TheVariants as fault
 use Rattle.ge_master.specs.Homes.{IsHome}
@@ -19,10 +20,12 @@ use Rattle.ge_master.specs.Masters.{cluster_of, spool_of, parts_of}
 use Rattle.ge_master.specs.OpeningMasters.{OpensMaster}
 use Rattle.ge_master.specs.declared.master.Master.{Master}
 use Rattle.ge_top.specs.Ends.{OpensNoneAs}
+use Rattle.ge_top.specs.Ledgers.{ledger_of}
+use Rattle.ge_top.proofs.Fitting.{ledger-settled}
 use Rattle.ge_top.proofs.Images.{ends-images}
 use Rattle.ge_top.proofs.Opened.{areas_in, said, if_said, still-quiet, causes-before, replays-before}
 use Rattle.ge_top.proofs.Refused.{frame-kept, body-kept}
-use Rattle.ge_top.proofs.Replayed.{unopened-disk, unread-no-memory}
+use Rattle.ge_top.proofs.Replayed.{unopened-disk, unopened-no-memory}
 
 -- what stands for a cluster is not refused
 pub stood-not-refused : {R E : Type 0} (r : Result R E) (c : R) → r ≡ Ok c → IsErr r → ⊥
@@ -51,7 +54,7 @@ module _ (batch status : ℕ) (script rest : Option (List ℕ)) (reads_before re
   pub replayed-opened : (m : Master) (a b : List Content) (syncs faults_a faults_b : ℕ) → x.faults_a ≤ faults_a → x.faults_b ≤ faults_b
       → OpensMaster (Ok m) (areas_in x) (record { a = a; b = b; syncs = syncs; faults_a = faults_a; faults_b = faults_b })
       → Replays status script rest reads_before reads_after (record { output = x.output; writes = x.writes; a = a; b = b; syncs = syncs; faults_a = faults_a; faults_b = faults_b }) y
-      (cluster_of m) (IsHome (parts_of m) (record { a = a; b = b; syncs = syncs; faults_a = faults_a; faults_b = faults_b })) (generation_of (spool_of m)) batch
+      (cluster_of m) (IsHome (parts_of m) (record { a = a; b = b; syncs = syncs; faults_a = faults_a; faults_b = faults_b })) (ledger_of (spool_of m)) batch
       → ReplaysAreas batch status script rest reads_before reads_after x y
   replayed-opened m a b syncs faults_a faults_b later_a later_b opens ran =
       let not_four : status ≡ 4 → ⊥ = λ is. no_four (subst IsReplayStatus is ran.statuses) in
@@ -63,10 +66,10 @@ module _ (batch status : ℕ) (script rest : Option (List ℕ)) (reads_before re
             let opened = opens.opened stood.0 stood.1 in
             let cluster : start ≡ cluster_of m = same-ok _ _ _ opened.stood stood.2 in
             let state_is : state ≡ opened.home.state = same-ok _ _ _ opened.journal meant.2 in
-            let generation : generation_of (spool_of m) ≡ state.generation = opened.home.settled.generation ∙ ap (λ s. s.generation) (sym state_is) in
-            subst (λ c. Replays status script rest reads_before reads_after (opened_view x) y c (AreStill x) state.generation batch) (sym cluster)
-            (subst (λ n. Replays status script rest reads_before reads_after (opened_view x) y (cluster_of m) (AreStill x) n batch) generation
-            (replays-before status script rest reads_before reads_after x y a b syncs faults_a faults_b opens.syncs later_a later_b (cluster_of m) _ (generation_of (spool_of m)) batch (λ still. opened.home) ran));
+            let ledger : ledger_of (spool_of m) ≡ ledger_in state = ledger-settled (spool_of m) a b opened.home.state opened.home.settled ∙ ap ledger_in (sym state_is) in
+            subst (λ c. Replays status script rest reads_before reads_after (opened_view x) y c (WereStill status x) (ledger_in state) batch) (sym cluster)
+            (subst (λ l. Replays status script rest reads_before reads_after (opened_view x) y (cluster_of m) (WereStill status x) l batch) ledger
+            (replays-before status script rest reads_before reads_after x y a b syncs faults_a faults_b opens.syncs later_a later_b (cluster_of m) _ (WereStill status x) (ledger_of (spool_of m)) batch (λ still. opened.home) ran));
         causes = causes-before status script rest reads_before reads_after x y a b syncs faults_a faults_b opens.syncs later_a later_b ran.causes;
         refused = λ is. absurd (not_four is);
         kept = λ is. absurd (not_four is);
@@ -83,7 +86,7 @@ module _ (batch status : ℕ) (script rest : Option (List ℕ)) (reads_before re
 module _ (batch : ℕ) (some : 0 < batch) (script : Option (List ℕ)) (reads : ℕ) (x y : View) (output : y.output ≡ x.output) where
   unopened : (status : ℕ) → (status ≡ 4) ⊎ IsReplayStatus status → (status ≡ 0 → ⊥) → (status ≡ 3 → ⊥) → (status ≡ 5 → ⊥) → (status ≡ 6 → ⊥) → (status ≡ 7 → ⊥) → (status ≡ 8 → DiskRose x y)
       → ((start : Cluster) (state : State) → said_of stands_for x.a x.b ≡ Some (Ok start) → said_of meaning x.a x.b ≡ Some (Ok state)
-      → Replays status script script reads reads (opened_view x) y start (AreStill x) state.generation batch)
+      → Replays status script script reads reads (opened_view x) y start (WereStill status x) (ledger_in state) batch)
       → (status ≡ 4 → IfSome (said_of stands_for x.a x.b) IsErr) → (status ≡ 4 → AreKept x y) → IsOneStatusOf (4 ∷ 8 ∷ 10 ∷ []) status
       → ReplaysAreas batch status script script reads reads x y
   unopened status statuses done long full read write disk ran refused kept one = record {
@@ -114,8 +117,8 @@ module _ (batch : ℕ) (some : 0 < batch) (script : Option (List ℕ)) (reads : 
   replayed-unopened fault.Disk status is opens =
       subst (λ s. ReplaysAreas batch s script script reads reads x y) (sym is)
       (unopened 8 (inr refl) (λ is. omega (arith, is)) (λ is. omega (arith, is)) (λ is. omega (arith, is)) (λ is. omega (arith, is)) (λ is. omega (arith, is)) (λ is. opens.blames)
-      (λ start state stands means. unopened-disk script script reads reads (opened_view x) y start (AreStill x) state.generation batch some
-      (opened-images (Err fault.Disk) x y start opens stands) output opens.syncs opens.blames)
+      (λ start state stands means. unopened-disk script script reads reads (opened_view x) y start (WereStill 8 x) (ledger_in state) batch some
+      (λ still. opened-images (Err fault.Disk) x y start opens stands (still (inl refl))) output opens.syncs opens.blames)
       (λ is. absurd (omega (arith, is))) (λ is. absurd (omega (arith, is))) refl)
   replayed-unopened (fault.Frame area place) status is opens =
       subst (λ s. ReplaysAreas batch s script script reads reads x y) (sym is) (refused-areas _ (frame-kept x y area place opens) opens.opened)
@@ -124,6 +127,6 @@ module _ (batch : ℕ) (some : 0 < batch) (script : Option (List ℕ)) (reads : 
   replayed-unopened fault.Memory status is opens =
       subst (λ s. ReplaysAreas batch s script script reads reads x y) (sym is)
       (unopened 10 (inr refl) (λ is. omega (arith, is)) (λ is. omega (arith, is)) (λ is. omega (arith, is)) (λ is. omega (arith, is)) (λ is. omega (arith, is)) (λ is. absurd (omega (arith, is)))
-      (λ start state stands means. unread-no-memory script script reads reads (opened_view x) y start (AreStill x) state.generation batch some
-      (opened-images (Err fault.Memory) x y start opens stands) output opens.syncs)
+      (λ start state stands means. unopened-no-memory script script reads reads (opened_view x) y start (WereStill 10 x) (ledger_in state) batch some
+      (λ still. opened-images (Err fault.Memory) x y start opens stands (still (inr refl))) output opens.syncs)
       (λ is. absurd (omega (arith, is))) (λ is. absurd (omega (arith, is))) refl)

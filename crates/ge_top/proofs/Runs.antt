@@ -13,7 +13,9 @@ use Rattle.ge_model_core.specs.Render.{rendered}
 use Rattle.ge_model_batch.specs.Traced.{Traced, onto, ends_at, traced}
 use Rattle.ge_model_store.specs.StandsFor.{stands_for, StandsForOneOf}
 use Rattle.ge_model_replay.specs.Runs.{written_of, EachStandsFor, EachStandsForOneOf, IsTooLong, Syncs, RanTo, RanCut, RanAll, RanFull}
+use Rattle.ge_model_replay.specs.Keeping.{Ledger, FitsBatch, IsNextLedger, BatchesFit}
 use Rattle.ge_master.proofs.Staged.{onto-onto, onto-end}
+use Rattle.ge_top.proofs.Fitting.{nothing-fits, last-fits, full-fits}
 use Rattle.ge_top.proofs.Traces.{Gains-nothing}
 use Rattle.ge_top.proofs.TracedBatches.{traced-batch, traced-alone}
 
@@ -36,9 +38,10 @@ full-more k size marks more left batch rest (inr none) split some counted (inl a
     absurd (omega (arith, ap length none, ap length split, length-append batch rest, some))
 full-more k size marks more left batch rest full split some counted (inr last) = inr last
 
-module _ (plan : Cluster → Event → Planned) (start : Cluster) (events : List Event) (old : Option (List ℕ)) (size before : ℕ) where
-  -- the replies so far are written, and what the rest gives from the cluster that was reached is what is missing
-  pub record HasRun (now : Option (List ℕ)) (later : ℕ) (reached : Cluster) (rest : List Event) : Type 0 where
+module _ (plan : Cluster → Event → Planned) (start : Cluster) (events : List Event) (old : Option (List ℕ)) (size before : ℕ) (origin : Ledger) where
+  -- The replies so far are written, and what the rest gives from the cluster that was reached is what is missing. All batches fit where those of
+  -- the rest do, from the ledger that was reached.
+  pub record HasRun (now : Option (List ℕ)) (later : ℕ) (ledger : Ledger) (reached : Cluster) (rest : List Event) : Type 0 where
     pub marks : List Bool
     pub replies : List Reply
     pub entries : List Entry
@@ -49,24 +52,31 @@ module _ (plan : Cluster → Event → Planned) (start : Cluster) (events : List
     pub begun : batches * size < length marks + size
     pub full : (batches * size ≤ length marks) ⊎ (rest ≡ [])
     pub few : later ≤ before + 3 * batches
+    pub fits : (more : List Bool) (k : ℕ) → ((j : ℕ) → BatchesFit plan size j ledger reached rest more) → BatchesFit plan size k origin start events (marks ++ more)
 
   -- the trace so far
-  so-far : (now : Option (List ℕ)) (later : ℕ) (reached : Cluster) (rest : List Event) (run : HasRun now later reached rest)
+  so-far : (now : Option (List ℕ)) (later : ℕ) (ledger : Ledger) (reached : Cluster) (rest : List Event) (run : HasRun now later ledger reached rest)
       → traced plan start events run.marks ≡ record { replies = run.replies; entries = run.entries; cluster = reached; stopped = false }
-  so-far now later reached rest run =
+  so-far now later ledger reached rest run =
       ap (traced plan start events) (sym (append-nil run.marks)) ∙ run.goes_on [] ∙ ends reached rest ∙ onto-end run.replies run.entries false reached
     where
       ends : (c : Cluster) (rest : List Event) → onto run.replies run.entries (traced plan c rest []) ≡ onto run.replies run.entries (ends_at false c)
       ends c [] = refl
       ends c (e ∷ rest) = refl
 
+  -- and it fits
+  fits-so-far : (now : Option (List ℕ)) (later : ℕ) (ledger : Ledger) (reached : Cluster) (rest : List Event) (run : HasRun now later ledger reached rest) (k : ℕ)
+      → BatchesFit plan size k origin start events run.marks
+  fits-so-far now later ledger reached rest run k =
+      subst (λ xs. BatchesFit plan size k origin start events xs) (append-nil run.marks) (run.fits [] k (λ j. nothing-fits plan size j ledger reached rest))
+
   -- no batch is in hand
-  syncs-so-far : (now : Option (List ℕ)) (later : ℕ) (reached : Cluster) (rest : List Event) (run : HasRun now later reached rest) → Syncs size (length run.marks) before later
-  syncs-so-far now later reached rest run = record { batches = run.batches; begun = run.begun; few = run.few }
+  syncs-so-far : (now : Option (List ℕ)) (later : ℕ) (ledger : Ledger) (reached : Cluster) (rest : List Event) (run : HasRun now later ledger reached rest) → Syncs size (length run.marks) before later
+  syncs-so-far now later ledger reached rest run = record { batches = run.batches; begun = run.begun; few = run.few }
 
   -- one batch more
-  module _ (now after : Option (List ℕ)) (later last : ℕ) (reached new : Cluster) (batch rest left : List Event) (run : HasRun now later reached left) (split : left ≡ batch ++ rest)
-      (ms : List Bool) (counted : length ms ≡ length batch) (some : 0 < length batch) (few : length batch ≤ size) (took : last ≤ later + 3)
+  module _ (now after : Option (List ℕ)) (later last : ℕ) (ledger : Ledger) (reached new : Cluster) (batch rest left : List Event) (run : HasRun now later ledger reached left)
+      (split : left ≡ batch ++ rest) (ms : List Bool) (counted : length ms ≡ length batch) (some : 0 < length batch) (few : length batch ≤ size) (took : last ≤ later + 3)
       (cluster : new ≡ (traced plan reached batch ms).cluster) where
     -- the trace with the batch
     with-batch : traced plan start events (run.marks ++ ms) ≡ onto run.replies run.entries (traced plan reached batch ms)
@@ -87,11 +97,11 @@ module _ (plan : Cluster → Event → Planned) (start : Cluster) (events : List
     }
 
     -- the batch is in hand: it may be kept or not, and its replies aren't written
-    pub in-hand : (home : Type 0) (a b : List Content) → (home → EachStandsForOneOf a b reached new) → RanTo plan start events home old now a b size before last
+    pub in-hand : (home : Type 0) (a b : List Content) → (home → EachStandsForOneOf a b reached new) → RanTo plan start events home old now a b size before last origin
     in-hand home a b images =
         let first : take (length run.marks) (run.marks ++ ms) ≡ run.marks = take-append_seam run.marks ms in
         let back : traced plan start events (take (length run.marks) (run.marks ++ ms)) ≡ record { replies = run.replies; entries = run.entries; cluster = reached; stopped = false } =
-        ap (traced plan start events) first ∙ so-far now later reached left run in
+        ap (traced plan start events) first ∙ so-far now later ledger reached left run in
         record {
           marks = run.marks ++ ms;
           n = length run.marks;
@@ -99,6 +109,7 @@ module _ (plan : Cluster → Event → Planned) (start : Cluster) (events : List
           in_hand = omega (arith, length-append run.marks ms, counted, few);
           within = within;
           wrote = subst (λ (t : Traced). Gains old now (written_of t)) (sym back) run.wrote;
+          fits = λ k. subst (λ xs. BatchesFit plan size k origin start events xs) (sym first) (fits-so-far now later ledger reached left run k);
           images = λ at_home. λ c d of_c of_d.
               subst (λ x. StandsForOneOf x (traced plan start events (run.marks ++ ms)).cluster c d) (ap (λ t. t.cluster) (sym back))
               (subst (λ y. StandsForOneOf reached y c d) (sym new-is) (images at_home c d of_c of_d));
@@ -107,33 +118,40 @@ module _ (plan : Cluster → Event → Planned) (start : Cluster) (events : List
 
     -- the master stopped since the cluster after the batch is too long
     pub too-full : (home : Type 0) (a b : List Content) (last_generation : Type 0) → (home → EachStandsFor a b reached)
-        → IsTooLong new ⊎ last_generation → RanFull plan start events home old now a b size before last last_generation
+        → IsTooLong new ⊎ last_generation → RanFull plan start events home old now a b size before last origin last_generation
     too-full home a b last_generation images long =
-        let there = so-far now later reached left run in
+        let there = so-far now later ledger reached left run in
         record {
           marks = run.marks;
           more = ms;
           few = omega (arith, counted, few);
           within = within;
           wrote = subst (λ (t : Traced). Gains old now (written_of t)) (sym there) run.wrote;
+          fits = fits-so-far now later ledger reached left run;
           images = λ at_home. λ c d of_c of_d. images at_home c d of_c of_d ∙ ap (λ (t : Traced). Ok t.cluster) (sym there);
           too_long = ⊎_elim (λ h. inl (subst IsTooLong (sym new-is) h)) (λ h. inr h) long;
           syncs = syncs-with;
         }
 
-    -- the replies are those of the batch
-    module _ (replies : List Reply) (same : replies ≡ (traced plan reached batch ms).replies) where
+    -- the replies are those of the batch, which is kept
+    module _ (replies : List Reply) (same : replies ≡ (traced plan reached batch ms).replies) (next : Ledger) (fitted : FitsBatch ledger (traced plan reached batch ms))
+        (is_next : IsNextLedger ledger (traced plan reached batch ms) next) where
+      fits-with : (k : ℕ) → BatchesFit plan size k origin start events (run.marks ++ ms)
+      fits-with k =
+          run.fits ms k
+          (λ j. subst (λ es. BatchesFit plan size j ledger reached es ms) (sym split) (last-fits plan size ledger next reached batch rest ms counted fitted is_next few j))
+
       bytes-are : written_of (traced plan start events (run.marks ++ ms)) ≡ flat_map rendered run.replies ++ flat_map rendered replies
       bytes-are = ap written_of with-batch ∙ flat_map-append rendered run.replies (traced plan reached batch ms).replies ∙ ap (λ rs. flat_map rendered run.replies ++ flat_map rendered rs) (sym same)
 
       -- a write of the replies failed
       pub cut-short : (home : Type 0) (a b : List Content) → GainsPrefix now after (flat_map rendered replies) → (home → EachStandsFor a b new)
-          → RanCut plan start events home old after a b size before last
+          → RanCut plan start events home old after a b size before last origin
       cut-short home a b gains images =
           let front = flat_map rendered run.replies in
           let back = flat_map rendered replies in
           let first : take (length run.marks) (run.marks ++ ms) ≡ run.marks = take-append_seam run.marks ms in
-          let there : written_of (traced plan start events (take (length run.marks) (run.marks ++ ms))) ≡ front = ap (λ xs. written_of (traced plan start events xs)) first ∙ ap written_of (so-far now later reached left run) in
+          let there : written_of (traced plan start events (take (length run.marks) (run.marks ++ ms))) ≡ front = ap (λ xs. written_of (traced plan start events xs)) first ∙ ap written_of (so-far now later ledger reached left run) in
           record {
             marks = run.marks ++ ms;
             n = length run.marks;
@@ -145,6 +163,7 @@ module _ (plan : Cluster → Event → Planned) (start : Cluster) (events : List
             most = omega (arith, ap length bytes-are, length-append front back, gains.1);
             wrote = subst (λ (xs : List ℕ). Gains old after (take (length front + gains.0) xs)) (sym bytes-are)
                 (rw (take-append-add front back gains.0) (Gains-append old now after front (take gains.0 back) run.wrote gains.2));
+            fits = fits-with;
             images = λ at_home. subst (λ x. EachStandsFor a b x) (sym new-is) (images at_home);
             syncs = syncs-with;
           }
@@ -153,19 +172,33 @@ module _ (plan : Cluster → Event → Planned) (start : Cluster) (events : List
       wrote-all gains = subst (λ (xs : List ℕ). Gains old after xs) (sym bytes-are) (Gains-append old now after (flat_map rendered run.replies) (flat_map rendered replies) run.wrote gains)
 
       -- the replies are written and the master stops
-      pub stopped-here : (home : Type 0) (a b : List Content) → (traced plan reached batch ms).stopped ≡ true → Gains now after (flat_map rendered replies) → (home → EachStandsFor a b new)
-          → RanAll plan start events home old after a b size before last
-      stopped-here home a b stopped gains images = record {
+      pub stopped-here : (home : Type 0) (a b : List Content) (ended : Type 0) → (traced plan reached batch ms).stopped ≡ true → Gains now after (flat_map rendered replies) → (home → EachStandsFor a b new)
+          → RanAll plan start events home old after a b size before last origin ended
+      stopped-here home a b ended stopped gains images = record {
         marks = run.marks ++ ms;
         within = within;
         all = inr (ap (λ t. t.stopped) with-batch ∙ stopped);
         wrote = wrote-all gains;
+        fits = fits-with;
+        images = λ at_home. subst (λ x. EachStandsFor a b x) (sym new-is) (images at_home);
+        syncs = syncs-with;
+      }
+
+      -- the replies are written and nothing is to come
+      pub last-here : (home : Type 0) (a b : List Content) (ended : Type 0) → rest ≡ [] → ended → Gains now after (flat_map rendered replies) → (home → EachStandsFor a b new)
+          → RanAll plan start events home old after a b size before last origin ended
+      last-here home a b ended none at_end gains images = record {
+        marks = run.marks ++ ms;
+        within = within;
+        all = inl (omega (arith, length-append run.marks ms, run.counted, ap length split, length-append batch rest, counted, ap length none), at_end);
+        wrote = wrote-all gains;
+        fits = fits-with;
         images = λ at_home. subst (λ x. EachStandsFor a b x) (sym new-is) (images at_home);
         syncs = syncs-with;
       }
 
       -- the replies are written and the run goes on
-      pub goes-on : (length batch ≡ size) ⊎ (rest ≡ []) → (traced plan reached batch ms).stopped ≡ false → Gains now after (flat_map rendered replies) → HasRun after last new rest
+      pub goes-on : length batch ≡ size → (traced plan reached batch ms).stopped ≡ false → Gains now after (flat_map rendered replies) → HasRun after last next new rest
       unfolding syncs-with
       goes-on filled going gains = record {
         marks = run.marks ++ ms;
@@ -183,15 +216,21 @@ module _ (plan : Cluster → Event → Planned) (start : Cluster) (events : List
         batches = run.batches + 1;
         begun = syncs-with.begun;
         full = subst (λ n. ((run.batches + 1) * size ≤ n) ⊎ (rest ≡ [])) (sym (length-append run.marks ms))
-            (full-more run.batches size (length run.marks) (length ms) left batch rest run.full split some counted filled);
+            (full-more run.batches size (length run.marks) (length ms) left batch rest run.full split some counted (inl filled));
         few = syncs-with.few;
+        fits = λ more k from_here.
+            subst (λ xs. BatchesFit plan size k origin start events xs) (sym (append_assoc run.marks ms more))
+            (run.fits (ms ++ more) k
+            (λ j.
+            subst (λ es. BatchesFit plan size j ledger reached es (ms ++ more)) (sym split)
+            (full-fits plan size ledger next reached batch rest ms counted fitted is_next filled more (λ i. subst (λ c. BatchesFit plan size i next c rest more) cluster (from_here i)) j)));
       }
 
   -- nothing is in hand
-  pub nothing-in-hand : (now : Option (List ℕ)) (later : ℕ) (reached : Cluster) (rest : List Event) (run : HasRun now later reached rest) (home : Type 0) (a b : List Content)
-      → (home → EachStandsFor a b reached) → RanTo plan start events home old now a b size before later
-  nothing-in-hand now later reached rest run home a b images =
-      let there = so-far now later reached rest run in
+  pub nothing-in-hand : (now : Option (List ℕ)) (later : ℕ) (ledger : Ledger) (reached : Cluster) (rest : List Event) (run : HasRun now later ledger reached rest) (home : Type 0) (a b : List Content)
+      → (home → EachStandsFor a b reached) → RanTo plan start events home old now a b size before later origin
+  nothing-in-hand now later ledger reached rest run home a b images =
+      let there = so-far now later ledger reached rest run in
       record {
         marks = run.marks;
         n = length run.marks;
@@ -199,25 +238,27 @@ module _ (plan : Cluster → Event → Planned) (start : Cluster) (events : List
         in_hand = omega arith;
         within = omega (arith, run.counted);
         wrote = subst (λ (xs : List Bool). Gains old now (written_of (traced plan start events xs))) (sym (take-length run.marks)) (subst (λ (t : Traced). Gains old now (written_of t)) (sym there) run.wrote);
+        fits = λ k. subst (λ xs. BatchesFit plan size k origin start events xs) (sym (take-length run.marks)) (fits-so-far now later ledger reached rest run k);
         images = λ at_home. λ c d of_c of_d. inr (images at_home c d of_c of_d ∙ ap (λ (t : Traced). Ok t.cluster) (sym there));
-        syncs = syncs-so-far now later reached rest run;
+        syncs = syncs-so-far now later ledger reached rest run;
       }
 
   -- all events are answered
-  pub all-answered : (now : Option (List ℕ)) (later : ℕ) (reached : Cluster) (rest : List Event) (run : HasRun now later reached rest) (home : Type 0) (a b : List Content)
-      → rest ≡ [] → (home → EachStandsFor a b reached) → RanAll plan start events home old now a b size before later
-  all-answered now later reached rest run home a b none images =
-      let there = so-far now later reached rest run in
+  pub all-answered : (now : Option (List ℕ)) (later : ℕ) (ledger : Ledger) (reached : Cluster) (rest : List Event) (run : HasRun now later ledger reached rest) (home : Type 0) (a b : List Content) (ended : Type 0)
+      → rest ≡ [] → ended → (home → EachStandsFor a b reached) → RanAll plan start events home old now a b size before later origin ended
+  all-answered now later ledger reached rest run home a b ended none at_end images =
+      let there = so-far now later ledger reached rest run in
       record {
         marks = run.marks;
         within = omega (arith, run.counted);
-        all = inl (omega (arith, run.counted, ap length none));
+        all = inl (omega (arith, run.counted, ap length none), at_end);
         wrote = subst (λ (t : Traced). Gains old now (written_of t)) (sym there) run.wrote;
+        fits = fits-so-far now later ledger reached rest run;
         images = λ at_home. λ c d of_c of_d. images at_home c d of_c of_d ∙ ap (λ (t : Traced). Ok t.cluster) (sym there);
-        syncs = syncs-so-far now later reached rest run;
+        syncs = syncs-so-far now later ledger reached rest run;
       }
 
-  pub HasRun-none : 0 < size → HasRun old before start events
+  pub HasRun-none : 0 < size → HasRun old before origin start events
   HasRun-none some = record {
     marks = [];
     replies = [];
@@ -229,26 +270,28 @@ module _ (plan : Cluster → Event → Planned) (start : Cluster) (events : List
     begun = omega (arith, some);
     full = inl (omega arith);
     few = omega arith;
+    fits = λ more k from_here. from_here k;
   }
 
 -- where all is answered, all that is answered is kept
-pub all-to : (plan : Cluster → Event → Planned) (start : Cluster) (events : List Event) (home : Type 0) (old new : Option (List ℕ)) (a b : List Content) (size before later : ℕ)
-    → RanAll plan start events home old new a b size before later → RanTo plan start events home old new a b size before later
-all-to plan start events home old new a b size before later ran = record {
+pub all-to : (plan : Cluster → Event → Planned) (start : Cluster) (events : List Event) (home : Type 0) (old new : Option (List ℕ)) (a b : List Content) (size before later : ℕ) (ledger : Ledger) (ended : Type 0)
+    → RanAll plan start events home old new a b size before later ledger ended → RanTo plan start events home old new a b size before later ledger
+all-to plan start events home old new a b size before later ledger ended ran = record {
   marks = ran.marks;
   n = length ran.marks;
   answered = omega arith;
   in_hand = omega arith;
   within = ran.within;
   wrote = subst (λ (xs : List Bool). Gains old new (written_of (traced plan start events xs))) (sym (take-length ran.marks)) ran.wrote;
+  fits = λ k. subst (λ (xs : List Bool). BatchesFit plan size k ledger start events xs) (sym (take-length ran.marks)) (ran.fits k);
   images = λ at_home. λ c d of_c of_d. inr (ran.images at_home c d of_c of_d);
   syncs = ran.syncs;
 }
 
 -- where a cluster is too long, all before it that is answered is kept
-pub full-to : (plan : Cluster → Event → Planned) (start : Cluster) (events : List Event) (home : Type 0) (old new : Option (List ℕ)) (a b : List Content) (size before later : ℕ) (last : Type 0)
-    → RanFull plan start events home old new a b size before later last → RanTo plan start events home old new a b size before later
-full-to plan start events home old new a b size before later last ran =
+pub full-to : (plan : Cluster → Event → Planned) (start : Cluster) (events : List Event) (home : Type 0) (old new : Option (List ℕ)) (a b : List Content) (size before later : ℕ) (ledger : Ledger) (last : Type 0)
+    → RanFull plan start events home old new a b size before later ledger last → RanTo plan start events home old new a b size before later ledger
+full-to plan start events home old new a b size before later ledger last ran =
     let first : take (length ran.marks) (ran.marks ++ ran.more) ≡ ran.marks = take-append_seam ran.marks ran.more in
     record {
       marks = ran.marks ++ ran.more;
@@ -257,6 +300,7 @@ full-to plan start events home old new a b size before later last ran =
       in_hand = omega (arith, length-append ran.marks ran.more, ran.few);
       within = ran.within;
       wrote = subst (λ (xs : List Bool). Gains old new (written_of (traced plan start events xs))) (sym first) ran.wrote;
+      fits = λ k. subst (λ (xs : List Bool). BatchesFit plan size k ledger start events xs) (sym first) (ran.fits k);
       images = λ at_home. λ c d of_c of_d.
           inl (subst (λ (xs : List Bool). stands_for c d ≡ Ok (traced plan start events xs).cluster) (sym first) (ran.images at_home c d of_c of_d));
       syncs = ran.syncs;

@@ -9,7 +9,7 @@ use Rattle.ge_model_journal.specs.Journal.{State, meaning}
 use Rattle.ge_model_store.specs.StandsFor.{stands_for}
 use Rattle.ge_model_store.specs.declared.Wrong.{Wrong}
 use Rattle.ge_model_replay.specs.View.{View, DiskRose, said_of, AreStill, AreKept}
-use Rattle.ge_model_replay.specs.Replaying.{IsOneStatusOf}
+use Rattle.ge_model_top.specs.Statuses.{IsOneStatusOf}
 use Rattle.ge_model_replay.specs.Showing.{status_line, ShowsAreas}
 use Rattle.ge_spool.specs.Opening.{Tells}
 use Rattle.ge_spool.specs.Settled.{generation_of, record_count}

@@ -1,7 +1,6 @@
 -- One turn of a replay.
-use Rattle.std.proofs.Common.{◌≡◌, ◌⊎◌, ℕ, ◌+◌, ◌<◌, ◌≤◌, ◌∙◌, ◌++◌, [], ◌∷◌, length, Bool, true, false, List, IsTrue, refl, ap, sym, inl, inr, arith}
+use Rattle.std.proofs.Common.{◌≡◌, ℕ, ◌+◌, ◌-◌, ◌^◌, ◌<◌, ◌≤◌, ◌∙◌, [], ◌∷◌, length, Bool, true, false, List, IsTrue, refl, ap, sym, inl, inr, arith}
 use Rattle.std.specs.Prelude.{◌||◌, ◌↔◌}
-use Rattle.ge_model_rows.specs.EventRows.{Event}
 use Rattle.ge_model_batch.specs.Traced.{Traced}
 use Rattle.ge_spool.specs.Settled.{generation_of}
 use Rattle.ge_spool.specs.declared.spool.Spool.{Spool}
@@ -12,12 +11,7 @@ use Rattle.ge_master.specs.Handling.{KeepsTrace}
 pub stops-as : (before after stops : Bool) → before ≡ false → after ≡ (before || stops) → stops ≡ after
 stops-as before after stops going is = sym (is ∙ ap (λ s. s || stops) going)
 
--- a batch without events is the last
-pub none-left : (size : ℕ) (all batch rest : List Event) → all ≡ batch ++ rest → batch ≡ [] → (length batch ≡ size) ⊎ (rest ≡ []) → 0 < size → all ≡ []
-none-left size all batch rest split none (inl full) some = absurd (omega (arith, ap length none, full, some))
-none-left size all batch rest split none (inr last) some = split ∙ ap (λ xs. xs ++ rest) none ∙ last
-
--- another batch has an event
+-- a batch that isn't empty has an event
 pub not_empty : {X : Type 0} (t : Bool) (xs : List X) → (IsTrue t ↔ (xs ≡ [])) → t ≡ false → 0 < length xs
 not_empty t [] is lacks = absurd (never t (is.1 refl) lacks)
   where
@@ -39,7 +33,11 @@ kept-generation : (t : Traced) (old new : Spool) → KeepsTrace t old new → ge
 kept-generation t old new (inl same) = omega (arith, ap generation_of same.1)
 kept-generation t old new (inr is) = stored-generation _ old new _ _ is
 
--- each batch has an event, and raises the generation by one at most
-pub next-generation : (t : Traced) (old new : Spool) (first all rest after batch : ℕ) → KeepsTrace t old new → generation_of old + rest ≤ first + all → after + batch ≤ rest → 0 < batch
-    → generation_of new + after ≤ first + all
-next-generation t old new first all rest after batch kept so_far shorter some = omega (arith, kept-generation t old new kept, so_far, shorter, some)
+-- each batch takes a byte at least, and raises the generation by one at most
+pub next-generation : (t : Traced) (old new : Spool) (first given after batch : ℕ) → KeepsTrace t old new → generation_of old ≤ first + given → given + batch ≤ after → 0 < batch
+    → generation_of new ≤ first + after
+next-generation t old new first given after batch kept so_far on some = omega (arith, kept-generation t old new kept, so_far, on, some)
+
+-- and what is given stays below the limit of a script
+pub turns-left : (given count after batch : ℕ) → given ≤ count → count < 2 ^ 40 → 0 < batch → given + batch ≤ after → 2 ^ 40 - after < 2 ^ 40 - given
+turns-left given count after batch within below some on = omega (arith, within, below, some, on)

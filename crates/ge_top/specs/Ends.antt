@@ -5,7 +5,7 @@ use Rattle.ge_spool.specs.declared.faults.OpenFault.TheVariants as fault
 use Rattle.ge_master.specs.declared.faults.Stop.{Stop}
 use Rattle.ge_master.specs.declared.faults.Stop.TheVariants as stop
 use Rattle.ge_top.specs.declared.replaying.ReplayFault.{ReplayFault}
-use Rattle.ge_top.specs.declared.replaying.ReplayFault.TheVariants.{Stopped, Write, Memory}
+use Rattle.ge_top.specs.declared.replaying.ReplayFault.TheVariants.{Stopped, Read, Long, Write, Memory}
 
 -- the status where the master stopped
 abbrev pub StopsAs : Stop → ℕ → Type 0
@@ -25,6 +25,8 @@ OpensNoneAs fault.Memory status = status ≡ 10
 abbrev pub OnWritten : Result (Unit {0}) ReplayFault → Type 0 → Type 0
 OnWritten (Ok done) P = Unit {0}
 OnWritten (Err (Stopped s)) P = P
+OnWritten (Err Read) P = P
+OnWritten (Err Long) P = P
 OnWritten (Err Write) P = Unit {0}
 OnWritten (Err Memory) P = P
 
@@ -32,18 +34,22 @@ OnWritten (Err Memory) P = P
 abbrev pub OnCut : Result (Unit {0}) ReplayFault → Type 0 → Type 0
 OnCut (Ok done) P = Unit {0}
 OnCut (Err (Stopped s)) P = Unit {0}
+OnCut (Err Read) P = Unit {0}
+OnCut (Err Long) P = Unit {0}
 OnCut (Err Write) P = P
 OnCut (Err Memory) P = Unit {0}
 
--- an answer that blames an area or the output has a reason
-abbrev pub Blames : Result (Unit {0}) ReplayFault → Type 0 → Type 0 → Type 0
-Blames (Ok done) disks writes = Unit {0}
-Blames (Err (Stopped stop.Disk)) disks writes = disks
-Blames (Err (Stopped (stop.Full place))) disks writes = Unit {0}
-Blames (Err (Stopped stop.Spent)) disks writes = Unit {0}
-Blames (Err (Stopped stop.Dead)) disks writes = ⊥
-Blames (Err Write) disks writes = writes
-Blames (Err Memory) disks writes = Unit {0}
+-- an answer that blames an area, the input or the output has a reason
+abbrev pub Blames : Result (Unit {0}) ReplayFault → Type 0 → Type 0 → Type 0 → Type 0
+Blames (Ok done) disks reads writes = Unit {0}
+Blames (Err (Stopped stop.Disk)) disks reads writes = disks
+Blames (Err (Stopped (stop.Full place))) disks reads writes = Unit {0}
+Blames (Err (Stopped stop.Spent)) disks reads writes = Unit {0}
+Blames (Err (Stopped stop.Dead)) disks reads writes = ⊥
+Blames (Err Read) disks reads writes = reads
+Blames (Err Long) disks reads writes = Unit {0}
+Blames (Err Write) disks reads writes = writes
+Blames (Err Memory) disks reads writes = Unit {0}
 
 -- a fact where the master stopped since its cluster is too long
 abbrev pub OnFull : Result (Unit {0}) ReplayFault → Type 0 → Type 0
@@ -52,5 +58,24 @@ OnFull (Err (Stopped stop.Disk)) P = Unit {0}
 OnFull (Err (Stopped (stop.Full place))) P = P
 OnFull (Err (Stopped stop.Spent)) P = Unit {0}
 OnFull (Err (Stopped stop.Dead)) P = Unit {0}
+OnFull (Err Read) P = Unit {0}
+OnFull (Err Long) P = Unit {0}
 OnFull (Err Write) P = Unit {0}
 OnFull (Err Memory) P = Unit {0}
+
+-- A fact of how many bytes of the script were read: where it is too long, and where all that was read of it could be answered.
+abbrev pub OnLong : Result (Unit {0}) ReplayFault → Type 0 → Type 0
+OnLong (Ok done) P = Unit {0}
+OnLong (Err (Stopped s)) P = Unit {0}
+OnLong (Err Read) P = Unit {0}
+OnLong (Err Long) P = P
+OnLong (Err Write) P = Unit {0}
+OnLong (Err Memory) P = Unit {0}
+
+abbrev pub OnBelow : Result (Unit {0}) ReplayFault → Type 0 → Type 0
+OnBelow (Ok done) P = P
+OnBelow (Err (Stopped s)) P = P
+OnBelow (Err Read) P = Unit {0}
+OnBelow (Err Long) P = Unit {0}
+OnBelow (Err Write) P = P
+OnBelow (Err Memory) P = Unit {0}

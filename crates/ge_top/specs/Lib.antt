@@ -1,3 +1,7 @@
 pub mod Answering
+pub mod NextEvents
+pub mod Tallies
 pub mod Ends
 pub mod Shows
+pub mod Ledgers
+pub mod ServingAreas

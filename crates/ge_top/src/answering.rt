@@ -1,18 +1,20 @@
 // One event after the other.
-ghost use Rattle.std.specs.Prelude.{◌≡◌, [], ◌∷◌, IfOk, OnOk, IsErrOf, IsErr, Option, codes, false, ◌≤◌};
+ghost use Rattle.std.specs.Prelude.{◌≡◌, [], ◌∷◌, IfOk, OnOk, IfSome, IsErrOf, IsErr, Option, codes, false, ◌≤◌, ◌<◌};
+ghost use Rattle.ge_limits.specs.Limits.{script_bytes};
 ghost use Rattle.ge_outside.specs.Faults.{Rose};
 ghost use Rattle.ge_rows.specs.Opening.{opening_cluster};
 ghost use Rattle.ge_model_script.specs.Events.{events_of};
 ghost use Rattle.ge_model_core.specs.Plan.{plan_of};
 ghost use Rattle.ge_model_core.specs.Trace.{WroteAll, WroteReplies, WroteFront};
+ghost use Rattle.ge_model_top.specs.Simulating.{WroteToEnd, IfRead};
 ghost use Rattle.ge_rows.specs.declared.cluster.Cluster.{Cluster};
 ghost use Rattle.ge_rows.specs.declared.events.Event.{Event};
 ghost use Rattle.ge_top.specs.Answering.{bytes_of, IsAnswer};
 
 use ge_core::{apply, plan, render};
-use ge_outside::{Failed, Sink, write_all};
+use ge_outside::{Failed, Sink, Source, write_all};
 use ge_rows::{Cluster, Event, Text, opening};
-use ge_script::{next_request, read_event};
+use ge_script::{Script, ScriptFault};
 use std::alloc::{AllocError, Global};
 
 /// The reply to an event, rendered.
@@ -34,6 +36,10 @@ pub(crate) struct Answer {
 /// Why not all events were answered.
 #[derive(Clone, Copy, Debug, PartialEq, Eq)]
 pub(crate) enum AnswerFault {
+    /// A read failed.
+    Read,
+    /// As many bytes as a script may have were read, and the end was not among them.
+    Long,
     /// A write failed.
     Write,
     /// Memory ran out.
@@ -70,7 +76,6 @@ fn reply_bytes(reply: &Rendered) -> &[u8]
 }
 
 // The answer to any event that found no memory: nothing is changed.
-
 fn without_memory() -> Answer
     ensures { (c : Cluster) (event : Event) → IsAnswer c event result c }
 {
@@ -99,33 +104,55 @@ fn answer_event(alloc: Global, cluster: &mut Cluster, event: &Event) -> Result<A
     })
 }
 
-/// Answers the events of a script in order, from the opening cluster, and writes each reply.
-pub(crate) fn answer_script<K: Sink>(
+/// Answers the events of a script in order, from the opening cluster, and writes each reply before the next event is read.
+/// Behind an event that stops the master nothing more is read.
+pub(crate) fn answer_script<S: Source, K: Sink>(
     alloc: Global,
-    script: &[u8],
+    input: &mut S,
     output: &mut K,
 ) -> Result<(), AnswerFault>
-    ensures whole { OnOk result (WroteAll plan_of (K.written output.old) (K.written output.new)
-        opening_cluster (events_of script.now)) }
-    ensures memory { IsErrOf result AnswerFault.Memory
-        → WroteReplies plan_of (K.written output.old) (K.written output.new)
-        opening_cluster (events_of script.now) }
-    ensures front { WroteFront plan_of (K.written output.old) (K.written output.new)
-        opening_cluster (events_of script.now) }
+    ensures ended { OnOk result (IfSome (S.rest input.old) (λ script.
+        WroteToEnd (K.written output.old) (K.written output.new)
+        opening_cluster (events_of script) (S.rest input.new))) }
+    ensures unread { IsErrOf result AnswerFault.Read → IfSome (S.rest input.old) (λ script.
+        WroteReplies plan_of (K.written output.old) (K.written output.new)
+        opening_cluster (events_of script)) }
+    ensures too_long { IsErrOf result AnswerFault.Long → IfSome (S.rest input.old) (λ script.
+        WroteReplies plan_of (K.written output.old) (K.written output.new)
+        opening_cluster (events_of script)) }
+    ensures memory { IsErrOf result AnswerFault.Memory → IfSome (S.rest input.old) (λ script.
+        WroteReplies plan_of (K.written output.old) (K.written output.new)
+        opening_cluster (events_of script)) }
+    ensures front { IfSome (S.rest input.old) (λ script.
+        WroteFront plan_of (K.written output.old) (K.written output.new)
+        opening_cluster (events_of script)) }
+    ensures long { IsErrOf result AnswerFault.Long
+        → IfRead (S.rest input.old) (S.rest input.new) (λ count. script_bytes ≤ count) }
+    ensures below { OnOk result
+        (IfRead (S.rest input.old) (S.rest input.new) (λ count. count < script_bytes)) }
+    ensures below_cut { IsErrOf result AnswerFault.Write
+        → IfRead (S.rest input.old) (S.rest input.new) (λ count. count < script_bytes) }
+    ensures read { IsErrOf result AnswerFault.Read
+        → Rose (S.read_faults input.old) (S.read_faults input.new) }
     ensures write { IsErrOf result AnswerFault.Write
         → Rose (K.write_faults output.old) (K.write_faults output.new) }
+    ensures read_later { S.read_faults input.old ≤ S.read_faults input.new }
     ensures later { K.write_faults output.old ≤ K.write_faults output.new }
 {
+    let mut script = Script::new(alloc)?;
     let mut cluster = opening(alloc)?;
-    let mut rest = script;
-    'events: while let Some((request, after)) = next_request(rest) {
-        let event = read_event(alloc, request)?;
+    'events: loop {
+        let event = match script.next(input) {
+            Ok(Some(event)) => event,
+            Ok(None) => return Ok(()),
+            Err(ScriptFault::Read) => return Err(AnswerFault::Read),
+            Err(ScriptFault::Long) => return Err(AnswerFault::Long),
+            Err(ScriptFault::Memory) => return Err(AnswerFault::Memory),
+        };
         let answer = answer_event(alloc, &mut cluster, &event)?;
         write_all(output, reply_bytes(&answer.reply))?;
         if answer.stop {
             return Ok(());
         }
-        rest = after;
     }
-    Ok(())
 }

@@ -1,36 +1,49 @@
 // The events of a script, some at a time.
-ghost use Rattle.std.specs.Prelude.{◌≡◌, ◌⊎◌, ◌+◌, ◌<◌, ◌≤◌, ◌++◌, [], length, IfOk};
-ghost use Rattle.ge_model_script.specs.Events.{events_of};
+ghost use Rattle.std.specs.Prelude.{◌≡◌, ◌⊎◌, ◌+◌, ◌≤◌, length, IfOk, OnOk, IsErrOf};
+ghost use Rattle.ge_limits.specs.Limits.{script_bytes};
+ghost use Rattle.ge_outside.specs.Faults.{Rose};
+ghost use Rattle.ge_script.specs.Pieces.{coming, given_count, read_count, total_count, IsOver};
+ghost use Rattle.ge_top.specs.NextEvents.{GivesSome, HasNoMore};
 
+use ge_outside::Source;
 use ge_rows::{Event, List};
-use ge_script::{next_request, read_event};
-use std::alloc::{AllocError, Global};
+use ge_script::{Script, ScriptFault};
+use std::alloc::Global;
 
-/// The first events of a script, at most so many, and the script after them. They are fewer only where the script has no more.
-pub(crate) fn next_batch(
+/// The next events of a script, at most so many. They are fewer only where the script has no more. After a fault the script
+/// is given up.
+pub(crate) fn next_batch<S: Source>(
     alloc: Global,
-    script: &[u8],
+    script: &mut Script,
+    input: &mut S,
     most: usize,
-) -> Result<(List<Event>, &[u8]), AllocError>
-    requires { 0 < most }
-    ensures events { IfOk result
-        (λ parts. events_of script.now ≡ parts.0 ++ events_of parts.1.now) }
-    ensures few { IfOk result (λ parts. length parts.0 ≤ most) }
-    ensures all { IfOk result (λ parts. (length parts.0 ≡ most) ⊎ (events_of parts.1.now ≡ [])) }
-    ensures shorter { IfOk result
-        (λ parts. length parts.1.now + length parts.0 ≤ length script.now) }
+) -> Result<List<Event>, ScriptFault>
+    requires { IsOver script.old (S.rest input.old) }
+    ensures gives { IfOk result (λ events. GivesSome (coming script.old (S.rest input.old))
+        (coming script.new (S.rest input.new)) events) }
+    ensures few { IfOk result (λ events. length events ≤ most) }
+    ensures all { IfOk result (λ events. (length events ≡ most)
+        ⊎ HasNoMore (coming script.new (S.rest input.new)) (S.rest input.new)) }
+    ensures goes_on { IfOk result (λ events. length events ≡ most
+        → given_count script.old + most ≤ given_count script.new) }
+    ensures over { OnOk result (IsOver script.new (S.rest input.new)) }
+    ensures total { OnOk result
+        (total_count script.new (S.rest input.new) ≡ total_count script.old (S.rest input.old)) }
+    ensures long { IsErrOf result ScriptFault.Long → script_bytes ≤ read_count script.new }
+    ensures long_total { IsErrOf result ScriptFault.Long
+        → total_count script.new (S.rest input.new) ≡ total_count script.old (S.rest input.old) }
+    ensures later { S.read_faults input.old ≤ S.read_faults input.new }
+    ensures fault { IsErrOf result ScriptFault.Read
+        → Rose (S.read_faults input.old) (S.read_faults input.new) }
 {
     let mut events = List::new(alloc);
-    let mut rest = script;
     'taking: while events.len() < most {
-        match next_request(rest) {
-            Some((request, after)) => {
-                let event = read_event(alloc, request)?;
-                events.push(event)?;
-                rest = after;
-            }
-            None => return Ok((events, rest)),
-        }
+        let event = match script.next(input) {
+            Ok(Some(event)) => event,
+            Ok(None) => return Ok(events),
+            Err(fault) => return Err(fault),
+        };
+        events.push(event)?;
     }
-    Ok((events, rest))
+    Ok(events)
 }

@@ -3,12 +3,15 @@ ghost use Rattle.std.specs.Prelude.{◌<◌};
 ghost use Rattle.ge_model_replay.specs.View.{view_of};
 ghost use Rattle.ge_model_replay.specs.Replaying.{ReplaysAreas};
 ghost use Rattle.ge_model_replay.specs.Showing.{ShowsAreas};
+ghost use Rattle.ge_master.specs.Areas.{areas_of};
+ghost use Rattle.ge_top.specs.ServingAreas.{ServesAreas};
 
 use crate::replaying::replay;
 use crate::showing::show;
 use crate::statuses::status_of_fault;
 use ge_master::Master;
-use ge_outside::{Disk, Sink, Source};
+use ge_outside::{Clock, Disk, Door, Sink, Source};
+use ge_serve::serve;
 use std::alloc::Global;
 
 /// Opens the two areas and replays a script over them.
@@ -45,6 +48,28 @@ pub(crate) fn show_areas<K: Sink, D: Disk>(
 {
     match Master::open(alloc, a, b) {
         Ok(master) => show(alloc, &master, output),
+        Err(fault) => status_of_fault(&fault),
+    }
+}
+
+/// Opens the two areas and serves connections of a door over them.
+pub(crate) fn serve_areas<D: Disk, L: Door, C: Clock>(
+    alloc: Global,
+    a: &mut D,
+    b: &mut D,
+    door: &mut L,
+    clock: &mut C,
+    count: u32,
+) -> u8
+    ensures { ServesAreas count result
+        (areas_of D.told D.syncs D.disk_faults a.old b.old)
+        (areas_of D.told D.syncs D.disk_faults a.new b.new)
+        (L.coming door.old) (L.coming door.new) (L.closed door.old) (L.closed door.new)
+        (C.answers clock.old) (C.answers clock.new)
+        (L.door_faults door.old) (L.door_faults door.new) }
+{
+    match Master::open(alloc, a, b) {
+        Ok(mut master) => serve(alloc, &mut master, a, b, door, clock, count),
         Err(fault) => status_of_fault(&fault),
     }
 }

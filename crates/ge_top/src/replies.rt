@@ -3,9 +3,8 @@ ghost use Rattle.std.specs.Prelude.{◌≡◌, ◌≤◌, ◌++◌, flat_map, If
 ghost use Rattle.ge_model_core.specs.Render.{rendered};
 ghost use Rattle.ge_outside.specs.Faults.{Rose};
 ghost use Rattle.ge_outside.specs.Streams.{Gains, GainsPrefix};
-ghost use Rattle.ge_top.specs.declared.answering.AnswerFault.TheVariants.{Write, Memory};
 
-use crate::answering::AnswerFault;
+use crate::writing::WriteFault;
 use ge_core::render;
 use ge_outside::{Sink, write_all};
 use ge_rows::{List, Reply, Text};
@@ -33,13 +32,13 @@ pub(crate) fn write_replies<K: Sink>(
     alloc: Global,
     replies: &List<Reply>,
     output: &mut K,
-) -> Result<(), AnswerFault>
+) -> Result<(), WriteFault>
     ensures whole { OnOk result (Gains (K.written output.old) (K.written output.new)
         (flat_map rendered replies.now)) }
     ensures front { GainsPrefix (K.written output.old) (K.written output.new)
         (flat_map rendered replies.now) }
-    ensures none { IsErrOf result AnswerFault.Memory → K.written output.new ≡ K.written output.old }
-    ensures fault { IsErrOf result AnswerFault.Write
+    ensures none { IsErrOf result WriteFault.Memory → K.written output.new ≡ K.written output.old }
+    ensures fault { IsErrOf result WriteFault.Write
         → Rose (K.write_faults output.old) (K.write_faults output.new) }
     ensures later { K.write_faults output.old ≤ K.write_faults output.new }
 {

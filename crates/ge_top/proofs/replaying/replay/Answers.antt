@@ -1,21 +1,27 @@
-use Rattle.std.proofs.Common.{refl, ap, Err, arith}
-use Rattle.ge_top.proofs.Images.{home-images}
-use Rattle.ge_top.proofs.Replayed.{replay-done-slice, unread-long, unread-fault, unread-no-memory}
+use Rattle.ge_top.proofs.Replayed.{replay-done, replay-stopped, replay-unread, replay-long, replay-cut, replay-no-memory}
 use Rattle.ge_top.proofs.replaying.replay.Goals as goal
 
-pub returns-in-Ok-answer_batches : goal.returns-in-Ok-answer_batches
-returns-in-Ok-answer_batches g c =
-    replay-done-slice _ _ _ _ _ _ _ _ _ _ c.in-Ok.script.items c.as_slice.result.now c.as_slice.ensures.value c.in-Ok.ensures.whole (omega (arith, c.in-Ok.script.ok, c.in-Ok.ensures.below)) c.in-Ok.ensures.ended c.in-Ok-answer_batches.ensures.all
+pub returns-in-Ok : goal.returns-in-Ok
+returns-in-Ok g c = replay-done _ _ _ _ _ _ _ _ _ _ c.in-Ok.ensures.all c.in-Ok.ensures.below
+
+pub returns-in-Err-Stopped : goal.returns-in-Err-Stopped
+returns-in-Err-Stopped g c =
+    replay-stopped _ _ _ _ _ _ _ _ _ _ c.in-Err-Stopped.stop _ c.status_of_stop.ensures (rw c.in-Err-Stopped.field-0-is at c.in-Err-Stopped.ensures.part)
+    (rw c.in-Err-Stopped.field-0-is at c.in-Err-Stopped.ensures.below) (rw c.in-Err-Stopped.field-0-is at c.in-Err-Stopped.ensures.full) _ _
+    (rw c.in-Err-Stopped.field-0-is at c.in-Err-Stopped.ensures.blames)
 
 pub returns-in-Err-Read : goal.returns-in-Err-Read
 returns-in-Err-Read g c =
-    unread-fault _ _ _ _ _ _ _ _ _ _ c.requires.some (λ at_home. home-images _ _ at_home) refl (omega arith)
-    (c.in-Err-Read.ensures.fault (ap (λ f. Err f) c.in-Err-Read.field-0-is))
+    replay-unread _ _ _ _ _ _ _ _ _ _ (rw c.in-Err-Read.field-0-is at c.in-Err-Read.ensures.part) (rw c.in-Err-Read.field-0-is at c.in-Err-Read.ensures.blames)
 
 pub returns-in-Err-Long : goal.returns-in-Err-Long
 returns-in-Err-Long g c =
-    unread-long _ _ _ _ _ _ _ _ _ _ c.requires.some (λ at_home. home-images _ _ at_home) refl (omega arith)
-    (c.in-Err-Long.ensures.long (ap (λ f. Err f) c.in-Err-Long.field-0-is))
+    replay-long _ _ _ _ _ _ _ _ _ _ (rw c.in-Err-Long.field-0-is at c.in-Err-Long.ensures.part) (rw c.in-Err-Long.field-0-is at c.in-Err-Long.ensures.long)
 
-pub returns : goal.returns
-returns g c = unread-no-memory _ _ _ _ _ _ _ _ _ _ c.requires.some (λ at_home. home-images _ _ at_home) refl (omega arith)
+pub returns-in-Err-Write : goal.returns-in-Err-Write
+returns-in-Err-Write g c =
+    replay-cut _ _ _ _ _ _ _ _ _ _ (rw c.in-Err-Write.field-0-is at c.in-Err-Write.ensures.cut) (rw c.in-Err-Write.field-0-is at c.in-Err-Write.ensures.below)
+    (rw c.in-Err-Write.field-0-is at c.in-Err-Write.ensures.blames)
+
+pub returns-in-Err-Memory : goal.returns-in-Err-Memory
+returns-in-Err-Memory g c = replay-no-memory _ _ _ _ _ _ _ _ _ _ (rw c.in-Err-Memory.field-0-is at c.in-Err-Memory.ensures.part)

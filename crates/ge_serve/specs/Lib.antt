@@ -1,0 +1,4 @@
+pub mod Leaving
+pub mod Replies
+pub mod Ends
+pub mod Serves

@@ -1,0 +1,16 @@
+//! A running master answers connections: each frame that comes is a request, handled as one batch with the scheduling run that may
+//! be due before it, and its reply is written once what was changed stands in the areas.
+//!
+//! - [`serve_link`]: one connection, up to its end.
+//! - [`serve`]: connections of a door, one after the other.
+#![tactic(auto)]
+
+mod answering;
+mod linking;
+mod moments;
+mod serving;
+mod statuses;
+
+pub use ge_model_serve::LinkEnd;
+pub use linking::serve_link;
+pub use serving::serve;
