@@ -1,61 +1,26 @@
-// Six records and two snapshots are written, and each call of a disk fails in turn.
-ghost use Rattle.std.specs.Prelude.{◌<◌, ◌-◌, ◌^◌};
-ghost use Rattle.ge_outside.specs.MemoryDisks.{disk_told};
-ghost use Rattle.ge_spool.specs.Settled.{KeepsRoom};
+//! Six records and two snapshots are written, where a call of one of the areas fails.
 
+use crate::areas::{cut, number};
+use crate::steps::{Step, make_steps};
 use ge_collections::Text;
 use ge_outside::MemDisk;
-use ge_spool::{Raw, RecordBytes, SnapshotBytes, Spool, WRITTEN_FORMAT};
+use ge_spool::{Raw, Spool};
 use std::alloc::{AllocError, Global};
-use std::test::Fail;
 
 // The bytes of the record or the snapshot that a step writes.
 fn body(alloc: Global, step: u8) -> Result<Text, AllocError> {
     Text::from_bytes(alloc, &[step, 200])
 }
 
-// Whether a step is a compaction.
-fn is_compaction(step: u8) -> bool {
-    step == 3 || step == 7
-}
-
-// Makes a step, and says whether it was acknowledged.
-fn make_step(
-    alloc: Global,
-    spool: &mut Spool,
-    a: &mut MemDisk,
-    b: &mut MemDisk,
-    step: u8,
-) -> Result<bool, AllocError>
-    requires { KeepsRoom spool.old (disk_told a.old) (disk_told b.old) }
-    ensures { KeepsRoom spool.new (disk_told a.new) (disk_told b.new) }
-{
-    if is_compaction(step) {
-        let mut snapshot = SnapshotBytes::new(alloc, &body(alloc, step)?)?;
-        if spool.generation() == u64::MAX {
-            return Ok(false);
-        }
-        return Ok(spool.compact(a, b, &mut snapshot).is_ok());
-    }
-    let text = body(alloc, step)?;
-    if text.is_empty() || text.len() > 9 || spool.format() != WRITTEN_FORMAT {
-        return Ok(false);
-    }
-    let record = RecordBytes::new(alloc, &text)?;
-    Ok(spool.append(a, b, &record).is_ok())
-}
-
-// Opens the areas and makes eight steps, up to one that fails. It says how many were acknowledged.
-fn make_steps(alloc: Global, a: &mut MemDisk, b: &mut MemDisk) -> Result<u8, AllocError> {
-    let Ok((mut spool, _)) = Spool::open(alloc, a, b) else {
-        return Ok(0);
-    };
+fn all_steps(alloc: Global) -> Result<Vec<Step>, AllocError> {
+    let mut steps = Vec::new(alloc);
     for step in 0..8u8 {
-        if !make_step(alloc, &mut spool, a, b, step)? {
-            return Ok(step);
-        }
+        steps.push(Step {
+            is_compaction: step == 3 || step == 7,
+            body: body(alloc, step)?,
+        })?;
     }
-    Ok(8)
+    Ok(steps)
 }
 
 // Whether this is what stands after so many steps.
@@ -124,71 +89,19 @@ fn run(
 ) -> Result<(u8, bool), AllocError> {
     let mut a = MemDisk::new(alloc, Vec::new(alloc), [fails_a].to_vec(alloc)?);
     let mut b = MemDisk::new(alloc, Vec::new(alloc), [fails_b].to_vec(alloc)?);
-    let steps = make_steps(alloc, &mut a, &mut b)?;
-    let stands = images_stand(alloc, &a, &b, steps, next_may_stand)?;
-    Ok((steps, stands))
+    let steps = all_steps(alloc)?;
+    let (count, _) = make_steps(alloc, &mut a, &mut b, steps.as_slice())?;
+    let stands = images_stand(alloc, &a, &b, count, next_may_stand)?;
+    Ok((count, stands))
 }
 
-// Calls of an area, from one to another: how many steps are acknowledged where one of them fails, and whether
-// the next step may stand then. It may at the write and the sync of its gate alone.
-type Row = (u64, u64, u8, bool);
-
-// The first area is opened by nine calls, gets three records by four calls each, and at last a snapshot by six.
-const FIRST_AREA: &'static [Row] = &[
-    (1, 9, 0, false),
-    (10, 11, 0, false),
-    (12, 13, 0, true),
-    (14, 15, 1, false),
-    (16, 17, 1, true),
-    (18, 19, 2, false),
-    (20, 21, 2, true),
-    (22, 25, 7, false),
-    (26, 27, 7, true),
-    (28, 32, 8, false),
-];
-
-// The second is opened by five calls, gets a snapshot by four, since it was closed, and three records.
-const SECOND_AREA: &'static [Row] = &[
-    (1, 5, 0, false),
-    (6, 7, 3, false),
-    (8, 9, 3, true),
-    (10, 11, 4, false),
-    (12, 13, 4, true),
-    (14, 15, 5, false),
-    (16, 17, 5, true),
-    (18, 19, 6, false),
-    (20, 21, 6, true),
-    (22, 26, 8, false),
-];
-
-#[test]
-fn all_steps_are_made(rt: HostRuntime) -> Result<(), Fail> {
-    let (steps, stands) = run(rt.alloc(), 0, 0, false)?;
-    assert_eq!(rt; steps, 8);
-    assert!(rt; stands);
-    Ok(())
-}
-
-#[test]
-fn each_call_of_the_first_area_fails(rt: HostRuntime) -> Result<(), Fail> {
-    for (first, last, acknowledged, next_may_stand) in FIRST_AREA {
-        for call in *first..=*last {
-            let (steps, stands) = run(rt.alloc(), call, 0, *next_may_stand)?;
-            assert_eq!(rt; steps, *acknowledged, "call {call}");
-            assert!(rt; stands, "call {call}");
-        }
-    }
-    Ok(())
-}
-
-#[test]
-fn each_call_of_the_second_area_fails(rt: HostRuntime) -> Result<(), Fail> {
-    for (first, last, acknowledged, next_may_stand) in SECOND_AREA {
-        for call in *first..=*last {
-            let (steps, stands) = run(rt.alloc(), 0, call, *next_may_stand)?;
-            assert_eq!(rt; steps, *acknowledged, "call {call}");
-            assert!(rt; stands, "call {call}");
-        }
-    }
-    Ok(())
+/// How many steps are acknowledged where these calls of the two areas fail, and whether what a stop leaves is that, or one
+/// step more where the last word is `more`.
+pub(crate) fn answer(alloc: Global, given: &[u8]) -> Result<Text, AllocError> {
+    let (fails_a, rest) = cut(b'|', given);
+    let (fails_b, word) = cut(b'|', rest);
+    let is_more = word == b"more".as_slice();
+    let (count, stands) = run(alloc, number(fails_a), number(fails_b), is_more)?;
+    let word: &str = if stands { "stands" } else { "is lost" };
+    Text::from_bytes(alloc, format!(in alloc; "{count} {word}")?.as_bytes())
 }

@@ -1,115 +1,96 @@
-// Who may, in one cluster: ann is a manager, bob an operator, and two user sets have users and groups.
+//! Who may, in one cluster: ann is a manager, bob an operator, and two user sets have users and groups.
+
+use crate::is_named;
+use crate::values::yes_or_no;
 use ge_access::{in_set, in_sets, is_manager, is_operator, may_use};
-use ge_pieces::pieces;
+use ge_pieces::{before, behind, pieces};
 use ge_rows::{Cluster, List, Text, opening};
 use std::alloc::{AllocError, Global};
-use std::test::Fail;
 
 // What commas part; nothing where the text is empty.
-fn names(alloc: Global, text: &str) -> Result<List<Text>, AllocError> {
+fn names(alloc: Global, text: &[u8]) -> Result<List<Text>, AllocError> {
     if text.is_empty() {
         Ok(List::new(alloc))
     } else {
-        pieces(alloc, b',', text.as_bytes())
+        pieces(alloc, b',', text)
     }
 }
 
-fn put_set(alloc: Global, c: &mut Cluster, name: &str, entries: &str) -> Result<(), AllocError> {
+fn put_set(alloc: Global, c: &mut Cluster, name: &[u8], entries: &[u8]) -> Result<(), AllocError> {
     let entries = names(alloc, entries)?;
-    c.sets
-        .insert(Text::from_bytes(alloc, name.as_bytes())?, entries)?;
+    c.sets.insert(Text::from_bytes(alloc, name)?, entries)?;
     Ok(())
 }
 
 fn cluster(alloc: Global) -> Result<Cluster, AllocError> {
     let mut c = opening(alloc)?;
-    c.managers = names(alloc, "ann")?;
-    c.operators = names(alloc, "bob")?;
-    put_set(alloc, &mut c, "staff", "cleo,@dev")?;
-    put_set(alloc, &mut c, "guests", "dan,@cleo")?;
+    c.managers = names(alloc, b"ann")?;
+    c.operators = names(alloc, b"bob")?;
+    put_set(alloc, &mut c, b"staff", b"cleo,@dev")?;
+    put_set(alloc, &mut c, b"guests", b"dan,@cleo")?;
     Ok(c)
 }
 
-// Whether a user is a manager, and an operator.
-fn roles(alloc: Global, c: &Cluster, user: &str) -> Result<(bool, bool), AllocError> {
-    let user = Text::from_bytes(alloc, user.as_bytes())?;
-    Ok((is_manager(c, &user), is_operator(c, &user)))
+// Two answers, with a comma between.
+fn both(alloc: Global, first: bool, second: bool) -> Result<Text, AllocError> {
+    let mut line = yes_or_no(alloc, first)?;
+    line.append(b", ")?;
+    line.append(yes_or_no(alloc, second)?.bytes())?;
+    Ok(line)
 }
 
-// Whether lists and excluding lists admit a user of a group.
-fn is_admitted(
+// Whether a user is a manager, and an operator.
+fn roles(alloc: Global, c: &Cluster, user: &[u8]) -> Result<Text, AllocError> {
+    let user = Text::from_bytes(alloc, user)?;
+    both(alloc, is_manager(c, &user), is_operator(c, &user))
+}
+
+// Whether a user of a group is in a set, asked both ways.
+fn member(
     alloc: Global,
     c: &Cluster,
-    who: (&str, &str),
-    lists: (&str, &str),
-) -> Result<bool, AllocError> {
-    let user = Text::from_bytes(alloc, who.0.as_bytes())?;
-    let group = Text::from_bytes(alloc, who.1.as_bytes())?;
-    let xlists = names(alloc, lists.1)?;
-    let lists = names(alloc, lists.0)?;
-    Ok(may_use(c, &lists, &xlists, &user, &group))
-}
-
-// Whether one set has a user of a group, asked both ways.
-fn is_member(alloc: Global, c: &Cluster, set: &str, who: (&str, &str)) -> Result<bool, AllocError> {
-    let user = Text::from_bytes(alloc, who.0.as_bytes())?;
-    let group = Text::from_bytes(alloc, who.1.as_bytes())?;
+    user: &[u8],
+    group: &[u8],
+    set: &[u8],
+) -> Result<Text, AllocError> {
+    let user = Text::from_bytes(alloc, user)?;
+    let group = Text::from_bytes(alloc, group)?;
     let sets = names(alloc, set)?;
-    let set = Text::from_bytes(alloc, set.as_bytes())?;
-    Ok(in_set(c, &set, &user, &group) && in_sets(c, sets.items(), &user, &group))
+    let set = Text::from_bytes(alloc, set)?;
+    both(
+        alloc,
+        in_set(c, &set, &user, &group),
+        in_sets(c, sets.items(), &user, &group),
+    )
 }
 
-#[test]
-fn roles_of_users(rt: HostRuntime) -> Result<(), Fail> {
-    let c = cluster(rt.alloc())?;
-    let rows = [
-        ("ann", (true, true)),
-        ("bob", (false, true)),
-        ("cleo", (false, false)),
-    ];
-    for (user, wanted) in rows {
-        assert!(rt; roles(rt.alloc(), &c, user)? == wanted, "{user}");
-    }
-    Ok(())
+// Whether lists and excluding lists, with a bar between, admit a user of a group.
+fn admitted(
+    alloc: Global,
+    c: &Cluster,
+    user: &[u8],
+    group: &[u8],
+    lists: &[u8],
+) -> Result<Text, AllocError> {
+    let user = Text::from_bytes(alloc, user)?;
+    let group = Text::from_bytes(alloc, group)?;
+    let xlists = names(alloc, behind(b'|', lists))?;
+    let lists = names(alloc, before(b'|', lists))?;
+    yes_or_no(alloc, may_use(c, &lists, &xlists, &user, &group))
 }
 
-#[test]
-fn members_of_sets(rt: HostRuntime) -> Result<(), Fail> {
-    let c = cluster(rt.alloc())?;
-    let rows = [
-        ("staff", ("cleo", "ops"), true),
-        ("staff", ("ann", "dev"), true),
-        ("staff", ("dev", "ops"), false),
-        ("guests", ("cleo", "ops"), false),
-        ("guests", ("ann", "cleo"), true),
-        ("nosuch", ("ann", "dev"), false),
-    ];
-    for (set, who, wanted) in rows {
-        assert!(rt; is_member(rt.alloc(), &c, set, who)? == wanted, "{set}");
-    }
-    Ok(())
-}
-
-#[test]
-fn users_whom_lists_admit(rt: HostRuntime) -> Result<(), Fail> {
-    let c = cluster(rt.alloc())?;
-    let rows = [
-        (("ann", "ops"), ("", ""), true),
-        (("ann", "ops"), ("staff", ""), false),
-        (("ann", "dev"), ("staff", ""), true),
-        (("cleo", "ops"), ("guests,staff", ""), true),
-        (("cleo", "ops"), ("", "staff"), false),
-        (("dan", "dev"), ("guests", "staff"), false),
-        (("dan", "ops"), ("guests", "staff"), true),
-        (("dan", "ops"), ("nosuch", ""), false),
-        (("dan", "ops"), ("", "nosuch"), true),
-    ];
-    for (who, lists, wanted) in rows {
-        assert!(rt;
-            is_admitted(rt.alloc(), &c, who, lists)? == wanted,
-            "{}",
-            who.0
-        );
-    }
-    Ok(())
+/// The answer of a call of this name, if it is one of these.
+pub(crate) fn answer(alloc: Global, name: &[u8], given: &[u8]) -> Result<Option<Text>, AllocError> {
+    let (user, rest) = (before(b'|', given), behind(b'|', given));
+    let (group, rest) = (before(b'|', rest), behind(b'|', rest));
+    let text = if is_named(name, b"roles") {
+        roles(alloc, &cluster(alloc)?, user)?
+    } else if is_named(name, b"member") {
+        member(alloc, &cluster(alloc)?, user, group, rest)?
+    } else if is_named(name, b"may_use") {
+        admitted(alloc, &cluster(alloc)?, user, group, rest)?
+    } else {
+        return Ok(None)
+    };
+    Ok(Some(text))
 }

@@ -1,14 +1,15 @@
-// The options of jobs read, and what refuses them.
+//! The options of jobs read, and what refuses them.
+
+use crate::is_named;
 use ge_base::{Refusal, code};
 use ge_complex::pair_text;
-use ge_pieces::join;
+use ge_pieces::{before, behind, digits_worth, join};
 use ge_request::{change_request, read_request};
 use ge_rows::{
     Allocation, Cluster, ComplexDef, Consumable, Kind, List, Options, PeRow, Relop, Request,
     Requestable, Text, UrgencySlots, Value, opening,
 };
 use std::alloc::{AllocError, Global};
-use std::test::Fail;
 
 fn cluster(alloc: Global) -> Result<Cluster, AllocError> {
     let mut c = opening(alloc)?;
@@ -23,32 +24,38 @@ fn cluster(alloc: Global) -> Result<Cluster, AllocError> {
     Ok(c)
 }
 
+// An option with a word and perhaps a second, left out where the last of them is empty.
 fn give(
     alloc: Global,
     options: &mut Options,
-    name: &str,
-    words: &[&str],
+    name: &[u8],
+    words: &[&[u8]],
 ) -> Result<(), AllocError> {
     let mut texts = List::new(alloc);
     for word in words {
         if word.is_empty() {
             return Ok(());
         }
-        texts.push(Text::from_bytes(alloc, word.as_bytes())?)?;
+        texts.push(Text::from_bytes(alloc, word)?)?;
     }
-    options
-        .items
-        .push((Text::from_bytes(alloc, name.as_bytes())?, texts))
+    options.items.push((Text::from_bytes(alloc, name)?, texts))
 }
 
-// `-l`, `-q` and the two words of `-pe`, each left out where it is empty.
-fn options(alloc: Global, words: &[&str; 5]) -> Result<Options, AllocError> {
+// `-l`, `-q` and the two words of `-pe`, with bars between, each left out where it is empty.
+fn options(alloc: Global, given: &[u8]) -> Result<Options, AllocError> {
     let mut options = Options {
         items: List::new(alloc),
     };
-    give(alloc, &mut options, "-l", &[words[0]])?;
-    give(alloc, &mut options, "-q", &[words[1]])?;
-    give(alloc, &mut options, "-pe", &[words[2], words[3]])?;
+    let (asked, rest) = (before(b'|', given), behind(b'|', given));
+    let (queues, rest) = (before(b'|', rest), behind(b'|', rest));
+    give(alloc, &mut options, b"-l", &[asked])?;
+    give(alloc, &mut options, b"-q", &[queues])?;
+    give(
+        alloc,
+        &mut options,
+        b"-pe",
+        &[before(b'|', rest), behind(b'|', rest)],
+    )?;
     Ok(options)
 }
 
@@ -70,10 +77,7 @@ fn append_asked(
 fn append_range(alloc: Global, line: &mut Text, request: &Request) -> Result<(), AllocError> {
     if let Some(pe) = &request.pe {
         line.append(pe.name.bytes())?;
-        line.append(b" ")?;
-        line.append(pe.low.to_string(alloc)?.as_bytes())?;
-        line.append(b"-")?;
-        line.append(pe.high.to_string(alloc)?.as_bytes())?;
+        line.append(format!(in alloc; " {}-{}", pe.low, pe.high)?.as_bytes())?;
     }
     Ok(())
 }
@@ -97,97 +101,22 @@ fn shown(alloc: Global, c: &Cluster, answer: Result<Request, Refusal>) -> Result
     }
 }
 
-fn is_answered(alloc: Global, c: &Cluster, row: &[&str; 5]) -> Result<bool, AllocError> {
-    let line = shown(alloc, c, read_request(alloc, c, &options(alloc, row)?))?;
-    Ok(line.bytes() == row[4].as_bytes())
+fn read(alloc: Global, c: &Cluster, given: &[u8]) -> Result<Text, AllocError> {
+    let options = options(alloc, given)?;
+    shown(alloc, c, read_request(alloc, c, &options))
 }
 
-// The words of `-l`, `-q` and `-pe`, and what is answered.
-fn rows() -> [[&'static str; 5]; 28] {
-    [
-        [
-            "h_rt=1:0:0,mf=2G",
-            "all.q@@big,*@local",
-            "mpi",
-            "2-4",
-            "h_rt=1:0:0,mem_free=2147483648;all.q@@big,*@local;mpi 2-4",
-        ],
-        [
-            "s_rt=10,h_rt=5,s_rt=20",
-            "",
-            "",
-            "",
-            "h_rt=0:0:5,s_rt=0:0:20;;",
-        ],
-        ["h=Node1,hostname=node2", "", "", "", "hostname=node2;;"],
-        ["a=lx*", "all.q,", "", "", "arch=lx*;all.q,;"],
-        ["", "", "mpi", "3", ";;mpi 3-3"],
-        ["", "", "mpi", "-3", ";;mpi 1-3"],
-        ["", "", "mpi", "7-", ";;mpi 7-1000000"],
-        ["", "", "", "", ";;"],
-        ["nosuch=1", "", "", "", "14"],
-        ["h_rt=x", "", "", "", "18"],
-        ["h_rt", "", "", "", "18"],
-        ["slots=2", "", "", "", "18"],
-        ["s=2", "", "", "", "18"],
-        ["la=1", "", "", "", "19"],
-        ["load_avg=x", "", "", "", "18"],
-        ["la=1,h_rt=x", "", "", "", "18"],
-        ["h_rt=x,h_rt=1", "", "", "", "18"],
-        ["h_rt=x,nosuch", "", "", "", "14"],
-        [",h_rt=1", "", "", "", "14"],
-        ["", "", "nope", "1", "14"],
-        ["", "", "nope", "0", "14"],
-        ["", "", "mpi", "0", "18"],
-        ["", "", "mpi", "0-3", "18"],
-        ["", "", "mpi", "4-3", "18"],
-        ["", "", "mpi", "1-1000001", "18"],
-        ["", "", "mpi", "99999999999999999999999", "18"],
-        ["la=1", "", "mpi", "4-3", "18"],
-        ["la=1", "", "nope", "4", "14"],
-    ]
+fn changed(alloc: Global, c: &Cluster, older: &Request, given: &[u8]) -> Result<Text, AllocError> {
+    let options = options(alloc, given)?;
+    shown(alloc, c, change_request(alloc, c, &options, older))
 }
 
-#[test]
-fn requests_of_options(rt: HostRuntime) -> Result<(), Fail> {
-    let c = cluster(rt.alloc())?;
-    for row in rows() {
-        assert!(rt; is_answered(rt.alloc(), &c, &row)?, "{} {}", row[0], row[3]);
+// A request of one hour in all.q on two slots of mpi, changed by the options.
+fn change(alloc: Global, c: &Cluster, given: &[u8]) -> Result<Text, AllocError> {
+    match read_request(alloc, c, &options(alloc, b"h_rt=60|all.q|mpi|2")?) {
+        Ok(older) => changed(alloc, c, &older, given),
+        Err(_) => Text::from_bytes(alloc, b"no request"),
     }
-    Ok(())
-}
-
-// Whether the first row's request, changed by the options of the second, is answered as that row says.
-fn is_changed(
-    alloc: Global,
-    c: &Cluster,
-    first: &[&str; 5],
-    row: &[&str; 5],
-) -> Result<bool, AllocError> {
-    let Ok(older) = read_request(alloc, c, &options(alloc, first)?) else {
-        return Ok(false);
-    };
-    let line = shown(
-        alloc,
-        c,
-        change_request(alloc, c, &options(alloc, row)?, &older),
-    )?;
-    Ok(line.bytes() == row[4].as_bytes())
-}
-
-#[test]
-fn requests_changed(rt: HostRuntime) -> Result<(), Fail> {
-    let c = cluster(rt.alloc())?;
-    let first = ["h_rt=60", "all.q", "mpi", "2", ""];
-    let rows = [
-        ["s_rt=30", "", "", "", "s_rt=0:0:30;all.q;mpi 2-2"],
-        ["", "big.q", "", "", "h_rt=0:1:0;big.q;mpi 2-2"],
-        ["", "", "mpi", "2-1", "18"],
-    ];
-    for row in rows {
-        assert!(rt; is_changed(rt.alloc(), &c, &first, &row)?, "{}", row[4]);
-    }
-    Ok(())
 }
 
 // A complex that is asked for by two letters.
@@ -225,16 +154,25 @@ fn answer_to(alloc: Global, count: u8) -> Result<Result<Request, Refusal>, Alloc
     Ok(read_request(alloc, &c, &options))
 }
 
-fn asked_of(answer: Result<Request, Refusal>) -> Result<usize, Refusal> {
-    match answer {
-        Ok(request) => Ok(request.asked.len()),
-        Err(refusal) => Err(refusal),
+// How many attributes are then asked for.
+fn attributes(alloc: Global, count: u8) -> Result<Text, AllocError> {
+    match answer_to(alloc, count)? {
+        Ok(request) => Text::from_bytes(alloc, request.asked.len().to_string(alloc)?.as_bytes()),
+        Err(Refusal::Limit) => Text::from_bytes(alloc, b"limit"),
+        Err(_) => Text::from_bytes(alloc, b"refused"),
     }
 }
 
-#[test]
-fn sixty_four_attributes(rt: HostRuntime) -> Result<(), Fail> {
-    assert_eq!(rt; asked_of(answer_to(rt.alloc(), 64)?), Ok(64));
-    assert_eq!(rt; asked_of(answer_to(rt.alloc(), 65)?), Err(Refusal::Limit));
-    Ok(())
+/// The answer of a call of this name, if it is one of these.
+pub(crate) fn answer(alloc: Global, name: &[u8], given: &[u8]) -> Result<Option<Text>, AllocError> {
+    let text = if is_named(name, b"request") {
+        read(alloc, &cluster(alloc)?, given)?
+    } else if is_named(name, b"change") {
+        change(alloc, &cluster(alloc)?, given)?
+    } else if is_named(name, b"attributes") {
+        attributes(alloc, digits_worth(given).min(100) as u8)?
+    } else {
+        return Ok(None)
+    };
+    Ok(Some(text))
 }

@@ -1,0 +1,121 @@
+//! Texts cut and joined.
+
+use crate::is_named;
+use ge_pieces::*;
+use ge_rows::{List, Text};
+use std::alloc::{AllocError, Global};
+
+// Texts as one line, each in brackets.
+fn bracketed(alloc: Global, texts: &List<Text>) -> Result<Text, AllocError> {
+    let mut line = Text::new(alloc);
+    for text in texts.items() {
+        line.append(b"[")?;
+        line.append(text.bytes())?;
+        line.append(b"]")?;
+    }
+    Ok(line)
+}
+
+fn slices(alloc: Global, text: &[u8]) -> Result<Text, AllocError> {
+    let mut line = Text::new(alloc);
+    for slice in slices_at(alloc, b',', text)?.as_slice() {
+        line.append(b"[")?;
+        line.append(slice)?;
+        line.append(b"]")?;
+    }
+    Ok(line)
+}
+
+// What bars part; nothing where the text is empty.
+fn parts(alloc: Global, text: &[u8]) -> Result<List<Text>, AllocError> {
+    if text.is_empty() {
+        Ok(List::new(alloc))
+    } else {
+        pieces(alloc, b'|', text)
+    }
+}
+
+fn behind_a_word(alloc: Global, text: &[u8]) -> Result<Text, AllocError> {
+    let mut line = Text::from_bytes(alloc, b"hostlist ")?;
+    append_joined(&mut line, b", ", parts(alloc, text)?.items())?;
+    Ok(line)
+}
+
+fn first_of(text: &[u8]) -> &[u8] {
+    if text.is_empty() {
+        text
+    } else {
+        first_line(text)
+    }
+}
+
+fn first_len(text: &[u8]) -> usize {
+    if text.is_empty() { 0 } else { line_len(text) }
+}
+
+fn from_second(text: &[u8]) -> &[u8] {
+    if text.is_empty() {
+        text
+    } else {
+        bytes_from(text, 1)
+    }
+}
+
+fn or_none(alloc: Global, text: &[u8]) -> Result<Text, AllocError> {
+    let word = Text::from_bytes(alloc, text)?;
+    Text::from_bytes(alloc, or_none_text(&word))
+}
+
+// The calls that make lists of texts.
+fn listed(alloc: Global, name: &[u8], given: &[u8]) -> Result<Option<Text>, AllocError> {
+    let text = if is_named(name, b"slices_at") {
+        slices(alloc, given)?
+    } else if is_named(name, b"pieces") {
+        bracketed(alloc, &pieces(alloc, b'@', given)?)?
+    } else if is_named(name, b"words_between") {
+        bracketed(alloc, &words_between(alloc, given)?)?
+    } else if is_named(name, b"items_of_list") {
+        bracketed(alloc, &items_of_list(alloc, given)?)?
+    } else if is_named(name, b"lines_of_body") {
+        bracketed(alloc, &lines_of_body(alloc, given)?)?
+    } else if is_named(name, b"join_list") {
+        join_list(alloc, parts(alloc, given)?.items())?
+    } else if is_named(name, b"join") {
+        join(alloc, b" ", parts(alloc, given)?.items())?
+    } else if is_named(name, b"append_joined") {
+        behind_a_word(alloc, given)?
+    } else if is_named(name, b"lower") {
+        lower(alloc, given)?
+    } else {
+        return Ok(None)
+    };
+    Ok(Some(text))
+}
+
+/// The answer of a call of this name.
+pub(crate) fn answer(alloc: Global, name: &[u8], given: &[u8]) -> Result<Text, AllocError> {
+    if let Some(text) = listed(alloc, name, given)? {
+        return Ok(text);
+    }
+    if is_named(name, b"first_word") {
+        Text::from_bytes(alloc, first_word(given))
+    } else if is_named(name, b"behind_word") {
+        Text::from_bytes(alloc, behind_word(given))
+    } else if is_named(name, b"before") {
+        Text::from_bytes(alloc, before(b'=', given))
+    } else if is_named(name, b"behind") {
+        Text::from_bytes(alloc, behind(b'=', given))
+    } else if is_named(name, b"first_line") {
+        Text::from_bytes(alloc, first_of(given))
+    } else if is_named(name, b"bare_line") {
+        Text::from_bytes(alloc, bare_line(given))
+    } else if is_named(name, b"bytes_from") {
+        Text::from_bytes(alloc, from_second(given))
+    } else if is_named(name, b"line_len") {
+        Text::from_bytes(alloc, first_len(given).to_string(alloc)?.as_bytes())
+    } else if is_named(name, b"or_none_text") {
+        or_none(alloc, given)
+    } else {
+        Text::from_bytes(alloc, b"no such call")
+    }
+}

@@ -1,0 +1,98 @@
+//! Groups of hosts.
+
+use crate::is_named;
+use crate::values::yes_or_no;
+use ge_hosts::{MembersFault, expand, group_has, has_loop, hosts_of, is_a_group, members};
+use ge_model_site::GroupFault;
+use ge_pieces::{before, behind, join, slices_at, words_between};
+use ge_rows::{Groups, List, Table, Text, opening};
+use std::alloc::{AllocError, Global};
+
+/// Groups that are written as `@a=h1 @b;@b=h2`.
+pub(crate) fn groups_of(alloc: Global, text: &[u8]) -> Result<Table<Text, List<Text>>, AllocError> {
+    let mut groups = Table::new(alloc);
+    for row in slices_at(alloc, b';', text)?.as_slice() {
+        let name = Text::from_bytes(alloc, before(b'=', row))?;
+        let entries = words_between(alloc, behind(b'=', row))?;
+        groups.insert(name, entries)?;
+    }
+    Ok(groups)
+}
+
+// A word and a name, with a blank between.
+fn with_word(alloc: Global, word: &[u8], name: &Text) -> Result<Text, AllocError> {
+    let mut text = Text::from_bytes(alloc, word)?;
+    text.append(b" ")?;
+    text.append(name.bytes())?;
+    Ok(text)
+}
+
+// The hosts of the group `@a`, or why it has none.
+fn hosts_of_a(alloc: Global, given: &[u8]) -> Result<Text, AllocError> {
+    let groups = groups_of(alloc, given)?;
+    let name = Text::from_bytes(alloc, b"@a")?;
+    match members(alloc, &groups, &name) {
+        Ok(hosts) => join(alloc, b" ", hosts.items()),
+        Err(MembersFault::Group(GroupFault::NoSuch(missing))) => with_word(alloc, b"no", &missing),
+        Err(MembersFault::Group(GroupFault::Cycle(again))) => with_word(alloc, b"again", &again),
+        Err(MembersFault::NoMemory) => Err(AllocError),
+    }
+}
+
+fn looped(alloc: Global, given: &[u8]) -> Result<Text, AllocError> {
+    let groups = groups_of(alloc, given)?;
+    yes_or_no(alloc, has_loop(alloc, &groups)?)
+}
+
+// The hosts of all groups.
+fn spelled(alloc: Global, given: &[u8]) -> Result<Groups, AllocError> {
+    let mut cluster = opening(alloc)?;
+    cluster.groups = groups_of(alloc, given)?;
+    expand(alloc, &cluster)
+}
+
+// Groups as they are written.
+fn written(alloc: Global, groups: &Groups) -> Result<Text, AllocError> {
+    let mut line = Text::new(alloc);
+    for (name, hosts) in groups.hosts.iter() {
+        line.append(name.bytes())?;
+        line.append(b"=")?;
+        line.append(join(alloc, b" ", hosts.items())?.bytes())?;
+        line.append(b";")?;
+    }
+    Ok(line)
+}
+
+/// Groups of which two calls are asked.
+const GROUPS: &[u8] = b"@a=@b h1;@b=h2;@c=@x h3";
+
+fn is_member(alloc: Global, group: &[u8], host: &[u8]) -> Result<Text, AllocError> {
+    let group = Text::from_bytes(alloc, group)?;
+    let host = Text::from_bytes(alloc, host)?;
+    yes_or_no(alloc, group_has(&spelled(alloc, GROUPS)?, &group, &host))
+}
+
+fn hosts_named(alloc: Global, group: &[u8]) -> Result<Text, AllocError> {
+    let group = Text::from_bytes(alloc, group)?;
+    join(alloc, b" ", hosts_of(&spelled(alloc, GROUPS)?, &group))
+}
+
+/// The answer of a call of this name, if it is one of these.
+pub(crate) fn answer(alloc: Global, name: &[u8], given: &[u8]) -> Result<Option<Text>, AllocError> {
+    let text = if is_named(name, b"members") {
+        hosts_of_a(alloc, given)?
+    } else if is_named(name, b"has_loop") {
+        looped(alloc, given)?
+    } else if is_named(name, b"expand") {
+        written(alloc, &spelled(alloc, given)?)?
+    } else if is_named(name, b"is_a_group") {
+        yes_or_no(alloc, is_a_group(given))?
+    } else if is_named(name, b"group_has") {
+        is_member(alloc, before(b'|', given), behind(b'|', given))?
+    } else if is_named(name, b"hosts_of") {
+        hosts_named(alloc, given)?
+    } else {
+        return Ok(None)
+    };
+    Ok(Some(text))
+}
