@@ -1,21 +1,22 @@
 -- Advance reservations where no script leads: full tables, last numbers, and jobs whose reservation isn't there.
-use Rattle.std.specs.Prelude.{◌≡◌, ℕ, true, false, List, [], ◌∷◌, map, replicate, None, codes, refl}
+use Rattle.std.specs.Prelude.{◌≡◌, ℕ, true, false, List, [], ◌∷◌, map, replicate, codes, refl}
 use Rattle.ge_base.specs.declared.refusal.Refusal.TheVariants.{BadValue}
 use Rattle.ge_model_rows.specs.ClusterRows.{Cluster}
 use Rattle.ge_model_rows.specs.EventRows.{Event, Good}
 use Rattle.ge_model_rows.specs.JobRows.{Advance}
 use Rattle.ge_model_value.specs.Complexes.{opening}
+use Rattle.ge_model_jobs.proofs.Samples.{some_advance}
 use Rattle.ge_model_grammar.specs.Options.{Given}
 use Rattle.ge_model_config.specs.Requests.{request_of}
 use Rattle.ge_model_core.specs.JobAdvances.{stay_faults}
 use Rattle.ge_model_core.specs.Booking.{booked_from, asked_until, is_booked_out}
 
-abbrev some_advance : Advance
-some_advance = record { name = []; owner = []; group = []; from = 1; until = 2; request = record { asked = []; queues = []; pe = None }; grants = [] }
+abbrev bare_advance : Advance
+bare_advance = record (some_advance [] 1 2 []) { owner = []; group = [] }
 
 -- the opening cluster with so many reservations, the next of which has a number
 unfoldable booked : ℕ → ℕ → Cluster
-booked count next = record opening { advances = replicate count (1, some_advance); next_advance = next }
+booked count next = record opening { advances = replicate count (1, bare_advance); next_advance = next }
 
 -- 10,000 of them, and the number 4,294,967,294
 one_place : is_booked_out (booked 9999 4294967294) ≡ false

@@ -1,50 +1,23 @@
 -- What qdel tells: how many tasks it removes and how many it marks, by computation.
-use Rattle.std.specs.Prelude.{◌≡◌, ℕ, true, false, List, [], ◌∷◌, Some, None, pos, codes, refl}
+use Rattle.std.specs.Prelude.{◌≡◌, ℕ, true, false, List, [], ◌∷◌, Some, None, codes, refl}
 use Rattle.std.specs.Fmt.{digits}
-use Rattle.ge_model_rows.specs.ClusterRows.{Cluster, opening_cluster}
+use Rattle.ge_model_rows.specs.ClusterRows.{Cluster}
 use Rattle.ge_model_rows.specs.EntryRows.{Pick}
 use Rattle.ge_model_rows.specs.JobRows.{Job, Running}
 use Rattle.ge_model_rows.specs.TaskRows.{TaskSpan}
+use Rattle.ge_model_value.specs.Complexes.{opening}
 use Rattle.ge_model_jobs.specs.Picks.{picked_tasks}
+use Rattle.ge_model_jobs.proofs.Samples.{span, array_job, running, with_jobs}
 use Rattle.ge_model_core.specs.Deleting.{removed_line}
 use Rattle.ge_model_core.specs.Targets.{named_jobs}
 
-abbrev span : ℕ → ℕ → ℕ → TaskSpan
-span first last step = record { first = first; last = last; step = step }
-
--- a task that runs
+-- a task that runs nowhere
 abbrev runs : ℕ → ℕ × Running
-runs task = (task, record { serial = task; start = 0; grants = []; deleting = false })
+runs number = (number, running number 0 [])
 
--- a job of ann's, with these tasks that wait, are in error and run
+-- a job with these tasks that wait, are in error and run
 abbrev job : List TaskSpan → List TaskSpan → List (ℕ × Running) → Job
-job queued broken running = record {
-  number = 1;
-  name = codes "a";
-  owner = codes "ann";
-  group = codes "staff";
-  account = codes "sge";
-  submitted = 0;
-  priority = pos 0;
-  share = 0;
-  project = [];
-  reserve = false;
-  not_before = 0;
-  deadline = 0;
-  request = record { asked = []; queues = []; pe = None };
-  array = true;
-  span = span 1 9 1;
-  queued = queued;
-  broken = broken;
-  running = running;
-  hold = 0;
-  after = [];
-  after_each = [];
-  oticket = 0;
-  words = codes "x" ∷ [];
-  script = [];
-  advance = 0;
-}
+job waiting failed started = record (array_job 1 (span 1 9 1)) { queued = waiting; broken = failed; running = started }
 
 -- tasks 1, 3 and 5 wait, 2 is in error, 4 and 7 run
 abbrev mixed : Job
@@ -74,21 +47,21 @@ waits_and_runs_by_force = refl
 
 -- job 1 is named twice and once more behind job 2, which isn't there, and job 3: tasks 1 to 4 and 7 of job 1, all of job 3
 unfoldable two_jobs : Cluster
-unfolding opening_cluster
-two_jobs = record opening_cluster { jobs = (1, mixed) ∷ (3, record twice { number = 3 }) ∷ [] }
+unfolding with_jobs opening
+two_jobs = with_jobs ((1, mixed) ∷ (3, record twice { number = 3 }) ∷ [])
 
 abbrev many_targets : List Pick
 many_targets = record { job = 1; tasks = Some (span 1 3 1 ∷ []) } ∷ record { job = 3; tasks = None } ∷ record { job = 2; tasks = None }
     ∷ record { job = 1; tasks = Some (span 2 4 2 ∷ []) } ∷ record { job = 3; tasks = Some (span 4 4 1 ∷ []) } ∷ record { job = 1; tasks = Some (span 7 90 1 ∷ []) } ∷ []
 
 each_job_once : named_jobs two_jobs many_targets ≡ (mixed, span 1 4 1 ∷ span 7 7 1 ∷ []) ∷ (record twice { number = 3 }, span 3 4 1 ∷ []) ∷ []
-unfolding two_jobs opening_cluster
+unfolding two_jobs with_jobs opening
 each_job_once = refl
 
 each_task_counted_once : removed_line false (named_jobs two_jobs many_targets) ≡ codes "removed 5 marked 3"
-unfolding two_jobs opening_cluster digits
+unfolding two_jobs with_jobs opening digits
 each_task_counted_once = refl
 
 each_task_counted_once_by_force : removed_line true (named_jobs two_jobs many_targets) ≡ codes "removed 7 marked 0"
-unfolding two_jobs opening_cluster digits
+unfolding two_jobs with_jobs opening digits
 each_task_counted_once_by_force = refl

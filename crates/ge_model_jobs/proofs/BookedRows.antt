@@ -4,19 +4,11 @@ use Rattle.ge_model_rows.specs.ClusterRows.{Cluster}
 use Rattle.ge_model_rows.specs.EntryRows.{Delete, Run, Book, Unbook}
 use Rattle.ge_model_rows.specs.JobRows.{Job, Advance}
 use Rattle.ge_model_jobs.specs.Applying.{after_entry, changes_in_full}
-use Rattle.ge_model_jobs.proofs.Samples.{plain_job, cluster, at}
+use Rattle.ge_model_jobs.proofs.Samples.{plain_job, some_advance, cluster, at}
 
 -- one that lasts up to a moment
 abbrev up_to : ℕ → Advance
-up_to moment = record {
-  name = codes "ar";
-  owner = codes "ann";
-  group = codes "staff";
-  from = 10;
-  until = moment;
-  request = record { asked = []; queues = []; pe = None };
-  grants = [];
-}
+up_to moment = some_advance (codes "ar") 10 moment []
 
 -- a cluster with jobs and advance reservations, of which the next has the number 7
 unfoldable booked : List (ℕ × Job) → List (ℕ × Advance) → Cluster

@@ -1,4 +1,4 @@
-mod Samples
+pub mod Samples
 mod Rows
 mod UsageRows
 pub mod Keys

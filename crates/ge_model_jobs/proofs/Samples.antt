@@ -1,34 +1,40 @@
--- Jobs, tasks and clusters for the worked rows.
-use Rattle.std.specs.Prelude.{ℕ, true, false, codes, pos, List, [], ◌∷◌, None}
+-- Jobs, tasks, hosts and clusters for the worked rows of this crate and of those above.
+use Rattle.std.specs.Prelude.{ℕ, true, false, codes, pos, List, [], ◌∷◌, Some, None}
 use Rattle.ge_model_rows.specs.AccountRows.{Line}
 use Rattle.ge_model_rows.specs.ClusterRows.{Cluster, opening_cluster, default_queue, default_sched}
 use Rattle.ge_model_rows.specs.EntryRows.{Entry, Change, Patch}
-use Rattle.ge_model_rows.specs.JobRows.{Job, Running, Grant}
-use Rattle.ge_model_rows.specs.ScheduleRows.{Start}
-use Rattle.ge_model_rows.specs.TaskRows.{TaskSpan}
+use Rattle.ge_model_rows.specs.HostRows.{HostRow, InstanceId}
+use Rattle.ge_model_rows.specs.JobRows.{Job, Running, Grant, Advance}
+use Rattle.ge_model_rows.specs.PeRows.{PeRow, Allocation, Min}
+use Rattle.ge_model_rows.specs.ScheduleRows.{Start, Prio}
+use Rattle.ge_model_rows.specs.TaskRows.{TaskSpan, TaskId}
+use Rattle.ge_model_rows.specs.ValueRows.{Value}
+use Rattle.ge_model_value.specs.Complexes.{opening}
+
+-- ---- jobs
 
 abbrev pub span : ℕ → ℕ → ℕ → TaskSpan
 span first last step = record { first = first; last = last; step = step }
 
--- an array job of ann's with all its tasks waiting
-abbrev pub array_job : ℕ → TaskSpan → Job
-array_job number range = record {
+-- a job of a user, in a project or in none, that was submitted at 10 and asks for nothing; its one task waits
+abbrev pub some_job : ℕ → List ℕ → List ℕ → List ℕ → Job
+some_job number name owner project = record {
   number = number;
-  name = codes "a";
-  owner = codes "ann";
+  name = name;
+  owner = owner;
   group = codes "staff";
   account = codes "sge";
-  submitted = 0;
+  submitted = 10;
   priority = pos 0;
   share = 0;
-  project = [];
+  project = project;
   reserve = false;
   not_before = 0;
   deadline = 0;
   request = record { asked = []; queues = []; pe = None };
-  array = true;
-  span = range;
-  queued = range ∷ [];
+  array = false;
+  span = span 1 1 1;
+  queued = span 1 1 1 ∷ [];
   broken = [];
   running = [];
   hold = 0;
@@ -40,34 +46,82 @@ array_job number range = record {
   advance = 0;
 }
 
--- the same as no array
+-- one of ann's that was submitted at 0
 abbrev pub plain_job : ℕ → Job
-plain_job number = record (array_job number (span 1 1 1)) { array = false }
+plain_job number = record (some_job number (codes "a") (codes "ann") []) { submitted = 0 }
 
--- one slot of all.q at local
-abbrev pub one_slot : List Grant
-one_slot = record { at = record { queue = codes "all.q"; host = codes "local" }; slots = 1 } ∷ []
+-- the same as an array with all its tasks waiting
+abbrev pub array_job : ℕ → TaskSpan → Job
+array_job number range = record (some_job number (codes "a") (codes "ann") []) {
+  submitted = 0;
+  array = true;
+  span = range;
+  queued = range ∷ [];
+}
 
--- a task that runs with a serial since a moment
+-- a job with requests
+abbrev pub asking : List (List ℕ × Value) → Job → Job
+asking asked j = record j { request = record { asked = asked; queues = j.request.queues; pe = j.request.pe } }
+
+abbrev pub in_queues : List (List ℕ) → Job → Job
+in_queues queues j = record j { request = record { asked = j.request.asked; queues = queues; pe = j.request.pe } }
+
+abbrev pub with_pe : List ℕ → ℕ → ℕ → Job → Job
+with_pe name low high j = record j {
+  request = record {
+    asked = j.request.asked;
+    queues = j.request.queues;
+    pe = Some (record { name = name; low = low; high = high });
+  };
+}
+
+abbrev pub prio : ℕ → ℕ → ℕ → ℕ → ℕ → Prio
+prio number np nu nt total = record { job = number; np = np; nu = nu; nt = nt; total = total }
+
+-- ---- tasks that run
+
+abbrev pub task : ℕ → ℕ → TaskId
+task number n = record { job = number; task = n }
+
+abbrev pub instance : List ℕ → List ℕ → InstanceId
+instance queue host = record { queue = queue; host = host }
+
+abbrev pub slots_of : List ℕ → List ℕ → ℕ → Grant
+slots_of queue host n = record { at = instance queue host; slots = n }
+
+-- slots of all.q at local, the opening cluster's queue instance
+abbrev pub local : ℕ → List Grant
+local n = slots_of (codes "all.q") (codes "local") n ∷ []
+
+-- a task that runs with a serial since a moment, on these grants
+abbrev pub running : ℕ → ℕ → List Grant → Running
+running serial moment grants = record { serial = serial; start = moment; grants = grants; deleting = false }
+
+-- one on a slot of all.q at local
+abbrev pub on_local : ℕ → ℕ → Running
+on_local serial moment = running serial moment (local 1)
+
+-- the same with its number
 abbrev pub since : ℕ → ℕ → ℕ → ℕ × Running
-since task serial moment = (task, record { serial = serial; start = moment; grants = one_slot; deleting = false })
+since number serial moment = (number, on_local serial moment)
 
 -- the same, marked for deletion
 abbrev pub dying : ℕ → ℕ → ℕ → ℕ × Running
-dying task serial moment = (task, record { serial = serial; start = moment; grants = one_slot; deleting = true })
+dying number serial moment = (number, record (on_local serial moment) { deleting = true })
 
+-- the start of a task of a job
 abbrev pub start : ℕ → ℕ → ℕ → Start
-start job task serial = record { task = record { job = job; task = task }; serial = serial; grants = one_slot }
+start number n serial = record { task = task number n; serial = serial; grants = local 1 }
 
 -- the line of a task of an array job that started at a moment and ended at another one
 abbrev pub line : ℕ → ℕ → ℕ → ℕ → ℕ → Line
-line job task started ended exit = record {
+line number n started ended exit = record {
   queue = codes "all.q";
   host = codes "local";
   group = codes "staff";
   owner = codes "ann";
   name = codes "a";
-  job = job;
+  job = number;
   account = codes "sge";
   priority = pos 0;
   submitted = 0;
@@ -78,11 +132,44 @@ line job task started ended exit = record {
   project = [];
   pe = [];
   slots = 1;
-  task = task;
+  task = n;
   cpu = 0;
   mem = 0;
   io = 0;
 }
+
+-- ---- what is configured and reserved
+
+abbrev pub host : List (List ℕ × Value) → List (List ℕ × Value) → HostRow
+host values load = record { values = values; load = load }
+
+abbrev pub pe : Allocation → PeRow
+pe rule = record { slots = 100; users = []; xusers = []; rule = rule; urgency_slots = Min }
+
+-- an advance reservation of ann's that asks for nothing, from a moment until before another
+abbrev pub some_advance : List ℕ → ℕ → ℕ → List Grant → Advance
+some_advance name from until grants = record {
+  name = name;
+  owner = codes "ann";
+  group = codes "staff";
+  from = from;
+  until = until;
+  request = record { asked = []; queues = []; pe = None };
+  grants = grants;
+}
+
+-- ---- clusters
+
+-- the opening cluster with these jobs
+unfoldable pub with_jobs : List (ℕ × Job) → Cluster
+with_jobs jobs = record opening { jobs = jobs }
+
+-- the same, where the next job is 9 and the next serial 9
+unfoldable pub cluster : List (ℕ × Job) → Cluster
+unfolding opening_cluster default_queue default_sched
+cluster jobs = record opening_cluster { next_job = 9; next_serial = 9; jobs = jobs }
+
+-- ---- entries
 
 -- a patch that gives nothing
 abbrev pub no_patch : Patch
@@ -100,11 +187,6 @@ no_patch = record {
   after_each = None;
   oticket = None;
 }
-
--- the opening cluster with these jobs; the next job is 9 and the next serial 9
-unfoldable pub cluster : List (ℕ × Job) → Cluster
-unfolding opening_cluster default_queue default_sched
-cluster jobs = record opening_cluster { next_job = 9; next_serial = 9; jobs = jobs }
 
 -- a change at a moment
 abbrev pub at : ℕ → Change → Entry

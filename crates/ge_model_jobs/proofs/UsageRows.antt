@@ -4,10 +4,10 @@ use Rattle.ge_model_rows.specs.ClusterRows.{Cluster, opening_cluster, default_qu
 use Rattle.ge_model_rows.specs.EntryRows.{Put, Drop, Load, Item, ObjectKind}
 use Rattle.ge_model_rows.specs.HostRows.{HostRow}
 use Rattle.ge_model_rows.specs.SettingRows.{Sched}
-use Rattle.ge_model_rows.specs.ValueRows.{Value, Amount, Flag}
+use Rattle.ge_model_rows.specs.ValueRows.{Amount, Flag}
 use Rattle.ge_model_jobs.specs.Usage.{UsageKey, epoch_of, decayed, usage_at, usage_of}
 use Rattle.ge_model_jobs.specs.Applying.{after_entry, changes_in_full}
-use Rattle.ge_model_jobs.proofs.Samples.{cluster, at}
+use Rattle.ge_model_jobs.proofs.Samples.{host, cluster, at}
 
 abbrev row : List ℕ → ℕ → ℕ → UsageKey × ℕ
 row user epoch amount = ((user, [], epoch), amount)
@@ -68,9 +68,6 @@ unfolding changes_in_full used cluster default_sched
 halftime_stays = refl
 
 -- what is configured
-
-abbrev host : List (List ℕ × Value) → List (List ℕ × Value) → HostRow
-host values load = record { values = values; load = load }
 
 abbrev hosts : HostRow → List (List ℕ × HostRow)
 hosts local = (codes "global", host [] []) ∷ (codes "local", local) ∷ []

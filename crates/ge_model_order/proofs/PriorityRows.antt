@@ -3,17 +3,16 @@ use Rattle.std.specs.Prelude.{◌≡◌, ℕ, ◌-◌, ◌^◌, true, pos, negsu
 use Rattle.ge_model_rows.specs.ClusterRows.{Cluster}
 use Rattle.ge_model_rows.specs.JobRows.{Job}
 use Rattle.ge_model_rows.specs.PeRows.{PeRow, PeSlots, UrgencySlots}
-use Rattle.ge_model_rows.specs.ScheduleRows.{Prio}
-use Rattle.ge_model_rows.specs.TaskRows.{TaskId}
 use Rattle.ge_model_rows.specs.ValueRows.{Amount, Flag, Kind, Le, Requestable, Consumable}
 use Rattle.ge_model_rows.specs.ValueRows.{ComplexDef}
 use Rattle.ge_collections.specs.Keyed.{put_text}
 use Rattle.ge_model_value.specs.Complexes.{opening}
 use Rattle.ge_model_jobs.specs.Holds.{eligible_tasks}
+use Rattle.ge_model_jobs.proofs.Samples.{span, asking, with_pe, prio, task, pe, with_jobs}
 use Rattle.ge_model_order.specs.Candidates.{is_candidate, candidates}
 use Rattle.ge_model_order.specs.Priority.{priority_part, prios_of, prios_at, order_of, order_of_runs, sorted_prios}
 use Rattle.ge_model_order.specs.Urgency.{urgency_of}
-use Rattle.ge_model_order.proofs.Samples.{with_jobs, job_of, of_ann, asking, slots_under_pe, some_span}
+use Rattle.ge_model_order.proofs.Samples.{job_of, of_ann}
 
 -- ---- urgency
 
@@ -30,7 +29,7 @@ unfolding urgency_of with_jobs opening
 near_a_deadline = refl
 
 abbrev some_pe : UrgencySlots → PeRow
-some_pe urgency_slots = record { slots = 10; users = []; xusers = []; rule = PeSlots; urgency_slots = urgency_slots }
+some_pe urgency_slots = record (pe PeSlots) { slots = 10; urgency_slots = urgency_slots }
 
 abbrev some_complex : Kind → ℕ → ComplexDef
 some_complex kind urgency = record {
@@ -51,7 +50,7 @@ with_urgent = let c = with_jobs [] in record c {
 }
 
 abbrev under_pe : List ℕ → Job
-under_pe name = record (job_of 1 (codes "ann") []) { request = asking [] (slots_under_pe name 3 8) }
+under_pe name = with_pe name 3 8 (job_of 1 (codes "ann") [])
 
 slots_that_are_assumed : map (λ name. urgency_of with_urgent (under_pe name) 10) (codes "avg" ∷ codes "max" ∷ codes "min" ∷ codes "seven" ∷ codes "gone" ∷ [])
     ≡ 5000000000 ∷ 8000000000 ∷ 3000000000 ∷ 7000000000 ∷ 1000000000 ∷ []
@@ -60,9 +59,7 @@ slots_that_are_assumed = refl
 
 -- numbers count for each slot, a DOUBLE in ones, a flag once, a name that is no complex not at all, and of slots always one
 abbrev asking_all : Job
-asking_all = record (job_of 1 (codes "ann") []) {
-  request = asking ((codes "frac", Amount 1500001) ∷ (codes "gpu", Flag true) ∷ (codes "lic", Amount 4) ∷ (codes "nosuch", Amount 5) ∷ (codes "slots", Amount 9) ∷ []) (slots_under_pe (codes "min") 3 8);
-}
+asking_all = asking ((codes "frac", Amount 1500001) ∷ (codes "gpu", Flag true) ∷ (codes "lic", Amount 4) ∷ (codes "nosuch", Amount 5) ∷ (codes "slots", Amount 9) ∷ []) (under_pe (codes "min"))
 
 what_is_asked_for : urgency_of with_urgent asking_all 10 ≡ 3047500009
 unfolding with_urgent urgency_of with_jobs opening
@@ -81,9 +78,6 @@ cut_at_the_end = refl
 parts_of_priorities : map priority_part (pos 0 ∷ pos 1 ∷ negsuc 0 ∷ negsuc 99 ∷ negsuc 1022 ∷ negsuc 1999 ∷ pos 1024 ∷ pos 2147483647 ∷ [])
     ≡ 499755 ∷ 500244 ∷ 499267 ∷ 450903 ∷ 0 ∷ 0 ∷ 1000000 ∷ 1049088749389 ∷ []
 parts_of_priorities = refl
-
-abbrev prio : ℕ → ℕ → ℕ → ℕ → ℕ → Prio
-prio job np nu nt total = record { job = job; np = np; nu = nu; nt = nt; total = total }
 
 one_that_waits : prios_at (with_jobs (of_ann 1 ∷ [])) 10 ≡ prio 1 499755 500000 0 549755000000 ∷ []
 unfolding order_of_runs with_jobs opening
@@ -114,9 +108,6 @@ sorted_by_total_then_job : sorted_prios (prio 3 0 0 0 5 ∷ prio 2 0 0 0 9 ∷ p
     ≡ prio 2 0 0 0 9 ∷ prio 1 0 0 0 5 ∷ prio 3 0 0 0 5 ∷ prio 4 0 0 0 0 ∷ []
 sorted_by_total_then_job = refl
 
-abbrev task : ℕ → ℕ → TaskId
-task job number = record { job = job; task = number }
-
 abbrev with_priority : ℕ → ℕ × Job
 with_priority number = (number, record (job_of number (codes "root") []) { priority = pos 1 })
 
@@ -128,9 +119,9 @@ higher_first = refl
 abbrev day_jobs : List (ℕ × Job)
 day_jobs =
     of_ann 1
-    ∷ (2, record (job_of 2 (codes "ann") []) { array = true; span = some_span 1 4 1; queued = some_span 1 4 1 ∷ [] })
+    ∷ (2, record (job_of 2 (codes "ann") []) { array = true; span = span 1 4 1; queued = span 1 4 1 ∷ [] })
     ∷ (3, record (job_of 3 (codes "ann") []) { after = 2 ∷ [] })
-    ∷ (4, record (job_of 4 (codes "bob") []) { request = asking [] (slots_under_pe (codes "min") 3 8) })
+    ∷ (4, with_pe (codes "min") 3 8 (job_of 4 (codes "bob") []))
     ∷ of_ann 5 ∷ of_ann 6 ∷ of_ann 7 ∷ of_ann 8
     ∷ (9, record (job_of 9 (codes "cy") []) { priority = negsuc 99 })
     ∷ (10, record (job_of 10 (codes "cy") []) { not_before = 5000 })

@@ -4,9 +4,10 @@ use Rattle.ge_model_value.specs.Complexes.{opening}
 use Rattle.ge_model_rows.specs.JobRows.{Job}
 use Rattle.ge_model_rows.specs.PeopleRows.{ShareNode}
 use Rattle.ge_model_jobs.specs.Usage.{UsageKey}
+use Rattle.ge_model_jobs.proofs.Samples.{with_jobs}
 use Rattle.ge_model_order.specs.Share.{share_tickets_of}
 use Rattle.ge_model_order.specs.ShareTree.{tree_of}
-use Rattle.ge_model_order.proofs.Samples.{with_jobs, owned, user_node, group_node}
+use Rattle.ge_model_order.proofs.Samples.{owned, user_node, group_node}
 use Rattle.ge_model_order.proofs.ShareRows.{sharing}
 
 abbrev nodes_1 : List (ℕ × ShareNode)

@@ -5,9 +5,10 @@ use Rattle.ge_model_rows.specs.JobRows.{Job}
 use Rattle.ge_model_rows.specs.PeopleRows.{ShareNode}
 use Rattle.ge_model_value.specs.Complexes.{opening}
 use Rattle.ge_model_jobs.specs.Usage.{usage_at}
+use Rattle.ge_model_jobs.proofs.Samples.{with_jobs}
 use Rattle.ge_model_order.specs.Share.{share_tickets_of}
 use Rattle.ge_model_order.specs.ShareTree.{Entered, tree_of}
-use Rattle.ge_model_order.proofs.Samples.{with_jobs, owned, user_node, group_node}
+use Rattle.ge_model_order.proofs.Samples.{owned, user_node, group_node}
 
 -- a cluster with a share tree, usage and so many tickets at the root
 unfoldable pub sharing : List (ℕ × ShareNode) → List ((List ℕ × List ℕ × ℕ) × ℕ) → ℕ → ℕ → List (ℕ × Job) → Cluster

@@ -4,8 +4,9 @@ use Rattle.ge_model_rows.specs.ClusterRows.{Cluster}
 use Rattle.ge_model_rows.specs.JobRows.{Job}
 use Rattle.ge_model_rows.specs.PeopleRows.{UserRow, ProjectRow}
 use Rattle.ge_model_value.specs.Complexes.{opening}
+use Rattle.ge_model_jobs.proofs.Samples.{with_jobs}
 use Rattle.ge_model_order.specs.Tickets.{tickets_of}
-use Rattle.ge_model_order.proofs.Samples.{with_jobs, job_of, owned, user_row, project_row}
+use Rattle.ge_model_order.proofs.Samples.{job_of, owned, user_row, project_row}
 
 -- two jobs of ann, one of them in project p, one of bob in p and one of cy, who has no row, in q
 abbrev four_jobs : List (ℕ × Job)

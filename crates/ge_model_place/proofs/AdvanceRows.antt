@@ -13,11 +13,12 @@ use Rattle.ge_model_place.specs.Advances.{stand_in, advance_grants}
 use Rattle.ge_model_place.specs.Limits.{capacity_of}
 use Rattle.ge_model_place.specs.Running.{run_of}
 use Rattle.ge_model_place.specs.Windows.{window_end_from, base_bookings}
-use Rattle.ge_model_place.proofs.Site.{runs, local, lasting, job, reserving, task, at, start, running, pe}
+use Rattle.ge_model_jobs.proofs.Samples.{task, instance, local, running, pe, some_advance}
+use Rattle.ge_model_place.proofs.Site.{runs, lasting, job, reserving, start}
 
 -- a reservation of ann for what is asked, from a moment until before another
 abbrev advance : ℕ → ℕ → List Grant → Advance
-advance from until grants = record { name = codes "ar"; owner = codes "ann"; group = codes "staff"; from = from; until = until; request = record { asked = []; queues = []; pe = None }; grants = grants }
+advance from until grants = some_advance (codes "ar") from until grants
 
 -- a job that is sent into a reservation
 abbrev sent_into : ℕ → Job → Job
@@ -77,10 +78,10 @@ one_slot_in_a_reservation = refl
 -- what is booked
 
 abbrev queue_slots : LimitId
-queue_slots = Instance (at (codes "all.q") (codes "local")) (codes "slots")
+queue_slots = Instance (instance (codes "all.q") (codes "local")) (codes "slots")
 
 abbrev booked_slots : LimitId
-booked_slots = Booked 1 (at (codes "all.q") (codes "local"))
+booked_slots = Booked 1 (instance (codes "all.q") (codes "local"))
 
 abbrev booked_at : Cluster → ℕ → LimitId → ℕ → ℕ
 booked_at cluster now limit moment = plain_sum (base_bookings cluster (expanded cluster) now) limit moment
@@ -107,7 +108,7 @@ slots_of_one_that_overran = refl
 abbrev capacity_in : Cluster → LimitId → ℕ
 capacity_in cluster limit = capacity_of cluster (expanded cluster) limit
 
-slots_granted : map (capacity_in (reserved 1 [])) (booked_slots ∷ Booked 1 (at (codes "all.q") (codes "h1")) ∷ Booked 2 (at (codes "all.q") (codes "local")) ∷ []) ≡ 1 ∷ 0 ∷ 0 ∷ []
+slots_granted : map (capacity_in (reserved 1 [])) (booked_slots ∷ Booked 1 (instance (codes "all.q") (codes "h1")) ∷ Booked 2 (instance (codes "all.q") (codes "local")) ∷ []) ≡ 1 ∷ 0 ∷ 0 ∷ []
 unfolding reserved runs
 slots_granted = refl
 

@@ -13,7 +13,8 @@ use Rattle.ge_model_site.specs.Groups.{expanded}
 use Rattle.ge_model_value.specs.Complexes.{opening, opening_complexes}
 use Rattle.ge_model_place.specs.Running.{run_of}
 use Rattle.ge_model_place.specs.Windows.{base_bookings}
-use Rattle.ge_model_place.proofs.Site.{runs, local, job, asking, with_pe, task, slots_of, start, running, pe, host, user_rule, rule_set}
+use Rattle.ge_model_jobs.proofs.Samples.{asking, with_pe, task, slots_of, local, running, host, pe}
+use Rattle.ge_model_place.proofs.Site.{runs, job, start, user_rule, rule_set}
 
 -- a licence, with what jobs use of it that don't ask
 abbrev licence : Consumable → ℕ → ComplexDef

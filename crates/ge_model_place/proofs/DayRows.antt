@@ -12,7 +12,8 @@ use Rattle.ge_model_site.specs.Groups.{expanded}
 use Rattle.ge_model_value.specs.Complexes.{opening_complexes, opening}
 use Rattle.ge_model_place.specs.InstanceOrder.{instance_order}
 use Rattle.ge_model_place.specs.Running.{run_of}
-use Rattle.ge_model_place.proofs.Site.{runs, job, asking, in_queues, with_pe, task, at, slots_of, one, start, running, pe, host, filter_of, user_rule, rule_set}
+use Rattle.ge_model_jobs.proofs.Samples.{asking, in_queues, with_pe, task, instance, slots_of, running, host, pe}
+use Rattle.ge_model_place.proofs.Site.{runs, job, one, start, filter_of, user_rule, rule_set}
 
 abbrev gigabytes : ℕ → Value
 gigabytes n = Amount (n * 2 ^ 30)
@@ -92,7 +93,7 @@ last = (12, job 12 (codes "cy"))
 unfoldable morning : Cluster
 morning = day (prep ∷ sim ∷ mpi ∷ big ∷ small ∷ huge ∷ quick ∷ low ∷ last ∷ []) 1
 
-by_load : instance_order morning (expanded morning) ≡ at (codes "long.q") (codes "n3") ∷ at (codes "short.q") (codes "n3") ∷ at (codes "long.q") (codes "n2") ∷ at (codes "long.q") (codes "n1") ∷ []
+by_load : instance_order morning (expanded morning) ≡ instance (codes "long.q") (codes "n3") ∷ instance (codes "short.q") (codes "n3") ∷ instance (codes "long.q") (codes "n2") ∷ instance (codes "long.q") (codes "n1") ∷ []
 unfolding morning day long_queue short_queue runs
 by_load = refl
 

@@ -13,7 +13,8 @@ use Rattle.ge_model_value.specs.Complexes.{opening_complexes, opening}
 use Rattle.ge_model_place.specs.InstanceOrder.{instance_order}
 use Rattle.ge_model_place.specs.Quotas.{Who, key_of}
 use Rattle.ge_model_place.specs.Running.{run_of}
-use Rattle.ge_model_place.proofs.Site.{runs, local, job, asking, task, at, start, host, filter_of, user_rule, rule_set}
+use Rattle.ge_model_jobs.proofs.Samples.{asking, task, instance, local, host}
+use Rattle.ge_model_place.proofs.Site.{runs, job, start, filter_of, user_rule, rule_set}
 
 -- a load threshold (queue_conf): np_load_avg of 1.75 closes the instance, a hair less leaves it open
 
@@ -43,7 +44,7 @@ one_flag = record opening {
   queues = (codes "q", record default_queue { hosts = codes "h1" ∷ codes "h2" ∷ [] }) ∷ [];
 }
 
-flag_is_no_load : instance_order one_flag (expanded one_flag) ≡ at (codes "q") (codes "h2") ∷ at (codes "q") (codes "h1") ∷ []
+flag_is_no_load : instance_order one_flag (expanded one_flag) ≡ instance (codes "q") (codes "h2") ∷ instance (codes "q") (codes "h1") ∷ []
 unfolding one_flag runs
 flag_is_no_load = refl
 

@@ -21,7 +21,8 @@ use Rattle.ge_model_place.specs.Opening.{is_open, reaches_threshold, names_insta
 use Rattle.ge_model_place.specs.Placement.{are_admissible}
 use Rattle.ge_model_place.specs.Running.{run_of}
 use Rattle.ge_model_place.specs.Windows.{duration_of, base_bookings}
-use Rattle.ge_model_place.proofs.Site.{runs, local, lasting, job, asking, with_pe, task, at, slots_of, start, running, pe, host, filter_of, user_rule, rule_set}
+use Rattle.ge_model_jobs.proofs.Samples.{asking, with_pe, task, instance, slots_of, local, running, host, pe}
+use Rattle.ge_model_place.proofs.Site.{runs, lasting, job, start, filter_of, user_rule, rule_set}
 
 -- one complex more, values of the host, and jobs of ann by number from 1 on
 
@@ -106,12 +107,12 @@ each_level = record opening {
   quotas = (codes "few", rule_set (user_rule (filter_of true (codes "*" ∷ []) []) ((codes "arch", 1) ∷ (codes "mem", 600) ∷ (codes "slots", 5) ∷ []) ∷ [])) ∷ [];
 }
 
-abbrev instance : InstanceId
-instance = at (codes "all.q") (codes "local")
+abbrev local_instance : InstanceId
+local_instance = instance (codes "all.q") (codes "local")
 
 demands_of_each_level : demands_of each_level (expanded each_level) (with_pe (codes "e") 1 3 (asking ((codes "mem", Amount 10) ∷ []) (job 1 (codes "ann")))) (local 2)
-    ≡ record { limit = Instance instance (codes "mem"); amount = 20 }
-    ∷ record { limit = Instance instance (codes "slots"); amount = 2 }
+    ≡ record { limit = Instance local_instance (codes "mem"); amount = 20 }
+    ∷ record { limit = Instance local_instance (codes "slots"); amount = 2 }
     ∷ record { limit = Host (codes "local") (codes "mem"); amount = 20 }
     ∷ record { limit = Global (codes "mem"); amount = 20 }
     ∷ record { limit = Pe (codes "e"); amount = 2 }
@@ -121,7 +122,7 @@ demands_of_each_level : demands_of each_level (expanded each_level) (with_pe (co
 unfolding each_level runs
 demands_of_each_level = refl
 
-capacities : map (λ (counted : Counted). counted.capacity) (counted_at each_level (expanded each_level) (with_pe (codes "e") 1 3 (job 1 (codes "ann"))) instance)
+capacities : map (λ (counted : Counted). counted.capacity) (counted_at each_level (expanded each_level) (with_pe (codes "e") 1 3 (job 1 (codes "ann"))) local_instance)
     ≡ 700 ∷ 3 ∷ 800 ∷ 900 ∷ 100 ∷ 600 ∷ 5 ∷ []
 unfolding each_level runs
 capacities = refl
@@ -147,11 +148,11 @@ sorted sort = record opening {
   sched = record default_sched { sort = sort };
 }
 
-by_load : instance_order (sorted Load) (expanded (sorted Load)) ≡ at (codes "b.q") (codes "h2") ∷ at (codes "b.q") (codes "h1") ∷ at (codes "a.q") (codes "h1") ∷ at (codes "a.q") (codes "h3") ∷ []
+by_load : instance_order (sorted Load) (expanded (sorted Load)) ≡ instance (codes "b.q") (codes "h2") ∷ instance (codes "b.q") (codes "h1") ∷ instance (codes "a.q") (codes "h1") ∷ instance (codes "a.q") (codes "h3") ∷ []
 unfolding sorted runs
 by_load = refl
 
-by_number : instance_order (sorted Seqno) (expanded (sorted Seqno)) ≡ at (codes "b.q") (codes "h1") ∷ at (codes "b.q") (codes "h2") ∷ at (codes "a.q") (codes "h1") ∷ at (codes "a.q") (codes "h3") ∷ []
+by_number : instance_order (sorted Seqno) (expanded (sorted Seqno)) ≡ instance (codes "b.q") (codes "h1") ∷ instance (codes "b.q") (codes "h2") ∷ instance (codes "a.q") (codes "h1") ∷ instance (codes "a.q") (codes "h3") ∷ []
 unfolding sorted runs
 by_number = refl
 
@@ -163,7 +164,7 @@ loaded report = record opening {
   queues = (codes "all.q", record default_queue { hosts = codes "local" ∷ []; thresholds = plain_attr ((codes "mem_free", Amount 100) ∷ (codes "np_load_avg", Amount 1750000) ∷ []) }) ∷ [];
 }
 
-reached_or_not : map (λ report. reaches_threshold (loaded report) (expanded (loaded report)) instance)
+reached_or_not : map (λ report. reaches_threshold (loaded report) (expanded (loaded report)) local_instance)
     ([] ∷ ((codes "np_load_avg", Amount 1749999) ∷ []) ∷ ((codes "np_load_avg", Amount 1750000) ∷ []) ∷ ((codes "mem_free", Amount 101) ∷ []) ∷ ((codes "mem_free", Amount 100) ∷ [])
     ∷ ((codes "np_load_avg", Word (codes "9")) ∷ []) ∷ [])
     ≡ false ∷ false ∷ true ∷ false ∷ true ∷ false ∷ []
@@ -175,7 +176,7 @@ reached_or_not = refl
 unfoldable big_group : Cluster
 big_group = record opening { groups = (codes "@big", codes "n1" ∷ codes "n2" ∷ []) ∷ (codes "@bad", codes "n1" ∷ codes "@none" ∷ []) ∷ [] }
 
-asked_for_or_not : map (names_instance (expanded big_group) (at (codes "long.q") (codes "n1")))
+asked_for_or_not : map (names_instance (expanded big_group) (instance (codes "long.q") (codes "n1")))
     (codes "long.q" ∷ codes "l*" ∷ codes "*@n1" ∷ codes "long.q@n[2-3]" ∷ codes "short.q@n1" ∷ codes "long.q@@big" ∷ codes "*@@b*" ∷ codes "*@@bad" ∷ codes "*@@none" ∷ codes "long.q@big" ∷ [])
     ≡ true ∷ true ∷ true ∷ false ∷ false ∷ true ∷ true ∷ false ∷ false ∷ false ∷ []
 unfolding big_group runs
@@ -192,7 +193,7 @@ projects = record opening {
 }
 
 abbrev open_to_project : List ℕ → List Bool
-open_to_project name = map (λ queue. is_open projects (expanded projects) (record (job 1 (codes "ann")) { project = name }) (at queue (codes "local"))) (codes "a.q" ∷ codes "b.q" ∷ [])
+open_to_project name = map (λ queue. is_open projects (expanded projects) (record (job 1 (codes "ann")) { project = name }) (instance queue (codes "local"))) (codes "a.q" ∷ codes "b.q" ∷ [])
 
 with_and_without_a_project : map open_to_project (codes "p" ∷ codes "q" ∷ codes "r" ∷ [] ∷ []) ≡ (true ∷ true ∷ []) ∷ (false ∷ false ∷ []) ∷ (false ∷ true ∷ []) ∷ (false ∷ true ∷ []) ∷ []
 unfolding projects runs

@@ -8,7 +8,8 @@ use Rattle.ge_model_rows.specs.PeRows.{Allocation, Fixed, PeSlots, FillUp, Round
 use Rattle.ge_model_rows.specs.QuotaRows.{Rule}
 use Rattle.ge_model_value.specs.Complexes.{opening}
 use Rattle.ge_model_place.specs.Running.{run_of}
-use Rattle.ge_model_place.proofs.Site.{runs, local, lasting, job, in_queues, with_pe, reserving, task, slots_of, one, start, reserve, running, pe, filter_of, user_rule, rule_set}
+use Rattle.ge_model_jobs.proofs.Samples.{in_queues, with_pe, task, slots_of, local, running, pe}
+use Rattle.ge_model_place.proofs.Site.{runs, lasting, job, reserving, one, start, reserve, filter_of, user_rule, rule_set}
 
 -- backfill: job 1 runs up to 100 on one of two slots, job 2 asks for both and a reservation, 3 and 4 for one
 

@@ -1,34 +1,15 @@
 -- Accounting lines and their sums, by computation.
-use Rattle.std.specs.Prelude.{◌≡◌, ℕ, ◌-◌, ◌^◌, List, [], ◌∷◌, codes, pos, negsuc, refl}
+use Rattle.std.specs.Prelude.{◌≡◌, ℕ, ◌-◌, ◌^◌, List, [], ◌∷◌, codes, negsuc, refl}
 use Rattle.std.specs.Fmt.{digits}
 use Rattle.ge_model_rows.specs.AccountRows.{Line}
 use Rattle.ge_model_rows.specs.ClusterRows.{Cluster, opening_cluster, default_queue, default_sched}
 use Rattle.ge_model_rows.specs.CommandRows.{Total, Owner, Job}
+use Rattle.ge_model_jobs.proofs.Samples.{line}
 use Rattle.ge_model_report.specs.Accounting.{line_text, account_of}
 
+-- one of a job that was submitted at 10 and is no array
 abbrev ended : ℕ → ℕ → ℕ → Line
-ended start end cpu = record {
-  queue = codes "all.q";
-  host = codes "local";
-  group = codes "staff";
-  owner = codes "ann";
-  name = codes "one";
-  job = 1;
-  account = codes "sge";
-  priority = pos 0;
-  submitted = 10;
-  start = start;
-  end = end;
-  failed = 0;
-  exit = 0;
-  project = [];
-  pe = [];
-  slots = 1;
-  task = 0;
-  cpu = cpu;
-  mem = 0;
-  io = 0;
-}
+ended from until cpu = record (line 1 0 from until 0) { name = codes "one"; submitted = 10; cpu = cpu }
 
 one_line : line_text (ended 20 50 12) ≡ codes "all.q:local:staff:ann:one:1:sge:0:10:20:50:0:0:30:NONE:NONE:1:0:12:0:0"
 unfolding line_text digits

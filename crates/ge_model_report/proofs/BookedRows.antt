@@ -5,27 +5,21 @@ use Rattle.ge_model_rows.specs.ClusterRows.{Cluster}
 use Rattle.ge_model_rows.specs.JobRows.{Grant, Advance}
 use Rattle.ge_model_rows.specs.ValueRows.{Amount}
 use Rattle.ge_model_value.specs.Complexes.{opening}
+use Rattle.ge_model_jobs.proofs.Samples.{asking, slots_of, on_local, some_advance, with_jobs}
 use Rattle.ge_model_report.specs.Booked.{booked_lines}
 use Rattle.ge_model_report.specs.Orders.{task_lines}
-use Rattle.ge_model_report.proofs.Samples.{some_slots, on_local, running_job, with_jobs}
+use Rattle.ge_model_report.proofs.Samples.{running_job}
 
-abbrev some_advance : List ℕ → List Grant → Advance
-some_advance name grants = record {
-  name = name;
-  owner = codes "ann";
-  group = codes "staff";
-  from = 100;
-  until = 150;
-  request = record { asked = []; queues = []; pe = None };
-  grants = grants;
-}
+-- one from 100 until before 150
+abbrev from_100 : List ℕ → List Grant → Advance
+from_100 name grants = some_advance name 100 150 grants
 
 -- one of three slots at two instances, and one of one slot
 unfoldable two_booked : Cluster
 two_booked = record opening {
   advances =
-      (2, some_advance (codes "x") (some_slots (codes "a.q") (codes "h1") 2 ∷ some_slots (codes "a.q") (codes "h2") 1 ∷ []))
-      ∷ (7, some_advance (codes "ar") (some_slots (codes "b.q") (codes "h1") 1 ∷ []))
+      (2, from_100 (codes "x") (slots_of (codes "a.q") (codes "h1") 2 ∷ slots_of (codes "a.q") (codes "h2") 1 ∷ []))
+      ∷ (7, from_100 (codes "ar") (slots_of (codes "b.q") (codes "h1") 1 ∷ []))
       ∷ [];
 }
 
@@ -57,13 +51,7 @@ nothing_booked = refl
 unfoldable in_the_second : ℕ → Cluster
 unfolding two_booked
 in_the_second seconds = record two_booked {
-  jobs = (
-    1,
-    record (running_job (codes "one") (on_local 1 120)) {
-      advance = 7;
-      request = record { asked = (codes "h_rt", Amount seconds) ∷ []; queues = []; pe = None };
-    },
-  ) ∷ [];
+  jobs = (1, asking ((codes "h_rt", Amount seconds) ∷ []) (record (running_job (codes "one") (on_local 1 120)) { advance = 7 })) ∷ [];
 }
 
 up_to_the_end : task_lines (in_the_second 60) 1 ≡ codes "limit 30" ∷ codes "words 1" ∷ codes "x" ∷ []

@@ -1,11 +1,12 @@
 -- What a daemon asks for, by computation.
-use Rattle.std.specs.Prelude.{◌≡◌, ℕ, true, List, [], ◌∷◌, None, codes, refl}
+use Rattle.std.specs.Prelude.{◌≡◌, ℕ, true, List, [], ◌∷◌, codes, refl}
 use Rattle.std.specs.Fmt.{digits}
 use Rattle.ge_model_rows.specs.JobRows.{Job}
 use Rattle.ge_model_rows.specs.ValueRows.{Amount}
 use Rattle.ge_model_value.specs.Complexes.{opening}
+use Rattle.ge_model_jobs.proofs.Samples.{asking, slots_of, running, on_local, with_jobs}
 use Rattle.ge_model_report.specs.Orders.{orders_of, task_lines}
-use Rattle.ge_model_report.proofs.Samples.{some_job, some_slots, some_running, on_local, running_job, with_jobs}
+use Rattle.ge_model_report.proofs.Samples.{named, running_job}
 
 one_to_run : orders_of (with_jobs ((1, running_job (codes "one") (on_local 1 20)) ∷ [])) (codes "local") ≡ codes "run 1 1 1 1" ∷ []
 unfolding orders_of with_jobs opening digits
@@ -19,10 +20,10 @@ one_to_kill = refl
 -- several times stand by job, then task
 abbrev some_jobs : List (ℕ × Job)
 some_jobs =
-    (1, record (some_job (codes "a")) { queued = []; array = true; running = (2, on_local 9 20) ∷ (5, on_local 4 20) ∷ (6, some_running 5 20 []) ∷ [] })
-    ∷ (2, running_job (codes "b") (some_running 3 20 (some_slots (codes "a.q") (codes "local") 2 ∷ some_slots (codes "a.q") (codes "h2") 5 ∷ [])))
-    ∷ (3, running_job (codes "c") (some_running 2 20 (some_slots (codes "a.q") (codes "h2") 2 ∷ some_slots (codes "a.q") (codes "local") 5 ∷ [])))
-    ∷ (4, record (some_job (codes "d")) { queued = []; array = true; running = (1, on_local 9 20) ∷ (7, on_local 9 20) ∷ [] })
+    (1, record (named (codes "a")) { queued = []; array = true; running = (2, on_local 9 20) ∷ (5, on_local 4 20) ∷ (6, running 5 20 []) ∷ [] })
+    ∷ (2, running_job (codes "b") (running 3 20 (slots_of (codes "a.q") (codes "local") 2 ∷ slots_of (codes "a.q") (codes "h2") 5 ∷ [])))
+    ∷ (3, running_job (codes "c") (running 2 20 (slots_of (codes "a.q") (codes "h2") 2 ∷ slots_of (codes "a.q") (codes "local") 5 ∷ [])))
+    ∷ (4, record (named (codes "d")) { queued = []; array = true; running = (1, on_local 9 20) ∷ (7, on_local 9 20) ∷ [] })
     ∷ []
 
 by_serial : orders_of (with_jobs some_jobs) (codes "local")
@@ -40,11 +41,10 @@ without_a_limit = refl
 
 -- a script is cut at each line feed, and what follows the last one counts, also where it is empty
 abbrev with_script : Job
-with_script = record (running_job (codes "one") (on_local 3 20)) {
-  request = record { asked = (codes "h_rt", Amount 60) ∷ (codes "s_rt", Amount 50) ∷ []; queues = []; pe = None };
+with_script = asking ((codes "h_rt", Amount 60) ∷ (codes "s_rt", Amount 50) ∷ []) (record (running_job (codes "one") (on_local 3 20)) {
   words = codes "run.sh" ∷ codes "a b" ∷ [] ∷ [];
   script = codes "#!/bin/sh\n\ndate\n";
-}
+})
 
 a_limit_and_a_script : task_lines (with_jobs ((1, running_job (codes "one") (on_local 1 20)) ∷ (2, with_script) ∷ [])) 3
     ≡ codes "limit 50" ∷ codes "words 3" ∷ codes "run.sh" ∷ codes "a b" ∷ [] ∷ codes "#!/bin/sh" ∷ [] ∷ codes "date" ∷ [] ∷ []

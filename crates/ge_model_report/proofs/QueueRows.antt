@@ -8,8 +8,9 @@ use Rattle.ge_model_rows.specs.JobRows.{Job}
 use Rattle.ge_model_rows.specs.QueueRows.{QueueRow}
 use Rattle.ge_model_rows.specs.ValueRows.{Value, Amount, Word}
 use Rattle.ge_model_value.specs.Complexes.{opening}
+use Rattle.ge_model_jobs.proofs.Samples.{slots_of, running, on_local, host, with_jobs}
 use Rattle.ge_model_report.specs.Listing.{listing_of, listings_in_full}
-use Rattle.ge_model_report.proofs.Samples.{some_slots, some_running, on_local, running_job, with_jobs}
+use Rattle.ge_model_report.proofs.Samples.{running_job}
 
 -- two tasks run, and then the queue is left with one slot
 abbrev two_on_one_slot : Cluster
@@ -23,7 +24,7 @@ more_used_than_there_are = refl
 
 -- two queues over a group of hosts: loads that reach the threshold and that don't, one that is a word, slots of one host alone
 abbrev loaded : Value → HostRow
-loaded load = record { values = []; load = (codes "np_load_avg", load) ∷ [] }
+loaded load = host [] ((codes "np_load_avg", load) ∷ [])
 
 abbrev over_group : QueueRow
 over_group = record default_queue { hosts = codes "@all" ∷ codes "local" ∷ []; slots = record { plain = 2; overrides = (codes "h1", 4) ∷ [] } }
@@ -37,7 +38,7 @@ site jobs =
       queues = (codes "a.q", over_group) ∷ (codes "b.q", record over_group { thresholds = plain_attr [] }) ∷ [];
     }
 
-over_a_group_of_hosts : listing_of (site ((1, running_job (codes "a") (some_running 1 20 (some_slots (codes "b.q") (codes "h1") 3 ∷ some_slots (codes "a.q") (codes "h2") 1 ∷ []))) ∷ [])) Queues 30 []
+over_a_group_of_hosts : listing_of (site ((1, running_job (codes "a") (running 1 20 (slots_of (codes "b.q") (codes "h1") 3 ∷ slots_of (codes "a.q") (codes "h2") 1 ∷ []))) ∷ [])) Queues 30 []
     ≡ codes "a.q@h1 0/4 1.750000 a"
     ∷ codes "a.q@h2 1/2 1.749999 -"
     ∷ codes "a.q@local 0/2 - -"
@@ -53,7 +54,7 @@ abbrev by_unknown_load : Cluster
 by_unknown_load =
     let c = with_jobs [] in
     record c {
-      hosts = (codes "local", record { values = []; load = (codes "heat", Amount 12) ∷ [] }) ∷ [];
+      hosts = (codes "local", host [] ((codes "heat", Amount 12) ∷ [])) ∷ [];
       sched = record default_sched { load_formula = codes "heat" };
     }
 
