@@ -1,42 +1,22 @@
 -- What is used, and what is there.
-use Rattle.std.specs.Prelude.{◌≡◌, true, false, [], ◌∷◌, Some, map, pos, codes, refl}
+use Rattle.std.specs.Prelude.{◌≡◌, true, false, [], ◌∷◌, Some, map, codes, refl}
 use Rattle.ge_model_rows.specs.ClusterRows.{Cluster}
 use Rattle.ge_model_rows.specs.EntryRows.{ObjectKind}
 use Rattle.ge_model_rows.specs.JobRows.{Job}
 use Rattle.ge_model_rows.specs.ValueRows.{Amount}
 use Rattle.ge_model_value.specs.Complexes.{opening_complexes}
+use Rattle.ge_model_jobs.proofs.Samples.{some_job, asking, with_pe, slots_of, running, some_advance}
 use Rattle.ge_model_config.specs.Used.{is_used, is_there}
 use Rattle.ge_model_config.proofs.Site.{site, with_body}
 
 -- a job of a project that asks for an environment and a resource, with one task that runs in long.q on n3
 unfoldable pub one_job : Job
-one_job = record {
-  number = 1;
-  name = codes "a";
-  owner = codes "ann";
-  group = codes "staff";
-  account = codes "sge";
+one_job = asking ((codes "ver", Amount 5) ∷ []) (with_pe (codes "mpi") 1 1 (record (some_job 1 (codes "a") (codes "ann") (codes "lab")) {
   submitted = 0;
-  priority = pos 0;
-  share = 0;
-  project = codes "lab";
-  reserve = false;
-  not_before = 0;
-  deadline = 0;
-  request = record { asked = (codes "ver", Amount 5) ∷ []; queues = []; pe = Some (record { name = codes "mpi"; low = 1; high = 1 }) };
-  array = false;
-  span = record { first = 1; last = 1; step = 1 };
   queued = [];
-  broken = [];
-  running = (1, record { serial = 1; start = 0; grants = record { at = record { queue = codes "short.q"; host = codes "n4" }; slots = 1 } ∷ []; deleting = false }) ∷ [];
-  hold = 0;
-  after = [];
-  after_each = [];
-  oticket = 0;
+  running = (1, running 1 0 (slots_of (codes "short.q") (codes "n4") 1 ∷ [])) ∷ [];
   words = [];
-  script = [];
-  advance = 0;
-}
+}))
 
 -- the site with the job, a share node of a project, and further objects that nothing uses
 unfoldable pub busy : Cluster
@@ -90,14 +70,8 @@ reserved = record busy {
   jobs = [];
   advances = (
     1,
-    record {
-      name = codes "ar";
-      owner = codes "ann";
-      group = codes "staff";
-      from = 5;
-      until = 9;
+    record (some_advance (codes "ar") 5 9 (slots_of (codes "short.q") (codes "n4") 1 ∷ [])) {
       request = record { asked = (codes "ver", Amount 5) ∷ []; queues = []; pe = Some (record { name = codes "mpi"; low = 1; high = 1 }) };
-      grants = record { at = record { queue = codes "short.q"; host = codes "n4" }; slots = 1 } ∷ [];
     },
   ) ∷ [];
 }
