@@ -1,9 +1,8 @@
 -- A day of a small site: hosts, a group, an environment, two queues and a quota, and what is answered to twelve jobs.
 use Rattle.std.specs.Prelude.{◌≡◌, ◌++◌, ℕ, List, [], ◌∷◌, codes, refl}
 use Rattle.ge_model_rows.specs.ClusterRows.{Cluster}
-use Rattle.ge_model_rows.specs.HostRows.{InstanceId}
-use Rattle.ge_model_rows.specs.TaskRows.{TaskId}
 use Rattle.ge_model_site.specs.Groups.{expanded}
+use Rattle.ge_model_jobs.proofs.Samples.{task, instance}
 use Rattle.ge_model_order.specs.Priority.{prios_at, order_of, order_of_runs}
 use Rattle.ge_model_place.specs.InstanceOrder.{instance_order}
 use Rattle.ge_model_place.specs.Running.{runs_in_full}
@@ -81,12 +80,6 @@ a_day : written_for (
 unfolding written_for morning
 a_day = refl
 
-abbrev task : ℕ → ℕ → TaskId
-task job number = record { job = job; task = number }
-
-abbrev at : List ℕ → List ℕ → InstanceId
-at queue host = record { queue = queue; host = host }
-
 -- the site before its first run
 unfoldable site : Cluster
 unfolding left_by morning
@@ -100,6 +93,6 @@ the_order_of_the_first_run = refl
 
 -- the order of the instances: the least loaded host first, then by seq_no
 the_order_of_the_instances : instance_order site (expanded site)
-    ≡ at (codes "long.q") (codes "n3") ∷ at (codes "short.q") (codes "n3") ∷ at (codes "long.q") (codes "n2") ∷ at (codes "long.q") (codes "n1") ∷ []
+    ≡ instance (codes "long.q") (codes "n3") ∷ instance (codes "short.q") (codes "n3") ∷ instance (codes "long.q") (codes "n2") ∷ instance (codes "long.q") (codes "n1") ∷ []
 unfolding site runs_in_full
 the_order_of_the_instances = refl
