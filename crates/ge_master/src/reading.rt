@@ -117,17 +117,17 @@ fn apply_behind(
     cluster: &mut Cluster,
     raw: &Raw,
     gate: u64,
-    record: &Text,
+    journal_record: &Text,
 ) -> Result<u64, OpenFault>
-    requires { gate + 5 + length record.now < 2 ^ 63 }
-    ensures { AppliesBehind result raw.now.area gate (length record.now) cluster.new
-        (cluster_after_record raw.now.format cluster.old record.now) }
+    requires { gate + 5 + length journal_record.now < 2 ^ 63 }
+    ensures { AppliesBehind result raw.now.area gate (length journal_record.now) cluster.new
+        (cluster_after_record raw.now.format cluster.old journal_record.now) }
 {
-    let good = apply_record(alloc, cluster, raw.format, record.bytes())?;
+    let good = apply_record(alloc, cluster, raw.format, journal_record.bytes())?;
     if !good {
         return Err(OpenFault::Bad(raw.area, gate + 5));
     }
-    Ok(gate + 5 + record.len() as u64)
+    Ok(gate + 5 + journal_record.len() as u64)
 }
 
 /// The cluster that a journal holds, or the place of the snapshot or record that can't be read. The list of records ends below

@@ -66,5 +66,6 @@ pub record ReplaysAreas (batch status : ℕ) (script rest : Option (List ℕ)) (
   pub refused : status ≡ 4 → IfSome (said_of stands_for x.a x.b) IsErr
   pub kept : status ≡ 4 → AreKept x y
   pub not_opened : IfSome (said_of stands_for x.a x.b) (λ stood. IsErr stood → IsOneStatusOf (4 ∷ 8 ∷ 10 ∷ []) status)
+  pub untouched : IfSome (said_of stands_for x.a x.b) (λ stood. IsErr stood → (rest ≡ script) × (y.output ≡ x.output))
   pub unread : status ≡ 4 → rest ≡ script
   pub unwritten : status ≡ 4 → y.output ≡ x.output

@@ -75,6 +75,8 @@ module _ (batch status : ℕ) (script rest : Option (List ℕ)) (reads_before re
         kept = λ is. absurd (not_four is);
         not_opened = if_said stands_for x.a x.b (λ stood. IsErr stood → IsOneStatusOf (4 ∷ 8 ∷ 10 ∷ []) status)
             (λ tells_a tells_b. λ refused. absurd (stood-not-refused _ _ (opens.opened tells_a tells_b).stood refused));
+        untouched = if_said stands_for x.a x.b (λ stood. IsErr stood → (rest ≡ script) × (y.output ≡ x.output))
+            (λ tells_a tells_b. λ refused. absurd (stood-not-refused _ _ (opens.opened tells_a tells_b).stood refused));
         unread = λ is. absurd (not_four is);
         unwritten = λ is. absurd (not_four is);
       }
@@ -103,6 +105,7 @@ module _ (batch : ℕ) (some : 0 < batch) (script : Option (List ℕ)) (reads : 
     refused = refused;
     kept = kept;
     not_opened = if_said stands_for x.a x.b (λ stood. IsErr stood → IsOneStatusOf (4 ∷ 8 ∷ 10 ∷ []) status) (λ tells_a tells_b. λ refused. one);
+    untouched = if_said stands_for x.a x.b (λ stood. IsErr stood → (script ≡ script) × (y.output ≡ x.output)) (λ tells_a tells_b. λ refused. (refl, output));
     unread = λ is. refl;
     unwritten = λ is. output;
   }

@@ -83,6 +83,8 @@ module _ (count status : ℕ) (x y : Areas) (coming coming_now : Option (List (L
         kept = λ is. absurd (not_four is);
         not_opened = if_said stands_for x.a x.b (λ stood. IsErr stood → IsOneStatusOf (4 ∷ 8 ∷ 10 ∷ []) status)
             (λ tells_a tells_b. λ refused. absurd (stood-not-refused _ _ (opens.opened tells_a tells_b).stood refused));
+        untouched = if_said stands_for x.a x.b (λ stood. IsErr stood → (coming_now ≡ coming) × (closed_now ≡ closed) × (later ≡ clock))
+            (λ tells_a tells_b. λ refused. absurd (stood-not-refused _ _ (opens.opened tells_a tells_b).stood refused));
         unaccepted = λ is. absurd (not_four is);
         disk = λ is. failed-since x mid y later_a later_b (ran.disk is);
         door = ran.door;
@@ -116,6 +118,9 @@ module _ (count : ℕ) (x y : Areas) (coming : Option (List (List ℕ))) (closed
         }),
       ))
 
+  unmoved : IfSome (said_of stands_for x.a x.b) (λ stood. IsErr stood → (coming ≡ coming) × (closed ≡ closed) × (clock ≡ clock))
+  unmoved = if_said stands_for x.a x.b (λ stood. IsErr stood → (coming ≡ coming) × (closed ≡ closed) × (clock ≡ clock)) (λ tells_a tells_b. λ refused. (refl, refl, refl))
+
   refused-areas : (r : Wrong) → IfSome (said_of both_bytes x.a x.b) (λ read. IsKept read.0 (read_bytes y.a) × IsKept read.1 (read_bytes y.b))
       → (Tells x.a → Tells x.b → stands_for (read_bytes x.a) (read_bytes x.b) ≡ Err r) → ServesAreas count 4 x y coming coming closed closed clock clock doors doors
   refused-areas r kept wrong = record {
@@ -125,6 +130,7 @@ module _ (count : ℕ) (x y : Areas) (coming : Option (List (List ℕ))) (closed
     refused = λ is. if_said stands_for x.a x.b IsErr (λ tells_a tells_b. is-err _ r (wrong tells_a tells_b));
     kept = λ is. kept;
     not_opened = if_said stands_for x.a x.b (λ stood. IsErr stood → IsOneStatusOf (4 ∷ 8 ∷ 10 ∷ []) 4) (λ tells_a tells_b. λ refused. refl);
+    untouched = unmoved;
     unaccepted = λ is. (refl, refl, refl);
     disk = λ is. absurd (omega (arith, is));
     door = λ is. absurd (omega (arith, is));
@@ -138,6 +144,7 @@ module _ (count : ℕ) (x y : Areas) (coming : Option (List (List ℕ))) (closed
     refused = λ is. absurd (four is);
     kept = λ is. absurd (four is);
     not_opened = if_said stands_for x.a x.b (λ stood. IsErr stood → IsOneStatusOf (4 ∷ 8 ∷ 10 ∷ []) status) (λ tells_a tells_b. λ refused. among);
+    untouched = unmoved;
     unaccepted = λ is. absurd (four is);
     disk = disk;
     door = λ is. absurd (nine is);

@@ -49,6 +49,7 @@ pub record ServesAreas (count status : ℕ) (x y : Areas) (coming coming_now : O
   pub refused : status ≡ 4 → IfSome (said_of stands_for x.a x.b) IsErr
   pub kept : status ≡ 4 → IfSome (said_of both_bytes x.a x.b) (λ read. IsKept read.0 (read_bytes y.a) × IsKept read.1 (read_bytes y.b))
   pub not_opened : IfSome (said_of stands_for x.a x.b) (λ stood. IsErr stood → IsOneStatusOf (4 ∷ 8 ∷ 10 ∷ []) status)
+  pub untouched : IfSome (said_of stands_for x.a x.b) (λ stood. IsErr stood → (coming_now ≡ coming) × (closed_now ≡ closed) × (later ≡ clock))
   pub unaccepted : status ≡ 4 → (coming_now ≡ coming) × (closed_now ≡ closed) × (later ≡ clock)
   pub disk : status ≡ 8 → HasFailed x y
   pub door : status ≡ 9 → Rose doors doors_now
