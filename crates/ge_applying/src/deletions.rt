@@ -5,7 +5,7 @@ ghost use Rattle.ge_model_jobs.specs.Ending.{forced, forced_lines, is_named, del
 ghost use Rattle.ge_model_jobs.specs.Picks.{names_task};
 
 use crate::accounts::{Told, new_line};
-use ge_jobs::{NamedTasks, delete, get, joined};
+use ge_jobs::{NamedTasks, delete_named, get, joined, narrowed};
 use ge_ranges::contains;
 use ge_rows::{Cluster, Job, Line, List, Pick, Running, Table, TaskId, TaskSet};
 use std::alloc::{AllocError, Global};
@@ -77,34 +77,35 @@ fn push_lines(
     force: bool,
     number: u32,
     job: &Job,
-    tasks: &Option<TaskSet>,
+    named: &NamedTasks,
 ) -> Result<(), AllocError>
     ensures { OnOk result (lines.new
-        ≡ lines.old ++ forced_lines moment force number job.now tasks.now) }
+        ≡ lines.old ++ forced_lines moment force number job.now named.now) }
 {
     if !force {
         return Ok(());
     }
-    push_named(alloc, lines, moment, number, job, tasks)?;
+    let part = narrowed(alloc, named, job)?;
+    push_named(alloc, lines, moment, number, job, &part)?;
     Ok(())
 }
 
-// A job loses the tasks that a pick names; by force those that run end, each with its line.
+// A job loses the tasks that picks name; by force those that run end, each with its line.
 fn delete_one(
     alloc: Global,
     c: &mut Cluster,
     moment: u64,
     force: bool,
     number: u32,
-    tasks: &Option<TaskSet>,
+    named: &NamedTasks,
 ) -> Result<(), AllocError>
-    ensures { OnOk result (c.new ≡ delete_from moment force c.old (number, tasks.now)) }
+    ensures { OnOk result (c.new ≡ delete_from moment force c.old (number, named.now)) }
 {
     let Some(job) = get(&c.jobs, number) else {
         return Ok(());
     };
-    push_lines(alloc, &mut c.lines, moment, force, number, job, tasks)?;
-    delete(alloc, &mut c.jobs, number, force, tasks)?;
+    push_lines(alloc, &mut c.lines, moment, force, number, job, named)?;
+    delete_named(alloc, &mut c.jobs, number, force, named)?;
     Ok(())
 }
 
@@ -118,7 +119,7 @@ fn delete_all(
     ensures { OnOk result (c.new ≡ fold (delete_from moment force) c.old named.now) }
 {
     for (number, tasks) in named.iter() {
-        delete_one(alloc, c, moment, force, *number, tasks.tasks())?;
+        delete_one(alloc, c, moment, force, *number, tasks)?;
     }
     Ok(())
 }

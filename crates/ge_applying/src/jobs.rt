@@ -3,7 +3,7 @@ ghost use Rattle.std.specs.Prelude.{◌≡◌, OnOk, fold};
 ghost use Rattle.ge_model_jobs.specs.Altering.{with_job, alter_job, with_altered, change_job, held, with_held, freed, with_freed};
 ghost use Rattle.ge_model_jobs.specs.Ending.{clear_from, with_cleared};
 
-use ge_jobs::{JobTable, NamedTasks, alter, clear, hold, joined, release, submit};
+use ge_jobs::{JobTable, NamedTasks, alter, clear_named, hold, joined, release, submit};
 use ge_rows::{Cluster, Job, Patch, Pick, Table, Twin};
 use std::alloc::{AllocError, Global};
 
@@ -80,7 +80,7 @@ fn clear_all(
     ensures { OnOk result (jobs.new ≡ fold clear_from jobs.old named.now) }
 {
     for (number, tasks) in named.iter() {
-        clear(alloc, jobs, *number, tasks.tasks())?;
+        clear_named(alloc, jobs, *number, tasks)?;
     }
     Ok(())
 }

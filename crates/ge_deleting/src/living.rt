@@ -10,6 +10,7 @@ ghost use Rattle.ge_deleting.specs.Live.{live_in};
 ghost use Rattle.ge_deleting.specs.Live as live;
 
 use crate::asker::Asker;
+use ge_jobs::NamedTasks;
 use ge_ranges::{meet, set_of, union};
 use ge_rows::{Cluster, Event, Job, List, Running, Table, TaskSet, Twin};
 use std::alloc::{AllocError, Global};
@@ -137,8 +138,26 @@ impl<'a> LiveTasks<'a> {
         Ok(())
     }
 
-    /// The live tasks of a job that a target names.
+    /// The live tasks of a job that targets name together.
     pub(crate) fn picked(
+        &mut self,
+        alloc: Global,
+        number: u32,
+        named: &NamedTasks,
+    ) -> Result<TaskSet, AllocError>
+        ensures part { IfOk result (λ part. part
+            ≡ named_in named.now (live.live_at self.old.0.jobs number)) }
+        ensures same { self.new ≡ self.old }
+    {
+        self.learn(alloc, number)?;
+        match self.sets.get(&number) {
+            Some(set) => named.named_in(alloc, set),
+            None => Err(AllocError),
+        }
+    }
+
+    // Those that one target names.
+    fn picked_by_one(
         &mut self,
         alloc: Global,
         number: u32,
@@ -166,7 +185,7 @@ impl<'a> LiveTasks<'a> {
             ≡ is_none (named_in tasks.now (live.live_at self.old.0.jobs number))) }
         ensures same { self.new ≡ self.old }
     {
-        let part = self.picked(alloc, number, tasks)?;
+        let part = self.picked_by_one(alloc, number, tasks)?;
         Ok(has_none(&part))
     }
 }

@@ -6,7 +6,7 @@ ghost use Rattle.ge_deleting.specs.Counts.{shown};
 
 use crate::living::LiveTasks;
 use ge_base::Refusal;
-use ge_jobs::joined;
+use ge_jobs::{NamedTasks, joined};
 use ge_pieces::note;
 use ge_rows::{Job, Pick, TaskSet};
 use std::alloc::{AllocError, Global};
@@ -65,7 +65,7 @@ fn push_named<'a>(
     live: &mut LiveTasks<'a>,
     named: &mut Vec<NamedJob<'a>>,
     number: u32,
-    tasks: &Option<TaskSet>,
+    tasks: &NamedTasks,
 ) -> Result<(), AllocError>
     ensures more { OnOk result (shown named.new.items
         ≡ shown named.old.items ++ live_named live.old.0 (number, tasks.now)) }
@@ -90,7 +90,7 @@ pub(crate) fn jobs_named<'a>(
     let rows = joined(alloc, picks)?;
     let mut named = Vec::new(alloc);
     for (number, tasks) in rows.iter() {
-        push_named(alloc, live, &mut named, *number, tasks.tasks())?;
+        push_named(alloc, live, &mut named, *number, tasks)?;
     }
     Ok(named)
 }

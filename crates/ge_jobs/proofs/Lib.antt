@@ -4,3 +4,7 @@ pub mod Kept
 pub mod Rising
 pub mod Folded
 pub mod NamedRows
+pub mod GatheredSets
+pub mod PutAgain
+pub mod NarrowedJobs
+pub mod NarrowedRows

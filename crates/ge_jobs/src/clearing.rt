@@ -2,8 +2,9 @@
 ghost use Rattle.std.specs.Prelude.{◌≡◌, OnOk, OnErr};
 ghost use Rattle.ge_model_jobs.specs.Ending.{cleared, clear_from};
 
-use crate::asking::JobTable;
-use crate::picking::{named_in, unnamed_in};
+use crate::asking::{JobTable, get};
+use crate::narrowing::narrowed;
+use crate::picking::{NamedTasks, named_in, unnamed_in};
 use ge_ranges::union;
 use ge_rows::{Job, JobMark, TaskSet, TryEdit};
 use std::alloc::{AllocError, Global};
@@ -46,5 +47,25 @@ pub fn clear(
     ensures err { OnErr result (jobs.new ≡ jobs.old) }
 {
     let _found = jobs.try_change(alloc, &number, &Cleared { tasks })?;
+    Ok(())
+}
+
+/// The tasks in error of a job that targets name together wait again. A job that isn't there stays so. After want of memory the
+/// table is given up.
+#[tactic(auto, using(crate::proofs::NarrowedRows::none_cleared))]
+pub fn clear_named(
+    alloc: Global,
+    jobs: &mut JobTable,
+    number: u32,
+    named: &NamedTasks,
+) -> Result<(), AllocError>
+    ensures ok { OnOk result (jobs.new ≡ clear_from jobs.old (number, named.now)) }
+    ensures err { OnErr result (jobs.new ≡ jobs.old) }
+{
+    let Some(job) = get(jobs, number) else {
+        return Ok(());
+    };
+    let part = narrowed(alloc, named, job)?;
+    clear(alloc, jobs, number, &part)?;
     Ok(())
 }

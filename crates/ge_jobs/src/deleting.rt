@@ -9,7 +9,8 @@ ghost use Rattle.ge_jobs.specs.Deletions.{deleting, mark_number, marks_if_named,
 
 use crate::asking::{JobTable, get};
 use crate::ending::{has_none, remove};
-use crate::picking::{names, unnamed_in};
+use crate::narrowing::narrowed;
+use crate::picking::{NamedTasks, names, unnamed_in};
 use ge_rows::{Edit, Job, JobMark, List, Running, Table, TaskSet, TryEdit, task_marks};
 use std::alloc::{AllocError, Global};
 
@@ -235,5 +236,25 @@ pub fn delete(
 {
     let _found = jobs.try_change(alloc, &number, &Deleted { force, tasks })?;
     drop_spent(jobs, number);
+    Ok(())
+}
+
+/// The tasks of a job that targets name together are deleted. A job that isn't there stays so. After want of memory the table is
+/// as it was.
+pub fn delete_named(
+    alloc: Global,
+    jobs: &mut JobTable,
+    number: u32,
+    force: bool,
+    named: &NamedTasks,
+) -> Result<(), AllocError>
+    ensures ok { OnOk result (jobs.new ≡ lose_tasks (without_picked force named.now) jobs.old number) }
+    ensures err { OnErr result (jobs.new ≡ jobs.old) }
+{
+    let Some(job) = get(jobs, number) else {
+        return Ok(());
+    };
+    let part = narrowed(alloc, named, job)?;
+    delete(alloc, jobs, number, force, &part)?;
     Ok(())
 }

@@ -46,8 +46,8 @@ fn running_set(alloc: Global, running: &Table<u32, Running>) -> Result<TaskSet, 
     set_of(alloc, numbers.items())
 }
 
-// The live tasks of a job, by which it holds those of others.
-fn holding_tasks(alloc: Global, job: &Job) -> Result<TaskSet, AllocError>
+/// The live tasks of a job, by which it holds those of others.
+pub(crate) fn holding_tasks(alloc: Global, job: &Job) -> Result<TaskSet, AllocError>
     ensures { IfOk result (λ set. set ≡ holding_of job.now) }
 {
     let waiting = union(alloc, &job.queued, &job.broken)?;

@@ -8,7 +8,8 @@
 //! - [`eligible`]: the tasks that a run may start; [`held_tasks`], [`free_tasks`]: which waiting tasks array predecessors hold.
 //! - [`submit`], [`alter`], [`set_hold`], [`hold`], [`release`]: qsub, qalter, qhold, qrls.
 //! - [`start`], [`end`], [`remove`]: a task starts and ends; a job goes.
-//! - [`joined`], [`NamedTasks`], [`delete`], [`clear`]: the tasks that targets name, job by job (qdel, qmod -cj).
+//! - [`joined`], [`NamedTasks`], [`narrowed`]: the tasks that targets name, job by job; [`delete_named`], [`clear_named`], and
+//!   [`delete`], [`clear`] of a set: these are deleted, or wait again (qdel, qmod -cj).
 #![tactic(auto)]
 
 mod altering;
@@ -17,19 +18,22 @@ mod clearing;
 mod deleting;
 mod ending;
 mod finding;
+mod gathered;
 mod holding;
 mod holds;
+mod narrowing;
 mod picking;
 mod starting;
 
 pub use altering::{alter, submit};
 pub use asking::{JobTable, get, holds_of, is_live};
-pub use clearing::clear;
-pub use deleting::delete;
+pub use clearing::{clear, clear_named};
+pub use deleting::{delete, delete_named};
 pub use ending::{end, remove};
 pub use finding::find_running;
 pub use ge_model_jobs::After;
 pub use holding::{eligible, free_tasks, held_tasks};
 pub use holds::{hold, release, set_hold};
+pub use narrowing::narrowed;
 pub use picking::{NamedTasks, joined};
 pub use starting::start;

@@ -1,17 +1,20 @@
 // The tasks that targets name.
 ghost use Rattle.std.specs.Prelude.{◌≡◌, IfOk, OnOk};
-ghost use Rattle.std.specs.Option.{option_copied};
 ghost use Rattle.ge_model_jobs.specs.Picks.{named_in as named_of, unnamed_in as unnamed_of, names_task, both_named, with_named, join_pick, joined_picks};
 
-use ge_ranges::{contains, difference, meet, union};
+use crate::gathered::{Gathered, one_set, part_of, with_more};
+use ge_ranges::{contains, difference, meet};
 use ge_rows::{Pick, Row, Table, TaskSet, Twin};
 use std::alloc::{AllocError, Global};
 use std::marker::Model;
 
 /// The tasks of a job that targets name together: some, or all. Contracts see them as an option, where none is all.
+///
+/// What the targets name is kept as they have it: the time and memory of each call are bounded by the job's own tasks and the
+/// number of targets, however far these reach.
 #[derive(Drop)]
 pub struct NamedTasks {
-    tasks: Option<TaskSet>,
+    tasks: Option<Gathered>,
 }
 
 impl Model for NamedTasks {
@@ -24,8 +27,18 @@ impl Model for NamedTasks {
 }
 
 impl NamedTasks {
-    /// The tasks, if not all.
-    pub fn tasks(&self) -> &Option<TaskSet>
+    /// The part of a set that they name.
+    pub fn named_in(&self, alloc: Global, set: &TaskSet) -> Result<TaskSet, AllocError>
+        ensures { IfOk result (λ part. part ≡ named_of self.now set.now) }
+    {
+        match &self.tasks {
+            None => set.twin(alloc),
+            Some(all) => part_of(alloc, all, set),
+        }
+    }
+
+    /// The sets that name them, if not all are named.
+    pub(crate) fn sets(&self) -> &Option<Gathered>
         ensures { result.now ≡ self.now }
     {
         &self.tasks
@@ -106,44 +119,59 @@ pub(crate) fn unnamed_in(
     }
 }
 
-// What two targets of one job name together.
-fn both(
-    alloc: Global,
-    first: &Option<TaskSet>,
-    second: &Option<TaskSet>,
-) -> Result<Option<TaskSet>, AllocError>
-    ensures { IfOk result (λ tasks. tasks ≡ both_named first.now second.now) }
+// What one target of a job names.
+fn alone(alloc: Global, tasks: &Option<TaskSet>) -> Result<Option<Gathered>, AllocError>
+    ensures { IfOk result (λ named. named ≡ tasks.now) }
 {
-    let Some(first) = first else {
-        return Ok(None);
-    };
-    let Some(second) = second else {
-        return Ok(None);
-    };
-    let together = union(alloc, first, second)?;
-    Ok(Some(together))
+    match tasks {
+        None => Ok(None),
+        Some(tasks) => {
+            let all = one_set(alloc, tasks)?;
+            Ok(Some(all))
+        }
+    }
 }
 
-// What the targets of a job name with one more.
+// What targets of one job name with one more.
+fn both(
+    alloc: Global,
+    so_far: Option<Gathered>,
+    tasks: &Option<TaskSet>,
+) -> Result<Option<Gathered>, AllocError>
+    ensures { IfOk result (λ named. named ≡ both_named so_far tasks.now) }
+{
+    let Some(so_far) = so_far else {
+        return Ok(None);
+    };
+    let Some(tasks) = tasks else {
+        return Ok(None);
+    };
+    let all = with_more(alloc, so_far, tasks)?;
+    Ok(Some(all))
+}
+
+// What the targets of a job name, if there were some, with one more.
 fn more(
     alloc: Global,
-    so_far: Option<&NamedTasks>,
+    so_far: Option<NamedTasks>,
     tasks: &Option<TaskSet>,
 ) -> Result<NamedTasks, AllocError>
-    ensures { IfOk result (λ named. named ≡ with_named (option_copied so_far.entry) tasks.now) }
+    ensures { IfOk result (λ named. named ≡ with_named so_far tasks.now) }
 {
     let tasks = match so_far {
-        None => tasks.twin(alloc)?,
-        Some(so_far) => both(alloc, &so_far.tasks, tasks)?,
+        None => alone(alloc, tasks)?,
+        Some(NamedTasks { tasks: named }) => both(alloc, named, tasks)?,
     };
     Ok(NamedTasks { tasks })
 }
 
+// One target more. What its job's targets named is taken out of the table, so that none of it is copied.
 fn join(alloc: Global, rows: &mut Table<u32, NamedTasks>, pick: &Pick) -> Result<(), AllocError>
     ensures { OnOk result (rows.new ≡ join_pick rows.old pick.now) }
 {
-    let named = more(alloc, rows.get(&pick.job), &pick.tasks)?;
-    let _before = rows.insert(pick.job, named)?;
+    let so_far = rows.insert(pick.job, NamedTasks { tasks: None })?;
+    let named = more(alloc, so_far, &pick.tasks)?;
+    let _meanwhile = rows.insert(pick.job, named)?;
     Ok(())
 }
 

@@ -9,3 +9,4 @@ pub mod Looked
 pub mod NextShared
 pub mod Shared
 pub mod SharedSets
+pub mod Removed

@@ -100,16 +100,17 @@ no_room spans i most numbers full so_far = by (front_of i spans)
 pub all_numbers : (spans : List TaskSpan) → take (count_of spans) (numbers_of spans) ≡ numbers_of spans
 all_numbers spans = let e = count_numbers spans in take_all (count_of spans) (numbers_of spans) (omega arith)
 
+-- numbers that are found to rise do
+pub rises : (low : ℕ) (numbers : List ℕ) → is_rising low numbers ≡ true → Rising low numbers
+rises low [] up = tt
+rises low (n ∷ rest) up = let e = both (nat_lt low n) (is_rising n rest) up in (higher low n e.0, rises n rest e.1)
+  where
+    both : (a b : Bool) → (a && b) ≡ true → (a ≡ true) × (b ≡ true)
+    both a b h = grind arith
+
+    higher : (low n : ℕ) → nat_lt low n ≡ true → low < n
+    higher low n h = grind arith
+
 -- rising numbers make a set in the form
 pub rising_form : (numbers : List ℕ) → is_rising 0 numbers ≡ true → is_form (set_of numbers) ≡ true
 rising_form numbers up = set_of_form numbers (rises 0 numbers up)
-  where
-    rises : (low : ℕ) (numbers : List ℕ) → is_rising low numbers ≡ true → Rising low numbers
-    rises low [] up = tt
-    rises low (n ∷ rest) up = let e = both (nat_lt low n) (is_rising n rest) up in (higher low n e.0, rises n rest e.1)
-      where
-        both : (a b : Bool) → (a && b) ≡ true → (a ≡ true) × (b ≡ true)
-        both a b h = grind arith
-
-        higher : (low n : ℕ) → nat_lt low n ≡ true → low < n
-        higher low n h = grind arith
