@@ -7,3 +7,5 @@ pub mod Noted
 pub mod Distinct
 pub mod Harms
 pub mod ShareTree
+pub mod Reached
+pub mod Scopes

@@ -57,7 +57,7 @@ names_listed table [] = refl
 names_listed table (id ∷ ids) =
     ap (λ (names : List (List ℕ)). option_to_list (user_name table id) ++ names) (names_listed table ids) ∙ sym (cons_listed (user_name table id) (filter_map (user_name table) ids))
 
-without_end : {A : Type 0} (xs : List A) → xs ++ [] ≡ xs
+pub without_end : {A : Type 0} (xs : List A) → xs ++ [] ≡ xs
 without_end [] = refl
 without_end (x ∷ xs) = ap (λ ys. x ∷ ys) (without_end xs)
 
@@ -178,7 +178,7 @@ once_is children id =
     ∙ ap (λ (b : Bool). at_least_one (count_by (λ child. child == id) children) && not b) m.has_two
     ∙ just_one (count_by (λ child. child == id) children))
 
-all_same : (p q : ℕ → Bool) → ((n : ℕ) → p n ≡ q n) → (ids : List ℕ) → list_all p ids ≡ list_all q ids
+pub all_same : (p q : ℕ → Bool) → ((n : ℕ) → p n ≡ q n) → (ids : List ℕ) → list_all p ids ≡ list_all q ids
 all_same p q each [] = refl
 all_same p q each (id ∷ ids) = ap (λ (b : Bool). b && list_all p ids) (each id) ∙ ap (λ (b : Bool). q id && b) (all_same p q each ids)
 

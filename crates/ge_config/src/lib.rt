@@ -10,7 +10,8 @@
 //! - [`read_host`], [`read_environment`], [`read_user_set`], [`read_user`], [`read_project`], [`read_sched`], [`read_queue`],
 //!   [`read_group`], [`read_quota`]: one kind of object each, made of the attributes of its body.
 //! - [`read_complexes`]: the table of complexes; `columns` has the words of its columns, `uses` what a new table would break.
-//! - [`read_shares`]: the share tree; `share_lines` has its nodes as they are written, `share_tree` its shape.
+//! - [`read_shares`]: the share tree; `share_lines` has its nodes as they are written, `share_tree` its shape, `share_scopes` whether names
+//!   differ.
 #![tactic(auto)]
 
 mod columns;
@@ -28,6 +29,7 @@ mod reading;
 mod sets;
 mod settings;
 mod share_lines;
+mod share_scopes;
 mod share_tree;
 mod shares;
 mod user_sets;

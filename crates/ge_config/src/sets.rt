@@ -52,6 +52,16 @@ impl<'a> TextSet<'a> {
         let added = self.texts.insert(text)?;
         Ok(added)
     }
+
+    /// Puts each of these at the end that isn't there.
+    pub(crate) fn add_all(&mut self, texts: &[&'a [u8]]) -> Result<(), AllocError>
+        ensures { OnOk result (self.new ≡ fold with_text self.old (map (λ text. text.now) texts.now)) }
+    {
+        for text in texts {
+            self.add(text)?;
+        }
+        Ok(())
+    }
 }
 
 /// Numbers, each once, in the order in which they came. Contracts see the list of the numbers.

@@ -37,8 +37,8 @@ pub(crate) fn children_of_all(alloc: Global, nodes: &Nodes) -> Result<Vec<u32>, 
     Ok(children)
 }
 
-// The children of a node, none where it isn't there.
-fn children_at(nodes: &Nodes, id: u32) -> &[u32]
+/// The children of a node, none where it isn't there.
+pub(crate) fn children_at(nodes: &Nodes, id: u32) -> &[u32]
     ensures { result.now ≡ children_at nodes.now id }
 {
     match nodes.get(&id) {
@@ -185,7 +185,8 @@ pub(crate) fn have_one_parent(
     Ok(one)
 }
 
-fn user_name(nodes: &Nodes, id: u32) -> Option<&[u8]>
+/// The name of a node, unless it is a project's.
+pub(crate) fn user_name(nodes: &Nodes, id: u32) -> Option<&[u8]>
     ensures { option_map (λ name. name.now) result ≡ user_name nodes.now id }
 {
     match nodes.get(&id) {
@@ -213,8 +214,13 @@ fn push_user<'a>(nodes: &'a Nodes, names: &mut Vec<&'a [u8]>, id: u32) -> Result
     }
 }
 
+/// The names of these nodes, projects left aside.
 #[tactic(auto, using(crate::proofs::ShareTree::names_listed, crate::proofs::ShareTree::names_more))]
-fn user_names<'a>(alloc: Global, nodes: &'a Nodes, ids: &[u32]) -> Result<Vec<&'a [u8]>, AllocError>
+pub(crate) fn user_names<'a>(
+    alloc: Global,
+    nodes: &'a Nodes,
+    ids: &[u32],
+) -> Result<Vec<&'a [u8]>, AllocError>
     ensures { IfOk result (λ names. map (λ name. name.now) names.items
         ≡ filter_map (user_name nodes.now) ids.now) }
 {

@@ -1,18 +1,18 @@
 //! The share tree: share_tree(5).
 
 ghost use Rattle.std.specs.Prelude.{◌≡◌, OnOk, IfOk, IsTrue, ◌++◌, [], not, flat_map};
-ghost use Rattle.std.specs.List.{list_all};
 ghost use Rattle.ge_model_value.specs.Faults.{first_fault, after_faults};
 ghost use Rattle.ge_model_value.specs.Pieces.{is_empty};
-ghost use Rattle.ge_model_config.specs.Shares.{all_children, nodes_below, names_differ as are_names_different, scopes_differ as are_scopes_different, depth_faults, line_faults, node_faults, tree_faults, below_projects as all_below_projects, shares_item};
+ghost use Rattle.ge_model_config.specs.Shares.{all_children, depth_faults, line_faults, node_faults, tree_faults, below_projects as all_below_projects, shares_item};
 ghost use Rattle.ge_pieces.specs.Gives.{Reads};
 ghost use Rattle.ge_config.specs.ShareTree.{has_short_ids, nodes_refused, share_faults};
 
 use crate::sets::{IdSet, are_ids_different};
 use crate::share_lines::{ids_of_nodes, note_lines, read_nodes, some_child_is_missing};
+use crate::share_scopes::scopes_differ;
 use crate::share_tree::{
     Nodes, all_below, children_of_all, goes_round, has_no_project, have_one_parent, is_deep,
-    names_differ, nodes_outside, projects_in,
+    projects_in,
 };
 use ge_base::Refusal;
 use ge_limits::SHARE_NODES;
@@ -20,58 +20,6 @@ use ge_model_grammar::NodeLines;
 use ge_pieces::note;
 use ge_rows::{Cluster, Item};
 use std::alloc::{AllocError, Global};
-
-// What is below a project is a scope.
-fn scope_differs(
-    alloc: Global,
-    nodes: &Nodes,
-    children: &[u32],
-    id: u32,
-) -> Result<bool, AllocError>
-    ensures { children.now ≡ all_children nodes.now → IfOk result (λ differ. differ
-        ≡ are_names_different nodes.now (nodes_below nodes.now id)) }
-{
-    let below = all_below(alloc, nodes, children, &[id])?;
-    let differ = names_differ(alloc, nodes, below.items())?;
-    Ok(differ)
-}
-
-fn projects_differ(
-    alloc: Global,
-    nodes: &Nodes,
-    children: &[u32],
-    projects: &[u32],
-) -> Result<bool, AllocError>
-    ensures { children.now ≡ all_children nodes.now → IfOk result (λ differ. differ
-        ≡ list_all (λ id. are_names_different nodes.now (nodes_below nodes.now id)) projects.now) }
-{
-    for id in projects {
-        if !scope_differs(alloc, nodes, children, *id)? {
-            return Ok(false);
-        }
-    }
-    Ok(true)
-}
-
-// In the scope of each project, and in what is below none, names differ.
-fn scopes_differ(
-    alloc: Global,
-    nodes: &Nodes,
-    children: &[u32],
-    owned: &IdSet,
-) -> Result<bool, AllocError>
-    ensures { children.now ≡ all_children nodes.now
-        → IfOk result (λ differ. differ ≡ are_scopes_different nodes.now owned.now) }
-{
-    let outside = nodes_outside(alloc, nodes, owned)?;
-    let projects = projects_in(alloc, nodes)?;
-    let differ = names_differ(alloc, nodes, &outside)?;
-    if !differ {
-        return Ok(false);
-    }
-    let differ = projects_differ(alloc, nodes, children, &projects)?;
-    Ok(differ)
-}
 
 // No cycle, and then no more than 16 levels.
 fn note_depth(
