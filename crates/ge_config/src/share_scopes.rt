@@ -156,7 +156,6 @@ fn parts_differ(
 }
 
 // What is below each of these projects is a scope.
-#[tactic(auto, using(crate::proofs::Scopes::scopes_are))]
 fn projects_differ(
     alloc: Global,
     nodes: &Nodes,
