@@ -1,7 +1,7 @@
 -- What is computed from the counts is what the definition says of the jobs.
 use Rattle.std.proofs.Common.{◌≡◌, ℕ, ◌+◌, Bool, true, false, cond, List, [], ◌∷◌, Option, Some, None, refl, sym, ap, ◌∙◌, arith, map, fold}
 use borrow.Author.Tests.{lt-ltb}
-use Rattle.std.specs.Prelude.{filter, filter_map, nat_lt, ◌||◌}
+use Rattle.std.specs.Prelude.{filter, nat_lt, ◌||◌}
 use Rattle.std.specs.List.{cons_option, count_by, list_any}
 use Rattle.std.proofs.lemmas.List.Sums.{sum_by-cons}
 use Rattle.ge_base.specs.Fixed.{cut_sum}
@@ -9,7 +9,7 @@ use Rattle.ge_collections.specs.Keyed.{at_number}
 use Rattle.ge_model_rows.specs.ClusterRows.{Cluster}
 use Rattle.ge_model_rows.specs.JobRows.{Job}
 use Rattle.ge_model_order.specs.Amounts.{cut_total, cut_at_64}
-use Rattle.ge_model_order.specs.Tickets.{AllShares, all_shares, is_owned_by, is_in_project, jobs_of, job_shares, project_tickets, job_tickets, tickets_at, tickets_of}
+use Rattle.ge_model_order.specs.Tickets.{all_shares, is_owned_by, is_in_project, jobs_of, project_tickets, job_tickets, tickets_at, tickets_of}
 use Rattle.ge_tickets.specs.declared.counting.Counts.{Counts}
 use Rattle.ge_tickets.specs.declared.summing.ShareSums.{ShareSums}
 use Rattle.ge_tickets.specs.Counted.{count_at, AreCounts, counted_shares, with_job_share, sums_of, from_user, from_project, from_itself, counted_tickets, tickets_by_counts}

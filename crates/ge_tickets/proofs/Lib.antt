@@ -1,3 +1,4 @@
 pub mod Raised
 pub mod Turns
 pub mod Divided
+pub mod Own

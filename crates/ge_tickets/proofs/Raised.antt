@@ -1,5 +1,5 @@
 -- Counts by name, after one more is counted.
-use Rattle.std.proofs.Common.{◌≡◌, ℕ, ◌+◌, Bool, true, false, cond, List, Option, Some, None, refl, sym, ap, ◌∙◌, unwrap_or, arith, ◌<◌, length, take, get_or, ◌++◌, [], ◌∷◌}
+use Rattle.std.proofs.Common.{◌≡◌, ℕ, ◌+◌, Bool, true, false, cond, List, Option, Some, refl, sym, ap, ◌∙◌, unwrap_or, arith, ◌<◌, length, take, get_or, [], ◌∷◌}
 use mathlib.Core.Bool.{true≢false}
 use Rattle.std.proofs.lemmas.Bool.{eqb-true}
 use Rattle.std.specs.BTreeMap.{is_at}

@@ -21,7 +21,8 @@ fn part_of(amount: u128, part: u128, whole: u128) -> u128
     }
 }
 
-fn functional(c: &Cluster, weight: u64) -> u128
+/// The functional tickets that a weight gives.
+pub(crate) fn functional(c: &Cluster, weight: u64) -> u128
     ensures { result ≡ weighted c.now weight }
 {
     product_of(u128::from(c.sched.functional), u128::from(weight)) / 1_000_000
@@ -91,7 +92,8 @@ fn by_itself(c: &Cluster, shares: u128, job: &Job) -> u128
     sum_of(part, u128::from(job.oticket))
 }
 
-fn cut(tickets: u128) -> u64
+/// An amount, cut at the end of 64 bits.
+pub(crate) fn cut(tickets: u128) -> u64
     ensures { result ≡ cut_at_64 tickets }
 {
     tickets.min(18_446_744_073_709_551_615) as u64

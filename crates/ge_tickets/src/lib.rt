@@ -10,6 +10,7 @@
 mod counting;
 mod dividing;
 mod listing;
+mod owning;
 mod summing;
 
 pub use listing::tickets;

@@ -6,6 +6,7 @@ ghost use Rattle.ge_tickets.specs.Counted.{tickets_by_counts};
 
 use crate::counting::{Counts, count};
 use crate::dividing::tickets_at;
+use crate::owning::{has_own_alone, list_own};
 use crate::summing::{ShareSums, sum_shares};
 use ge_rows::{Cluster, List};
 use std::alloc::{AllocError, Global};
@@ -26,6 +27,17 @@ fn list_tickets(
     Ok(tickets)
 }
 
+// The tickets of each of these jobs, by the jobs of each user and each project.
+fn counted_tickets(alloc: Global, c: &Cluster, jobs: &List<u32>) -> Result<List<u64>, AllocError>
+    ensures { IfOk result (λ tickets. tickets ≡ tickets_of c.now jobs.now) }
+{
+    let numbers = jobs.items();
+    let counts = count(alloc, c, numbers)?;
+    let sums = sum_shares(c, numbers, &counts);
+    let tickets = list_tickets(alloc, c, &counts, &sums, numbers)?;
+    Ok(tickets)
+}
+
 /// The functional and override tickets of each of these jobs, in the list's order: 0 of a job that isn't there, and at most
 /// 2^64 - 1 (sched_conf, user, project, qsub).
 ///
@@ -34,9 +46,9 @@ fn list_tickets(
 pub fn tickets(alloc: Global, c: &Cluster, jobs: &List<u32>) -> Result<List<u64>, AllocError>
     ensures { IfOk result (λ tickets. tickets ≡ tickets_of c.now jobs.now) }
 {
-    let numbers = jobs.items();
-    let counts = count(alloc, c, numbers)?;
-    let sums = sum_shares(c, numbers, &counts);
-    let tickets = list_tickets(alloc, c, &counts, &sums, numbers)?;
-    Ok(tickets)
+    if has_own_alone(c) {
+        let tickets = list_own(alloc, c, jobs.items())?;
+        return Ok(tickets);
+    }
+    counted_tickets(alloc, c, jobs)
 }

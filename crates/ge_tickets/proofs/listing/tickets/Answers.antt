@@ -1,9 +1,8 @@
-use Rattle.std.proofs.Common.{ℕ, List, ap, ◌∙◌}
-use Rattle.ge_model_order.specs.Tickets.{tickets_of}
-use Rattle.ge_tickets.proofs.Divided.{tickets_same}
+use Rattle.std.proofs.Common.{◌∙◌, ap, map}
+use Rattle.ge_tickets.specs.Own.{own_tickets}
+use Rattle.ge_tickets.proofs.Own.{own_alone}
 use Rattle.ge_tickets.proofs.listing.tickets.Goals as goal
 
-pub returns : goal.returns
-returns c =
-    tickets_same c.args.c.now c.items-numbers.result.now c.in_ok-counts.counts c.in_ok-counts.ensures c.sum_shares-sums.result c.in_ok-tickets.tickets c.sum_shares-sums.ensures c.in_ok-tickets.ensures
-    ∙ ap (λ (numbers : List ℕ). tickets_of c.args.c.now numbers) c.items-numbers.ensures
+pub returns-then-has_own_alone : goal.returns-then-has_own_alone
+returns-then-has_own_alone c =
+    c.in_ok-tickets.ensures ∙ ap (map (own_tickets c.args.c.now)) c.items.ensures ∙ own_alone c.args.c.now c.args.jobs.now (c.has_own_alone.ensures c.if-has_own_alone.true)

@@ -1,0 +1,71 @@
+//! The tickets of jobs where they have none but their own.
+
+ghost use Rattle.std.specs.Prelude.{◌≡◌, IfOk, IsTrue, map};
+ghost use Rattle.ge_tickets.specs.Own.{OwnAlone, own_tickets as own_of, told_tickets as told_of};
+
+use crate::dividing::{cut, functional};
+use ge_rows::{Cluster, JobFacts, List, ShortRow};
+use std::alloc::{AllocError, Global};
+use std::collections::BTreeMap;
+
+/// Whether no user and no project has a row, and no tickets are divided by the shares of jobs.
+pub(crate) fn has_own_alone(c: &Cluster) -> bool
+    ensures { IsTrue result → OwnAlone c.now }
+{
+    c.users.is_empty() && c.projects.is_empty() && functional(c, c.sched.w_job) == 0
+}
+
+fn own_tickets(c: &Cluster, number: u32) -> u64
+    ensures { result ≡ own_of c.now number }
+{
+    match c.jobs.get(&number) {
+        Some(job) => cut(u128::from(job.oticket)),
+        None => 0,
+    }
+}
+
+fn list_each(alloc: Global, c: &Cluster, numbers: &[u32]) -> Result<List<u64>, AllocError>
+    ensures { IfOk result (λ tickets. tickets ≡ map (own_of c.now) numbers.now) }
+{
+    let mut tickets = List::new(alloc);
+    for number in numbers {
+        tickets.push(own_tickets(c, *number))?;
+    }
+    Ok(tickets)
+}
+
+fn told_tickets(rows: &BTreeMap<u32, ShortRow<JobFacts>>, number: u32) -> u64
+    ensures { result ≡ told_of rows.now.entries number }
+{
+    match rows.get(&number) {
+        Some(row) => cut(u128::from(row.facts.oticket)),
+        None => 0,
+    }
+}
+
+fn list_told(
+    alloc: Global,
+    rows: &BTreeMap<u32, ShortRow<JobFacts>>,
+    numbers: &[u32],
+) -> Result<List<u64>, AllocError>
+    ensures { IfOk result (λ tickets. tickets ≡ map (told_of rows.now.entries) numbers.now) }
+{
+    let mut tickets = List::new(alloc);
+    for number in numbers {
+        tickets.push(told_tickets(rows, *number))?;
+    }
+    Ok(tickets)
+}
+
+/// The tickets that each of these jobs itself was given. The jobs' short rows tell them, where there are some.
+pub(crate) fn list_own(alloc: Global, c: &Cluster, numbers: &[u32]) -> Result<List<u64>, AllocError>
+    ensures { IfOk result (λ tickets. tickets ≡ map (own_of c.now) numbers.now) }
+{
+    match c.jobs.shorts() {
+        Some(shorts) => {
+            let tickets = list_told(alloc, shorts.rows, numbers)?;
+            Ok(tickets)
+        }
+        None => list_each(alloc, c, numbers),
+    }
+}
