@@ -2,3 +2,4 @@ pub mod Turns
 pub mod Walked
 pub mod Linked
 pub mod Shared
+pub mod Treeless

@@ -1,6 +1,6 @@
 -- What is computed by parents is what the definition says by the nodes above.
 use Rattle.std.proofs.Common.{◌≡◌, refl, ap, sym, ◌∙◌}
-use Rattle.std.specs.Prelude.{ℕ, suc, ◌==◌, if◌then◌else◌, Bool, true, false, List, [], ◌∷◌, map, fold, Option, Some, None, unwrap_or}
+use Rattle.std.specs.Prelude.{ℕ, ◌==◌, if◌then◌else◌, List, [], ◌∷◌, fold, Option, Some, None, unwrap_or}
 use Rattle.std.specs.Option.{option_map}
 use Rattle.std.specs.BTreeMap.{is_at}
 use Rattle.std.specs.Ordering.{nat_cmp}
@@ -11,11 +11,10 @@ use Rattle.ge_model_rows.specs.ClusterRows.{Cluster}
 use Rattle.ge_model_order.specs.Amounts.{portion}
 use Rattle.ge_model_order.specs.Share.{weight, weight_below, weights_by_node, tickets_below, divided, tickets_by_node}
 use Rattle.ge_model_order.specs.ShareTree.{Entered}
-use Rattle.ge_model_order.specs.ShareTables.{Places, LeafKey, amount_at, raised_amount, with_part, children_sums, child_counts, with_leaf, with_scopes, with_node, with_project, scopes_below, scope_of_project, places_of, leaf_at, line_up, line_from, line_at}
-use Rattle.ge_share.specs.declared.finding.LeafFinder.{LeafFinder}
-use Rattle.ge_share.specs.Nodes.{parent_of, line_of, lines_of, walk_of}
+use Rattle.ge_model_order.specs.ShareTables.{LeafKey, amount_at, raised_amount, with_part, children_sums, child_counts, with_leaf, with_node, scopes_below, scope_of_project, places_of, leaf_at, line_up, line_from, line_at}
+use Rattle.ge_share.specs.Nodes.{parent_of, line_of, walk_of}
 use Rattle.ge_share.specs.Found.{with_child, with_projects, with_node_found, finder_of, places_by, line_by}
-use Rattle.ge_share.specs.Leveled.{sum_with, sums_of, node_weight, weight_with, weights_of, node_tickets, ticket_with, tickets_down, tickets_in}
+use Rattle.ge_share.specs.Leveled.{sums_of, node_weight, weights_of, node_tickets, tickets_down, tickets_in}
 
 -- what a node adds at its parent
 at_parent : (part : ℕ) (sums : List (ℕ × ℕ)) (node : Entered) (above : List ℕ) (p : Entered → ℕ) → p node ≡ part

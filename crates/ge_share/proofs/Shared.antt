@@ -1,5 +1,5 @@
 -- What the call computes is what the definition says.
-use Rattle.std.proofs.Common.{◌≡◌, refl, ap, sym, ◌∙◌}
+use Rattle.std.proofs.Common.{◌≡◌, refl, ap, ◌∙◌}
 use Rattle.std.specs.Prelude.{ℕ, List, [], ◌∷◌, map, fold, Option, Some, None}
 use Rattle.std.specs.List.{cons_option}
 use Rattle.ge_collections.specs.Keyed.{at_number}

@@ -1,9 +1,9 @@
 -- The walk with lines enters what the definition's walk enters, and keeps the lines of its nodes.
 use Rattle.std.proofs.Common.{◌≡◌, ◌-◌, ◌≤◌, refl, ap, sym, ◌∙◌, arith}
-use Rattle.std.specs.Prelude.{ℕ, zero, suc, Bool, true, false, if◌then◌else◌, List, [], ◌∷◌, ◌++◌, map, fold, Option, Some, None, is_some}
+use Rattle.std.specs.Prelude.{ℕ, zero, suc, Bool, true, false, if◌then◌else◌, List, [], ◌∷◌, ◌++◌, fold, Option, Some, None, is_some}
 use mathlib.Core.Bool.{true≢false, false≢true}
 use Rattle.std.specs.Option.{option_map}
-use Rattle.std.specs.BTreeMap.{is_at, insert_entry}
+use Rattle.std.specs.BTreeMap.{is_at}
 use Rattle.std.specs.Ordering.{nat_cmp, match_ordering}
 use Rattle.std.specs.declared.cmp.Ordering.{Ordering}
 use Rattle.std.specs.declared.cmp.Ordering.TheVariants.{Less, Equal, Greater}
@@ -13,7 +13,6 @@ use Rattle.ge_collections.specs.Keyed.{at_number, put_number}
 use Rattle.ge_model_rows.specs.ClusterRows.{Cluster}
 use Rattle.ge_model_rows.specs.PeopleRows.{ShareNode}
 use Rattle.ge_model_order.specs.ShareTree.{Entered, NodeWalk, with_entered, nothing_walked, most_levels, root_id, entered, row_to_enter, projects_below, walked, tree_of}
-use Rattle.ge_model_order.specs.ShareTables.{places_of}
 use Rattle.ge_share.specs.declared.walking.Walk.{Walk}
 use Rattle.ge_share.specs.Nodes.{line_of, lines_of, with_line, row_to_line, lined, walk_of}
 

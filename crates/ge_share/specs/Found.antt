@@ -1,8 +1,8 @@
 -- What is kept of a walked tree to find the leaf of a user and project (share_tree).
-use Rattle.std.specs.Prelude.{ℕ, suc, List, [], ◌∷◌, fold, Option, Some, None, unwrap_or, ◌==◌, if◌then◌else◌}
+use Rattle.std.specs.Prelude.{ℕ, List, [], ◌∷◌, fold, Some, None, unwrap_or, ◌==◌, if◌then◌else◌}
 use Rattle.ge_collections.specs.Keyed.{at_number}
 use Rattle.ge_model_order.specs.ShareTree.{Entered}
-use Rattle.ge_model_order.specs.ShareTables.{Places, outside, scope_of_project, with_leaf, with_node, with_project, LeafKey, amount_at, raised_amount, leaf_at}
+use Rattle.ge_model_order.specs.ShareTables.{Places, outside, scope_of_project, with_leaf, with_project, LeafKey, amount_at, raised_amount, leaf_at}
 use Rattle.ge_share.specs.declared.finding.LeafFinder.{LeafFinder}
 use Rattle.ge_share.specs.Nodes.{parent_of}
 

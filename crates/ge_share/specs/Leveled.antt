@@ -1,5 +1,5 @@
 -- A walked tree, each node before those below it: sums once a parent, and tickets from above (share_tree).
-use Rattle.std.specs.Prelude.{ℕ, ◌==◌, if◌then◌else◌, List, [], ◌∷◌, fold, Option, Some, None}
+use Rattle.std.specs.Prelude.{ℕ, ◌==◌, if◌then◌else◌, List, [], fold, Some, None}
 use Rattle.ge_collections.specs.Keyed.{put_number}
 use Rattle.ge_model_order.specs.Amounts.{portion}
 use Rattle.ge_model_order.specs.Share.{weight}

@@ -1,8 +1,7 @@
 -- Usage and jobs along the lines, and the tickets of the jobs of a list (share_tree).
-use Rattle.std.specs.Prelude.{ℕ, List, [], ◌∷◌, fold, map, Option, Some, None}
+use Rattle.std.specs.Prelude.{ℕ, List, [], fold, Some, None}
 use Rattle.ge_collections.specs.Keyed.{at_number}
 use Rattle.ge_model_rows.specs.ClusterRows.{Cluster}
-use Rattle.ge_model_rows.specs.JobRows.{Job}
 use Rattle.ge_model_jobs.specs.Usage.{UsageKey, epoch_of, decayed}
 use Rattle.ge_model_order.specs.Share.{leaf_tickets}
 use Rattle.ge_model_order.specs.ShareTables.{raised_along, leaf_at}
@@ -29,3 +28,7 @@ number_tickets c finder tickets jobs number = elim (at_number c.jobs number) [
   | None ↦ 0
   | Some job ↦ leaf_tickets tickets jobs (leaf_at (places_by finder) job.owner job.project)
 ]
+
+-- where there is no tree, no job has any
+abbrev pub no_tickets : ℕ → ℕ
+no_tickets number = 0

@@ -1,8 +1,8 @@
 //! Usage and jobs along the lines, and the share tickets of each job of a list.
 
-ghost use Rattle.std.specs.Prelude.{◌≡◌, [], IfOk, OnOk, fold, map};
+ghost use Rattle.std.specs.Prelude.{◌≡◌, [], IfOk, OnOk, IsTrue, fold, map};
 ghost use Rattle.ge_model_order.specs.Share.{share_tickets_of, leaf_tickets};
-ghost use Rattle.ge_share.specs.Listed.{with_usage_by, usage_by, with_number, jobs_by, number_tickets};
+ghost use Rattle.ge_share.specs.Listed.{with_usage_by, usage_by, with_number, jobs_by, number_tickets, no_tickets};
 
 use crate::adding::{amount, raise_along};
 use crate::decaying::{decay, epoch};
@@ -133,12 +133,8 @@ fn list_tickets(
     Ok(list)
 }
 
-/// The share tickets of each of these jobs at a moment, in the list's order: 0 of a job that isn't there or has no leaf, and
-/// at most 2^64 - 1 (share_tree, sched_conf).
-///
-/// # Errors
-/// Where there is no memory for the list or for what is kept of the tree meanwhile.
-pub fn share_tickets(
+// The share tickets of each of these jobs, where there is a tree.
+fn tree_tickets(
     alloc: Global,
     c: &Cluster,
     jobs: &List<u32>,
@@ -156,4 +152,40 @@ pub fn share_tickets(
     let tickets = divide_tickets(alloc, c.sched.share, &usage, &jobs, nodes)?;
     let list = list_tickets(alloc, c, &finder, &tickets, &jobs, numbers)?;
     Ok(list)
+}
+
+fn list_none(alloc: Global, numbers: &[u32]) -> Result<List<u64>, AllocError>
+    ensures { IfOk result (λ list. list ≡ map no_tickets numbers.now) }
+{
+    let mut list = List::new(alloc);
+    for _number in numbers {
+        list.push(0)?;
+    }
+    Ok(list)
+}
+
+fn has_no_tree(c: &Cluster) -> bool
+    ensures { IsTrue result → c.now.shares ≡ [] }
+{
+    c.shares.is_empty()
+}
+
+/// The share tickets of each of these jobs at a moment, in the list's order: 0 of a job that isn't there or has no leaf, and
+/// at most 2^64 - 1 (share_tree, sched_conf).
+///
+/// # Errors
+/// Where there is no memory for the list or for what is kept of the tree meanwhile.
+pub fn share_tickets(
+    alloc: Global,
+    c: &Cluster,
+    jobs: &List<u32>,
+    now: u64,
+) -> Result<List<u64>, AllocError>
+    ensures { IfOk result (λ tickets. tickets ≡ share_tickets_of c.now jobs.now now) }
+{
+    if has_no_tree(c) {
+        let list = list_none(alloc, jobs.items())?;
+        return Ok(list);
+    }
+    tree_tickets(alloc, c, jobs, now)
 }
