@@ -3,3 +3,4 @@ pub mod Ordered
 pub mod Slots
 pub mod Scaled
 pub mod Zipped
+pub mod Told

@@ -1,2 +1,3 @@
 pub mod Ranked
 pub mod Standings
+pub mod Told
