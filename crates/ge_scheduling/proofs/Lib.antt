@@ -11,5 +11,6 @@ pub mod Thinned
 pub mod Everywhere
 pub mod LeftOut
 pub mod Remaining
+pub mod Singly
 pub mod Kept
 pub mod Sound

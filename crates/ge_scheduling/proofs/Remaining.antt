@@ -1,9 +1,9 @@
 -- What is left at instances: one that has too little takes no slot, now and as bookings grow.
-use Rattle.std.proofs.Common.{◌≡◌, ℕ, zero, suc, ◌+◌, ◌-◌, ◌≤◌, ◌<◌, ◌==◌, inl, inr, Bool, true, false, ◌&&◌, ◌||◌, cond, min, All, List, [], ◌∷◌, ◌++◌, map, filter, drop, find, length, get_or, position, slice_set, slice_index_or, Option, Some, None, option_map, refl, sym, subst, ap, ◌∙◌, is_some, arith, get_or-set_same, get_or-set_other, below_more}
+use Rattle.std.proofs.Common.{◌≡◌, ℕ, suc, ◌+◌, ◌-◌, ◌≤◌, ◌<◌, ◌==◌, inl, inr, Bool, true, false, ◌&&◌, ◌||◌, cond, min, All, List, [], ◌∷◌, ◌++◌, map, filter, length, get_or, position, slice_set, slice_index_or, Option, Some, None, refl, sym, subst, ap, ◌∙◌, is_some, arith, get_or-set_same, get_or-set_other, below_more}
 use Rattle.std.specs.List.{list_any}
 use Rattle.std.specs.BTreeMap.{is_at}
 use Rattle.std.specs.Prelude.{nat_lt}
-use Rattle.std.proofs.lemmas.Bool.{cond-true, cond-false, and_parts, or_parts, or_cases, or_from, or_left, or_right, cases_eq, true≢false, false_from_ne_true, ltb-true}
+use Rattle.std.proofs.lemmas.Bool.{cond-true, and_parts, or_parts, or_cases, or_from, or_left, or_right, cases_eq, true≢false, false_from_ne_true, ltb-true}
 use Rattle.std.proofs.lemmas.List.{length-map, length-set, get_or-map, get_or_read}
 use Rattle.std.proofs.lemmas.List.Elements.{All-nil, All-cons, All-head, All-tail}
 use Rattle.std.proofs.lemmas.List.Quantifiers.{position-Some}
@@ -24,7 +24,7 @@ use Rattle.ge_model_place.specs.Placement.{are_open, placement_of}
 use Rattle.ge_model_place.specs.Quotas.{quota_keys}
 use Rattle.ge_model_place.specs.Runs.{one_slot}
 use Rattle.ge_model_place.specs.Windows.{window_end_from, next_moment}
-use Rattle.ge_model_place.proofs.First.{takes_one, first_admissible}
+use Rattle.ge_model_place.proofs.First.{takes_one}
 use Rattle.ge_model_place.proofs.Moments.{admissible_is}
 use Rattle.ge_model_place.proofs.Once.{Each}
 use Rattle.ge_model_place.proofs.Same.{texts_equal, text_same, instances_equal, limit_same}
@@ -40,12 +40,6 @@ use Rattle.ge_scheduling.proofs.Nowhere.{none_placed}
 use Rattle.ge_scheduling.proofs.Thinned.{placed_thinned}
 
 -- lists
-
-find_dropped : {X : Type 0} (test : X → Bool) (k : ℕ) (xs : List X) → ((i : ℕ) (d : X) → i < k → test (get_or xs i d) ≡ false) → find test (drop k xs) ≡ find test xs
-find_dropped test zero xs refused = refl
-find_dropped test (suc k) [] refused = refl
-find_dropped test (suc k) (x ∷ xs) refused =
-    find_dropped test k xs (λ i d less. refused (suc i) d (omega (arith, less))) ∙ sym (cond-false (test x) (Some x) (find test xs) (refused 0 x (omega arith)))
 
 none_any : {X : Type 0} (test : X → Bool) (xs : List X) → ((i : ℕ) (d : X) → i < length xs → test (get_or xs i d) ≡ false) → list_any test xs ≡ false
 none_any test [] refused = refl
@@ -218,12 +212,6 @@ module _ (c : Cluster) (groups : Groups) (now : ℕ) (booked : List Booking) whe
 
   -- instances before a place take no slot
   module _ (job : Job) (order : List InstanceId) (place : ℕ) (none : (k : ℕ) (d : InstanceId) → k < place → takes_one c groups job booked now (slice_index_or order k d) ≡ false) where
-    pub placed_behind : job.request.pe ≡ None → placement_of c groups (drop place order) booked job now ≡ placement_of c groups order booked job now
-    placed_behind alone =
-        first_admissible c groups job booked now (drop place order) alone
-        ∙ ap (λ found. option_map one_slot found) (find_dropped (takes_one c groups job booked now) place order none)
-        ∙ sym (first_admissible c groups job booked now order alone)
-
     pub placed_nowhere : length order ≤ place → placement_of c groups order booked job now ≡ None
     placed_nowhere all = none_placed c groups job booked now order (none_any (takes_one c groups job booked now) order (λ k d inside. none k d (omega (arith, inside, all))))
 

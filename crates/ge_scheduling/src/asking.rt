@@ -1,9 +1,11 @@
 // What one slot of a job asks of limits. Where one that counts at whatever instance has no room, no instance is looked at.
-ghost use Rattle.std.specs.Prelude.{◌≡◌, true, None, IfOk, All};
+ghost use Rattle.std.specs.Prelude.{◌≡◌, ◌++◌, ◌∷◌, [], true, None, filter, IfOk, OnOk, All};
 ghost use Rattle.std.specs.List.{list_any};
 ghost use Rattle.ge_model_place.specs.Placement.{placement_of};
 ghost use Rattle.ge_scheduling.specs.Common.{names_places as names_place, set_names_places, counts_alike as alike_in, is_common as common_if, lacks_room as has_none, is_exhausted as exhausted_if, rules_out as ruled_out_if, IsAsked};
+ghost use Rattle.ge_scheduling.specs.Rests.{is_of};
 
+use crate::rests::is_of_resource;
 use crate::setting::Setting;
 use ge_demands::{Counted, counted_limits};
 use ge_rows::{Cluster, InstanceId, Job, LimitId, List, QuotaRow, Rule, Table, Text};
@@ -67,7 +69,76 @@ fn asked_at(
     Ok(List::from_vec(limits))
 }
 
-/// What one slot of a job asks of limits: of those that count at the first instance, of which some count everywhere.
+fn first_asked(alloc: Global, at: &Setting<'_>, job: &Job) -> Result<List<Counted>, AllocError>
+    ensures { IfOk result
+        (λ limits. All (IsAsked at.now.cluster.now at.now.groups.now job.now) limits) }
+{
+    match at.order.first() {
+        Some(first) => asked_at(alloc, at, job, first),
+        None => Ok(List::new(alloc)),
+    }
+}
+
+fn counts_name(name: &Text, counted: &Counted) -> bool
+    ensures { result ≡ is_of counted.now.limit name.now }
+{
+    is_of_resource(&counted.limit, name)
+}
+
+fn is_asked(asked: &[Counted], name: &Text) -> bool
+    ensures { result ≡ list_any (λ counted. is_of counted.limit name.now) asked.now }
+{
+    asked.iter().any(|counted| counts_name(name, counted))
+}
+
+fn add_named(asked: &mut List<Counted>, name: &Text, counted: Counted) -> Result<(), AllocError>
+    ensures { OnOk result (asked.new ≡ asked.old
+        ++ filter (λ more. is_of more.limit name.now) (counted ∷ [])) }
+{
+    if !counts_name(name, &counted) {
+        return Ok(());
+    }
+    asked.push(counted)
+}
+
+fn add_all_named(
+    asked: &mut List<Counted>,
+    name: &Text,
+    limits: List<Counted>,
+) -> Result<(), AllocError>
+    ensures { OnOk result (asked.new ≡ asked.old
+        ++ filter (λ more. is_of more.limit name.now) limits) }
+{
+    for counted in limits.into_vec() {
+        add_named(asked, name, counted)?;
+    }
+    Ok(())
+}
+
+// What is asked of a value, read where that is, unless it is known.
+fn add_asked(
+    alloc: Global,
+    at: &Setting<'_>,
+    job: &Job,
+    asked: &mut List<Counted>,
+    name: &Text,
+) -> Result<(), AllocError>
+    requires { All (IsAsked at.now.cluster.now at.now.groups.now job.now) asked.old }
+    ensures { OnOk result (All (IsAsked at.now.cluster.now at.now.groups.now job.now) asked.new) }
+{
+    if is_asked(asked.items(), name) {
+        return Ok(());
+    }
+    let Some(holder) = at.holders.get(name) else {
+        return Ok(());
+    };
+    let limits = asked_at(alloc, at, job, holder)?;
+    add_all_named(asked, name, limits)?;
+    Ok(())
+}
+
+/// What one slot of a job asks of limits: of those that count at the first instance, of which some count everywhere, and of
+/// the values of hosts that it asks for, which the first instance may not have.
 pub(crate) fn asked_limits(
     alloc: Global,
     at: &Setting<'_>,
@@ -76,10 +147,11 @@ pub(crate) fn asked_limits(
     ensures { IfOk result
         (λ limits. All (IsAsked at.now.cluster.now at.now.groups.now job.now) limits) }
 {
-    match at.order.first() {
-        Some(first) => asked_at(alloc, at, job, first),
-        None => Ok(List::new(alloc)),
+    let mut asked = first_asked(alloc, at, job)?;
+    for name in job.request.asked.keys() {
+        add_asked(alloc, at, job, &mut asked, name)?;
     }
+    Ok(asked)
 }
 
 fn lacks_room(booked: &Timeline, from: u64, until: u64, counted: &Counted) -> bool

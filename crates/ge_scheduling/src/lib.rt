@@ -6,8 +6,10 @@
 //!
 //! - `setting`: what stays the same during a run. `counting`: what is counted of the decisions so far. `kinds`: the kinds of jobs
 //!   of which no task can start any more. `vacancy`: the instances that have a slot left.
-//! - `rests`: what is left at each instance. `finding`: the first that may take a slot now.
+//! - `rests`: what is left at each instance. `holding`: where each value of hosts is.
 //! - `asking`: what one slot of a job asks of limits, and which of them count at whatever instance.
+//! - `finding`: the first instance that may take a slot now. `single`: the start of a task that takes one slot. `thinning`: a
+//!   placement over hosts alone at which something may be placed. `placing`: the placement of a task, now and later.
 //! - `reserving`: the first moment at which a task can be placed. `deciding`: the decision of one task.
 //! - `bookings`: what a decision books. `advancing`: one task after the other.
 //! - [`run`]: the decisions of a run.
@@ -19,12 +21,14 @@ mod bookings;
 mod counting;
 mod deciding;
 mod finding;
+mod holding;
 mod kinds;
 mod placing;
 mod reserving;
 mod rests;
 mod running;
 mod setting;
+mod single;
 mod thinning;
 mod vacancy;
 

@@ -9,6 +9,7 @@ use crate::asking::is_refused;
 use crate::finding::first_candidate;
 use crate::rests::Rest;
 use crate::setting::Setting;
+use crate::single::place_alone;
 use crate::thinning::place_on_hosts;
 use crate::vacancy::goes_on;
 use ge_demands::Counted;
@@ -17,9 +18,8 @@ use ge_rows::{Grant, Job, List};
 use ge_timeline::Timeline;
 use std::alloc::{AllocError, Global};
 
-// The grants of a task of a job that is sent into no reservation and starts now. Instances before the first that may take a
-// slot aren't tried.
-fn place_left(
+// The grants of a task that may take slots at several instances and starts now. Nothing is looked for where none may take one.
+fn place_together(
     alloc: Global,
     at: &Setting<'_>,
     booked: &Timeline,
@@ -40,15 +40,36 @@ fn place_left(
     if first >= at.order.len() {
         return Ok(None);
     }
+    let moment = at.moment;
+    let grants = place_on_hosts(alloc, at, booked, rests, asked, job, moment)?;
+    Ok(grants)
+}
+
+// The grants of a task of a job that is sent into no reservation and starts now.
+fn place_left(
+    alloc: Global,
+    at: &Setting<'_>,
+    booked: &Timeline,
+    rests: &List<List<Rest>>,
+    asked: &List<Counted>,
+    job: &Job,
+) -> Result<Option<List<Grant>>, AllocError>
+    requires goes_on { has_moment at.now.cluster.now at.now.moment ≡ true }
+    requires free { (job.now.advance == 0) ≡ true }
+    requires left { AreLeft at.now.cluster.now at.now.groups.now at.now.moment booked.now
+        at.now.order.now rests.now }
+    requires asked { All (IsAsked at.now.cluster.now at.now.groups.now job.now) asked.now }
+    ensures { IfOk result (λ grants. grants
+        ≡ placement_of at.now.cluster.now at.now.groups.now at.now.order.now booked.now job.now
+        at.now.moment) }
+{
     match &job.request.pe {
         None => {
-            let (_, behind) = at.order.split_at(first);
-            let grants = place_job(alloc, at.cluster, at.groups, behind, booked, job, at.moment)?;
+            let grants = place_alone(alloc, at, booked, rests, asked, job)?;
             Ok(grants)
         }
         Some(_) => {
-            let moment = at.moment;
-            let grants = place_on_hosts(alloc, at, booked, rests, asked, job, moment)?;
+            let grants = place_together(alloc, at, booked, rests, asked, job)?;
             Ok(grants)
         }
     }

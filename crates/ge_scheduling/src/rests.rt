@@ -231,7 +231,8 @@ pub(crate) fn renew_started(
     }
 }
 
-fn is_of_resource(limit: &LimitId, resource: &Text) -> bool
+/// Whether a limit counts a resource.
+pub(crate) fn is_of_resource(limit: &LimitId, resource: &Text) -> bool
     ensures { result ≡ is_of limit.now resource.now }
 {
     match limit {

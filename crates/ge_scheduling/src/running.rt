@@ -5,6 +5,7 @@ ghost use Rattle.ge_model_place.specs.Runs.{IsRun, KeepsLimits, DecidesEach};
 ghost use Rattle.ge_scheduling.specs.Sooner.{ReservesEarliest};
 
 use crate::advancing::{advance_all, begin};
+use crate::holding::holders_of;
 use crate::kinds::kinds_of;
 use crate::setting::Setting;
 use ge_hosts::expand;
@@ -24,11 +25,13 @@ fn decide_all(
 {
     let groups = expand(alloc, cluster)?;
     let instances = instance_order(alloc, cluster, &groups)?;
+    let holders = holders_of(alloc, cluster, instances.items())?;
     let none = BTreeMap::new(alloc);
     let at = Setting {
         cluster,
         groups: &groups,
         order: instances.items(),
+        holders: &holders,
         kinds: kinds_of(cluster, &none),
         moment: now,
     };

@@ -1,0 +1,90 @@
+// The start of a task of a job without a parallel environment, which takes one slot.
+ghost use Rattle.std.specs.Prelude.{◌≡◌, ◌<◌, ◌==◌, true, None, Some, cond, ◌∷◌, [], length, slice_index_or, IfOk, All};
+ghost use Rattle.ge_model_place.specs.Placement.{are_admissible, placement_of};
+ghost use Rattle.ge_model_place.specs.Runs.{one_slot};
+ghost use Rattle.ge_model_rows.specs.HostRows.{InstanceId as Instance};
+ghost use Rattle.ge_scheduling.specs.Common.{IsAsked};
+ghost use Rattle.ge_scheduling.specs.Rests.{IsLeft, AreLeft};
+ghost use Rattle.ge_scheduling.specs.Vacant.{goes_on as has_moment};
+
+use crate::rests::{Rest, are_short};
+use crate::setting::Setting;
+use ge_demands::Counted;
+use ge_place::place_job;
+use ge_rows::{Grant, InstanceId, Job, List};
+use ge_timeline::Timeline;
+use std::alloc::{AllocError, Global};
+
+// The instance at a place, alone.
+fn one_at<'a>(order: &'a [InstanceId], place: usize) -> &'a [InstanceId]
+    requires { place < length order.now }
+    ensures { (d : Instance) → result.now ≡ slice_index_or order.now place d ∷ [] }
+{
+    let (_, behind) = order.split_at(place);
+    let (one, _) = behind.split_at(1);
+    one
+}
+
+// The grant of a slot at an instance, where that takes one. It isn't asked where something is short there.
+fn take_at(
+    alloc: Global,
+    at: &Setting<'_>,
+    booked: &Timeline,
+    left: &List<Rest>,
+    asked: &List<Counted>,
+    job: &Job,
+    instance: &InstanceId,
+    one: &[InstanceId],
+) -> Result<Option<List<Grant>>, AllocError>
+    requires goes_on { has_moment at.now.cluster.now at.now.moment ≡ true }
+    requires free { (job.now.advance == 0) ≡ true }
+    requires single { job.now.request.pe ≡ None }
+    requires left { All (IsLeft at.now.cluster.now at.now.groups.now at.now.moment booked.now
+        instance.now) left.now }
+    requires asked { All (IsAsked at.now.cluster.now at.now.groups.now job.now) asked.now }
+    requires one { one.now ≡ instance.now ∷ [] }
+    ensures { IfOk result (λ grants. grants ≡ cond (are_admissible at.now.cluster.now
+        at.now.groups.now job.now booked.now at.now.moment (one_slot instance.now))
+        (Some (one_slot instance.now)) None) }
+{
+    if are_short(asked.items(), left.items()) {
+        return Ok(None);
+    }
+    let grants = place_job(alloc, at.cluster, at.groups, one, booked, job, at.moment)?;
+    Ok(grants)
+}
+
+/// The grant of a slot at the first instance that takes one now. Each is asked by itself, and only where nothing is short, so
+/// that one that refuses makes none behind it be asked.
+pub(crate) fn place_alone(
+    alloc: Global,
+    at: &Setting<'_>,
+    booked: &Timeline,
+    rests: &List<List<Rest>>,
+    asked: &List<Counted>,
+    job: &Job,
+) -> Result<Option<List<Grant>>, AllocError>
+    requires goes_on { has_moment at.now.cluster.now at.now.moment ≡ true }
+    requires free { (job.now.advance == 0) ≡ true }
+    requires single { job.now.request.pe ≡ None }
+    requires left { AreLeft at.now.cluster.now at.now.groups.now at.now.moment booked.now
+        at.now.order.now rests.now }
+    requires asked { All (IsAsked at.now.cluster.now at.now.groups.now job.now) asked.now }
+    ensures { IfOk result (λ grants. grants
+        ≡ placement_of at.now.cluster.now at.now.groups.now at.now.order.now booked.now job.now
+        at.now.moment) }
+{
+    let order = at.order;
+    let lefts = rests.items();
+    let mut place = 0;
+    while place < order.len() {
+        let instance = &order[place];
+        let left = &lefts[place];
+        let one = one_at(order, place);
+        if let Some(grants) = take_at(alloc, at, booked, left, asked, job, instance, one)? {
+            return Ok(Some(grants));
+        }
+        place += 1;
+    }
+    Ok(None)
+}
