@@ -1,13 +1,34 @@
 // The sums of the weights of rows.
-ghost use Rattle.std.specs.Prelude.{◌≡◌, ℕ, ◌+◌, ◌-◌, ◌^◌, min};
+ghost use Rattle.std.specs.Prelude.{◌≡◌, ℕ, ◌+◌, ◌-◌, ◌^◌, min, IfSome};
 ghost use Rattle.ge_collections.specs.Kept.{AreSums};
 
-/// Two sums. They count only where `whole` is true: a sum that doesn't fit ends it.
+/// Two sums. They count only where `whole` is true: a sum that doesn't fit ends it. Each table has them, also the one
+/// of a waiting job's running tasks, so they are narrow.
 #[derive(Drop)]
 pub(crate) struct Sums {
     pub(crate) whole: bool,
-    pub(crate) first: u128,
-    pub(crate) second: u128,
+    pub(crate) first: u64,
+    pub(crate) second: u64,
+}
+
+// A sum with one more weight, where it fits.
+fn more(sum: u64, weight: u128) -> Option<u64>
+    ensures { IfSome result (λ n. n ≡ sum + weight) }
+{
+    match u64::try_from(weight) {
+        Ok(weight) => sum.checked_add(weight),
+        Err(_wide) => None,
+    }
+}
+
+// A sum with one weight less, at least 0.
+fn less(sum: u64, weight: u128) -> u64
+    ensures { result ≡ sum - weight }
+{
+    match u64::try_from(weight) {
+        Ok(weight) => sum.saturating_sub(weight),
+        Err(_wide) => 0,
+    }
 }
 
 /// The weights of a row that comes.
@@ -15,9 +36,7 @@ pub(crate) fn add(sums: &mut Sums, weights: (u128, u128))
     ensures { (a b : ℕ) → AreSums sums.old.whole sums.old.first sums.old.second a b
         → AreSums sums.new.whole sums.new.first sums.new.second (a + weights.0) (b + weights.1) }
 {
-    let first = sums.first.checked_add(weights.0);
-    let second = sums.second.checked_add(weights.1);
-    match (first, second) {
+    match (more(sums.first, weights.0), more(sums.second, weights.1)) {
         (Some(first), Some(second)) => {
             sums.first = first;
             sums.second = second;
@@ -31,14 +50,14 @@ pub(crate) fn take(sums: &mut Sums, weights: (u128, u128))
     ensures { (a b : ℕ) → AreSums sums.old.whole sums.old.first sums.old.second a b
         → AreSums sums.new.whole sums.new.first sums.new.second (a - weights.0) (b - weights.1) }
 {
-    sums.first = sums.first.saturating_sub(weights.0);
-    sums.second = sums.second.saturating_sub(weights.1);
+    sums.first = less(sums.first, weights.0);
+    sums.second = less(sums.second, weights.1);
 }
 
 /// Two sums that fit, as they are: a cut changes neither.
-pub(crate) fn uncut(first: u128, second: u128) -> (u128, u128)
+pub(crate) fn uncut(first: u64, second: u64) -> (u128, u128)
     ensures first { result.0 ≡ min first (2 ^ 128 - 1) }
     ensures second { result.1 ≡ min second (2 ^ 128 - 1) }
 {
-    (first, second)
+    (u128::from(first), u128::from(second))
 }

@@ -24,6 +24,28 @@ impl Model for Text {
     ghost view = { λ t. t.bytes.items };
 }
 
+// Bytes compared as their lists are: the first that differ decide, and else the lengths. A text is the key of most maps,
+// and the comparison of any two slices costs several times this one.
+fn compare(own: &[u8], other: &[u8]) -> Ordering
+    ensures { result ≡ slice_cmp nat_cmp own.now other.now }
+{
+    let (mut left, mut right) = (own.iter(), other.iter());
+    while let Some(a) = left.next() {
+        let Some(b) = right.next() else {
+            return Ordering::Greater;
+        };
+        match a.cmp(b) {
+            Ordering::Equal => {}
+            Ordering::Less => return Ordering::Less,
+            Ordering::Greater => return Ordering::Greater,
+        }
+    }
+    match right.next() {
+        Some(_more) => Ordering::Less,
+        None => Ordering::Equal,
+    }
+}
+
 impl Text {
     /// The text of no bytes, which takes no memory.
     pub fn new(alloc: Global) -> Text
@@ -149,6 +171,6 @@ impl Ord for Text {
     ghost matches_eq = { texts_ties };
 
     fn cmp(&self, other: &Text) -> Ordering {
-        self.bytes.cmp(&other.bytes)
+        compare(self.bytes.as_slice(), other.bytes.as_slice())
     }
 }
