@@ -16,7 +16,7 @@ nonzero (suc n) = Some (suc n)
 -- keys with how often each is noted
 abbrev pub entries_of : {K : Type 0} → Keys K → List (K × ℕ)
 entries_of (One key count) = (key, count) ∷ []
-entries_of (Many counts) = counts.entries
+entries_of (Many counts) = counts.value.entries
 
 module _ {V M : Type 0} (cmp : M → M → Ordering) (marks : V → List M) where
   -- how often a row that may not be there bears a mark

@@ -11,13 +11,14 @@ use crate::twin::Twin;
 use std::alloc::Global;
 use std::collections::BTreeMap;
 
-/// Keys, each with how often it is noted. Most marks are those of one row, so one key alone takes no memory of its own.
+/// Keys, each with how often it is noted. Most marks are those of one row, so one key alone takes no memory of its own, and
+/// the map of many lies elsewhere.
 #[derive(Drop)]
 pub(crate) enum Keys<K: Ord> {
     /// A key, and how often.
     One(K, u64),
     /// Keys in their order, each with how often.
-    Many(BTreeMap<K, u64>),
+    Many(Box<BTreeMap<K, u64>>),
 }
 
 // Whether two keys are one.
@@ -109,6 +110,9 @@ pub(crate) fn raise_keys<K: Ord + Twin + Drop>(alloc: Global, keys: &mut Keys<K>
         (lookup (is_at (K.cmp q)) (entries_of keys.old)) }
 {
     if let Some(wide) = wider(alloc, keys, key) {
+        let Ok(wide) = Box::new(alloc, wide) else {
+            return false;
+        };
         *keys = Keys::Many(wide);
         return true;
     }
@@ -137,6 +141,21 @@ fn lower_one<K: Ord>(own: &K, count: &mut u64, key: &K) -> bool
     true
 }
 
+// A key noted once less among many; whether some key is left.
+fn lower_many<K: Ord + Drop>(counts: &mut BTreeMap<K, u64>, key: &K) -> bool
+    ensures left { IsTrue result → (q : K) → lookup (is_at (K.cmp q)) counts.new.entries
+        ≡ cond (is_at (K.cmp key.now) q) (nonzero (unwrap_or
+        (lookup (is_at (K.cmp key.now)) counts.old.entries) 0 - 1))
+        (lookup (is_at (K.cmp q)) counts.old.entries) }
+    ensures none { result ≡ false → (q : K)
+        → cond (is_at (K.cmp key.now) q) (nonzero (unwrap_or
+        (lookup (is_at (K.cmp key.now)) counts.old.entries) 0 - 1))
+        (lookup (is_at (K.cmp q)) counts.old.entries) ≡ None }
+{
+    lower_count(counts, key);
+    !counts.is_empty()
+}
+
 /// Notes a key once less, and tells whether some key is left. Where none is, the keys are not to be read any more.
 pub(crate) fn lower_keys<K: Ord + Drop>(keys: &mut Keys<K>, key: &K) -> bool
     ensures left { IsTrue result → (q : K) → lookup (is_at (K.cmp q)) (entries_of keys.new)
@@ -150,9 +169,6 @@ pub(crate) fn lower_keys<K: Ord + Drop>(keys: &mut Keys<K>, key: &K) -> bool
 {
     match keys {
         Keys::One(own, count) => lower_one(own, count, key),
-        Keys::Many(counts) => {
-            lower_count(counts, key);
-            !counts.is_empty()
-        }
+        Keys::Many(counts) => lower_many(counts, key),
     }
 }
