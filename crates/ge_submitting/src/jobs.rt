@@ -95,7 +95,8 @@ pub(crate) fn job_of_parts(
     let (name, project, account) = texts_given(alloc, options)?;
     let name = name_given(alloc, name, words.items())?;
     let account = account_given(alloc, account)?;
-    let (owner, group, words, script) = twins4(alloc, &e.user, &e.group, words, script)?;
+    let (owner, group, mut words, script) = twins4(alloc, &e.user, &e.group, words, script)?;
+    words.shrink();
     let (share, not_before, deadline, _) = numbers_given(options)?;
     let priority = priority_given(options)?;
     let (span, queued) = tasks_of(alloc, tasks)?;
