@@ -137,5 +137,6 @@ pub fn tasks_of_range(alloc: Global, wide: &WideRange) -> Result<TaskSet, AllocE
     if let Some(span) = span_of_tasks(wide) {
         spans.push(span)?;
     }
+    spans.shrink();
     Ok(TaskSet::from_spans(spans))
 }
