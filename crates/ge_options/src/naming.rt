@@ -12,7 +12,6 @@ use crate::wording::first_bytes;
 use ge_pieces::{may_stand_in_job_name, slices_at, starts_with_digit};
 use ge_rows::{List, Options, Text};
 use std::alloc::{AllocError, Global};
-use std::cmp::Ordering;
 
 fn last_slice<'a>(slices: &[&'a [u8]]) -> &'a [u8]
     ensures { result.now ≡ last_of (texts slices.now) }
@@ -80,11 +79,12 @@ pub fn name_of_command(alloc: Global, command: &[u8]) -> Result<Text, AllocError
     or_default_name(alloc, name)
 }
 
-/// Whether a word is the key of a table by text.
+/// Whether a word is the key of a table by text. Asking whether they are one text is far cheaper than their order.
+#[tactic(auto, using(crate::proofs::OneText::one_text))]
 pub fn is_key(word: &[u8], key: &[u8]) -> bool
     ensures { result ≡ is_at (text_cmp word.now) key.now }
 {
-    word.cmp(key) == Ordering::Equal
+    word == key
 }
 
 fn words_in<'a>(items: &'a [(Text, List<Text>)], name: &[u8]) -> Option<&'a [Text]>
