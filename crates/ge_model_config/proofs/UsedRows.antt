@@ -9,7 +9,7 @@ use Rattle.ge_model_jobs.proofs.Samples.{some_job, asking, with_pe, slots_of, ru
 use Rattle.ge_model_config.specs.Used.{is_used, is_there}
 use Rattle.ge_model_config.proofs.Site.{site, with_body}
 
--- a job of a project that asks for an environment and a resource, with one task that runs in long.q on n3
+-- a job of a project that asks for an environment and a resource, with one task that runs in short.q on n4
 unfoldable pub one_job : Job
 one_job = asking ((codes "ver", Amount 5) ∷ []) (with_pe (codes "mpi") 1 1 (record (some_job 1 (codes "a") (codes "ann") (codes "lab")) {
   submitted = 0;
