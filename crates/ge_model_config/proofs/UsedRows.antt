@@ -5,7 +5,7 @@ use Rattle.ge_model_rows.specs.EntryRows.{ObjectKind}
 use Rattle.ge_model_rows.specs.JobRows.{Job}
 use Rattle.ge_model_rows.specs.ValueRows.{Amount}
 use Rattle.ge_model_value.specs.Complexes.{opening_complexes}
-use Rattle.ge_model_jobs.proofs.Samples.{some_job, asking, with_pe, slots_of, running, some_advance}
+use Rattle.ge_model_jobs.proofs.Samples.{some_job, asking, with_pe, one_slot, running, some_advance}
 use Rattle.ge_model_config.specs.Used.{is_used, is_there}
 use Rattle.ge_model_config.proofs.Site.{site, with_body}
 
@@ -14,7 +14,7 @@ unfoldable pub one_job : Job
 one_job = asking ((codes "ver", Amount 5) ∷ []) (with_pe (codes "mpi") 1 1 (record (some_job 1 (codes "a") (codes "ann") (codes "lab")) {
   submitted = 0;
   queued = [];
-  running = (1, running 1 0 (slots_of (codes "short.q") (codes "n4") 1 ∷ [])) ∷ [];
+  running = (1, running 1 0 (one_slot (codes "short.q") (codes "n4"))) ∷ [];
   words = [];
 }))
 
@@ -70,7 +70,7 @@ reserved = record busy {
   jobs = [];
   advances = (
     1,
-    record (some_advance (codes "ar") 5 9 (slots_of (codes "short.q") (codes "n4") 1 ∷ [])) {
+    record (some_advance (codes "ar") 5 9 (one_slot (codes "short.q") (codes "n4"))) {
       request = record { asked = (codes "ver", Amount 5) ∷ []; queues = []; pe = Some (record { name = codes "mpi"; low = 1; high = 1 }) };
     },
   ) ∷ [];

@@ -8,7 +8,7 @@ use Rattle.ge_model_rows.specs.ValueRows.{ComplexDef}
 use Rattle.ge_collections.specs.Keyed.{put_text}
 use Rattle.ge_model_value.specs.Complexes.{opening}
 use Rattle.ge_model_jobs.specs.Holds.{eligible_tasks}
-use Rattle.ge_model_jobs.proofs.Samples.{span, asking, with_pe, prio, task, pe, with_jobs}
+use Rattle.ge_model_jobs.proofs.Samples.{span, asking, with_pe, prio, task, complex, pe, with_jobs}
 use Rattle.ge_model_order.specs.Candidates.{is_candidate, candidates}
 use Rattle.ge_model_order.specs.Priority.{priority_part, prios_of, prios_at, order_of, order_of_runs, sorted_prios}
 use Rattle.ge_model_order.specs.Urgency.{urgency_of}
@@ -32,15 +32,7 @@ abbrev some_pe : UrgencySlots → PeRow
 some_pe urgency_slots = record (pe PeSlots) { slots = 10; urgency_slots = urgency_slots }
 
 abbrev some_complex : Kind → ℕ → ComplexDef
-some_complex kind urgency = record {
-  shortcut = codes "x";
-  kind = kind;
-  relop = Le;
-  requestable = Requestable.Yes;
-  consumable = Consumable.Yes;
-  fallback = Amount 0;
-  urgency = urgency;
-}
+some_complex kind urgency = record (complex (codes "x") kind Le Requestable.Yes Consumable.Yes (Amount 0)) { urgency = urgency }
 
 -- four parallel environments, and three complexes with an urgency
 unfoldable with_urgent : Cluster

@@ -1,6 +1,6 @@
 -- Advance reservations: what they are granted, what they book, and the tasks that run in them; each by computation.
 use Rattle.std.specs.Prelude.{◌≡◌, ℕ, List, [], ◌∷◌, ◌++◌, map, Option, Some, None, codes, refl}
-use Rattle.ge_model_rows.specs.ClusterRows.{Cluster, default_queue, default_sched, plain_attr}
+use Rattle.ge_model_rows.specs.ClusterRows.{Cluster, default_sched}
 use Rattle.ge_model_rows.specs.DecisionRows.{Skip}
 use Rattle.ge_model_rows.specs.JobRows.{Job, Grant, Advance}
 use Rattle.ge_model_rows.specs.PeRows.{FillUp}
@@ -13,8 +13,8 @@ use Rattle.ge_model_place.specs.Advances.{stand_in, advance_grants}
 use Rattle.ge_model_place.specs.Limits.{capacity_of}
 use Rattle.ge_model_place.specs.Running.{run_of}
 use Rattle.ge_model_place.specs.Windows.{window_end_from, base_bookings}
-use Rattle.ge_model_jobs.proofs.Samples.{task, instance, local, running, pe, some_advance}
-use Rattle.ge_model_place.proofs.Site.{runs, lasting, job, reserving, start}
+use Rattle.ge_model_jobs.proofs.Samples.{lasting, task, instance, all_at_local, local, running, pe, local_queue, for_pe, all_q, some_advance}
+use Rattle.ge_model_place.proofs.Site.{runs, job, reserving, start}
 
 -- a reservation of ann for what is asked, from a moment until before another
 abbrev advance : ℕ → ℕ → List Grant → Advance
@@ -78,10 +78,10 @@ one_slot_in_a_reservation = refl
 -- what is booked
 
 abbrev queue_slots : LimitId
-queue_slots = Instance (instance (codes "all.q") (codes "local")) (codes "slots")
+queue_slots = Instance all_at_local (codes "slots")
 
 abbrev booked_slots : LimitId
-booked_slots = Booked 1 (instance (codes "all.q") (codes "local"))
+booked_slots = Booked 1 all_at_local
 
 abbrev booked_at : Cluster → ℕ → LimitId → ℕ → ℕ
 booked_at cluster now limit moment = plain_sum (base_bookings cluster (expanded cluster) now) limit moment
@@ -108,7 +108,7 @@ slots_of_one_that_overran = refl
 abbrev capacity_in : Cluster → LimitId → ℕ
 capacity_in cluster limit = capacity_of cluster (expanded cluster) limit
 
-slots_granted : map (capacity_in (reserved 1 [])) (booked_slots ∷ Booked 1 (instance (codes "all.q") (codes "h1")) ∷ Booked 2 (instance (codes "all.q") (codes "local")) ∷ []) ≡ 1 ∷ 0 ∷ 0 ∷ []
+slots_granted : map (capacity_in (reserved 1 [])) (booked_slots ∷ Booked 1 (instance (codes "all.q") (codes "h1")) ∷ Booked 2 all_at_local ∷ []) ≡ 1 ∷ 0 ∷ 0 ∷ []
 unfolding reserved runs
 slots_granted = refl
 
@@ -128,7 +128,7 @@ two_are_granted = refl
 
 -- beside one that ends where it begins, and one that begins where it ends, both slots are free
 beside_others : advance_grants (record opening {
-  queues = (codes "all.q", record default_queue { hosts = codes "local" ∷ []; pes = plain_attr (codes "smp" ∷ []); slots = plain_attr 2 }) ∷ [];
+  queues = all_q (for_pe (codes "smp") (local_queue 2));
   pes = (codes "smp", pe FillUp) ∷ [];
   advances = (1, advance 50 100 (local 2)) ∷ (2, advance 150 200 (local 2)) ∷ [];
 }) 0 (record (advance 100 150 []) { request = record { asked = []; queues = []; pe = Some (record { name = codes "smp"; low = 1; high = 9 }) } }) ≡ Some (local 2)

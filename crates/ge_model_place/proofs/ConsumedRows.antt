@@ -1,34 +1,26 @@
 -- Consumables that a job consumes once, each by computation.
 use Rattle.std.specs.Prelude.{◌≡◌, ℕ, List, [], ◌∷◌, map, None, codes, refl}
-use Rattle.ge_collections.specs.Keyed.{put_text}
-use Rattle.ge_model_rows.specs.ClusterRows.{Cluster, default_queue, bare_host, plain_attr}
+use Rattle.ge_model_rows.specs.ClusterRows.{Cluster, bare_host}
 use Rattle.ge_model_rows.specs.DecisionRows.{Decision, Skip}
-use Rattle.ge_model_rows.specs.JobRows.{Job, Grant}
+use Rattle.ge_model_rows.specs.JobRows.{Job}
 use Rattle.ge_model_rows.specs.PeRows.{Allocation, Fixed, PeSlots, FillUp, RoundRobin}
 use Rattle.ge_model_rows.specs.ScheduleRows.{Global}
-use Rattle.ge_model_rows.specs.ValueRows.{Value, Amount, Kind, Relop, Requestable, Consumable}
-use Rattle.ge_model_rows.specs.ValueRows.{ComplexDef}
+use Rattle.ge_model_rows.specs.ValueRows.{Consumable}
 use Rattle.ge_model_bookings.specs.Bookings.{plain_sum}
 use Rattle.ge_model_site.specs.Groups.{expanded}
-use Rattle.ge_model_value.specs.Complexes.{opening, opening_complexes}
+use Rattle.ge_model_value.specs.Complexes.{opening}
 use Rattle.ge_model_place.specs.Running.{run_of}
 use Rattle.ge_model_place.specs.Windows.{base_bookings}
-use Rattle.ge_model_jobs.proofs.Samples.{asking, with_pe, task, slots_of, local, running, host, pe}
+use Rattle.ge_model_jobs.proofs.Samples.{asking, with_pe, task, local, first_host, both_hosts, running, licence, licences, complexes_with, host, two_hosts}
+use Rattle.ge_model_jobs.proofs.Samples.{local_queue, both_queue, for_pe, all_q, pe}
 use Rattle.ge_model_place.proofs.Site.{runs, job, start, user_rule, rule_set}
-
--- a licence, with what jobs use of it that don't ask
-abbrev licence : Consumable → ℕ → ComplexDef
-licence consumed fallback = record { shortcut = codes "l"; kind = Kind.Int; relop = Relop.Le; requestable = Requestable.Yes; consumable = consumed; fallback = Amount fallback; urgency = 0 }
-
-abbrev licences : ℕ → List (List ℕ × Value)
-licences n = (codes "lic", Amount n) ∷ []
 
 -- one licence for all hosts, and four slots
 unfoldable one_licence : Consumable → List (ℕ × Job) → Cluster
 one_licence consumed jobs = record opening {
-  complexes = put_text opening_complexes (codes "lic") (licence consumed 0);
-  hosts = (codes "global", host (licences 1) []) ∷ (codes "local", bare_host) ∷ [];
-  queues = (codes "all.q", record default_queue { hosts = codes "local" ∷ []; slots = plain_attr 4; pes = plain_attr (codes "smp" ∷ []) }) ∷ [];
+  complexes = complexes_with ((codes "lic", licence consumed 0) ∷ []);
+  hosts = two_hosts (host (licences 1) []) bare_host;
+  queues = all_q (for_pe (codes "smp") (local_queue 4));
   pes = (codes "smp", pe PeSlots) ∷ [];
   jobs = jobs;
 }
@@ -60,15 +52,15 @@ booked_once = refl
 
 -- a job that doesn't ask uses what the complex says, once
 default_once : run_of (record (one_licence Consumable.Job ((1, with_pe (codes "smp") 3 3 (job 1 (codes "ann"))) ∷ [])) {
-  complexes = put_text opening_complexes (codes "lic") (licence Consumable.Job 2);
-  hosts = (codes "global", host (licences 2) []) ∷ (codes "local", bare_host) ∷ [];
+  complexes = complexes_with ((codes "lic", licence Consumable.Job 2) ∷ []);
+  hosts = two_hosts (host (licences 2) []) bare_host;
 }) (task 1 1 ∷ []) 20 ≡ start 1 (task 1 1) (local 3) ∷ []
 unfolding one_licence runs
 default_once = refl
 
 -- a quota of the licence counts it once too
 quota_once : run_of (record (one_licence Consumable.Job both_jobs) {
-  hosts = (codes "global", host (licences 5) []) ∷ (codes "local", bare_host) ∷ [];
+  hosts = two_hosts (host (licences 5) []) bare_host;
   quotas = (codes "few", rule_set (user_rule None ((codes "lic", 2) ∷ []) ∷ [])) ∷ [];
 }) (task 1 1 ∷ task 2 1 ∷ []) 20 ≡ start 1 (task 1 1) (local 3) ∷ start 2 (task 2 1) (local 1) ∷ []
 unfolding one_licence both_jobs parallel_job runs
@@ -76,7 +68,7 @@ quota_once = refl
 
 -- slots are counted one by one, whatever the table says of them
 slots_are_each : run_of (record (one_licence Consumable.Job both_jobs) {
-  complexes = put_text opening_complexes (codes "slots") (licence Consumable.Job 1);
+  complexes = complexes_with ((codes "slots", licence Consumable.Job 1) ∷ []);
   jobs = (1, with_pe (codes "smp") 5 5 (job 1 (codes "ann"))) ∷ (2, with_pe (codes "smp") 4 4 (job 2 (codes "ann"))) ∷ [];
 }) (task 1 1 ∷ task 2 1 ∷ []) 20 ≡ Skip (task 1 1) ∷ start 1 (task 2 1) (local 4) ∷ []
 unfolding one_licence runs
@@ -86,21 +78,18 @@ slots_are_each = refl
 
 unfoldable licence_on_each : Allocation → ℕ → ℕ → Cluster
 licence_on_each rule low high = record opening {
-  complexes = put_text opening_complexes (codes "lic") (licence Consumable.Job 0);
+  complexes = complexes_with ((codes "lic", licence Consumable.Job 0) ∷ []);
   hosts = (codes "global", bare_host) ∷ (codes "h1", host (licences 1) []) ∷ (codes "h2", host (licences 1) []) ∷ [];
-  queues = (codes "p", record default_queue { hosts = codes "h1" ∷ codes "h2" ∷ []; slots = plain_attr 2; pes = plain_attr (codes "mp" ∷ []) }) ∷ [];
+  queues = (codes "p", for_pe (codes "mp") (both_queue 2)) ∷ [];
   pes = (codes "mp", pe rule) ∷ [];
   jobs = (1, with_pe (codes "mp") low high (asking (licences 1) (job 1 (codes "ann")))) ∷ [];
 }
-
-abbrev on_both : ℕ → List Grant
-on_both n = slots_of (codes "p") (codes "h1") n ∷ slots_of (codes "p") (codes "h2") n ∷ []
 
 abbrev placed_by_rule : Allocation → List Decision
 placed_by_rule rule = run_of (licence_on_each rule 1 9) (task 1 1 ∷ []) 20
 
 -- all slots of a host share its licence, under each rule
 each_host_once : map placed_by_rule (FillUp ∷ RoundRobin ∷ Fixed 2 ∷ PeSlots ∷ [])
-    ≡ (start 1 (task 1 1) (on_both 2) ∷ []) ∷ (start 1 (task 1 1) (on_both 2) ∷ []) ∷ (start 1 (task 1 1) (on_both 2) ∷ []) ∷ (start 1 (task 1 1) (slots_of (codes "p") (codes "h1") 2 ∷ []) ∷ []) ∷ []
+    ≡ (start 1 (task 1 1) (both_hosts 2 2) ∷ []) ∷ (start 1 (task 1 1) (both_hosts 2 2) ∷ []) ∷ (start 1 (task 1 1) (both_hosts 2 2) ∷ []) ∷ (start 1 (task 1 1) (first_host 2) ∷ []) ∷ []
 unfolding licence_on_each runs
 each_host_once = refl

@@ -1,43 +1,24 @@
 -- A day: two runs over twelve jobs, four queue instances on three hosts, a consumable and a quota.
-use Rattle.std.specs.Prelude.{◌≡◌, ℕ, ◌*◌, ◌^◌, true, List, [], ◌∷◌, codes, refl}
+use Rattle.std.specs.Prelude.{◌≡◌, ℕ, true, List, [], ◌∷◌, codes, refl}
 use Rattle.ge_collections.specs.Keyed.{put_text}
 use Rattle.ge_model_rows.specs.ClusterRows.{Cluster, default_queue, bare_host, plain_attr}
 use Rattle.ge_model_rows.specs.DecisionRows.{Skip}
 use Rattle.ge_model_rows.specs.JobRows.{Job}
 use Rattle.ge_model_rows.specs.PeRows.{PeSlots}
 use Rattle.ge_model_rows.specs.QueueRows.{QueueRow}
-use Rattle.ge_model_rows.specs.ValueRows.{Value, Amount, Memory, Le, Requestable, Consumable}
-use Rattle.ge_model_rows.specs.ValueRows.{ComplexDef}
+use Rattle.ge_model_rows.specs.ValueRows.{Amount}
 use Rattle.ge_model_site.specs.Groups.{expanded}
-use Rattle.ge_model_value.specs.Complexes.{opening_complexes, opening}
+use Rattle.ge_model_value.specs.Complexes.{opening}
 use Rattle.ge_model_place.specs.InstanceOrder.{instance_order}
 use Rattle.ge_model_place.specs.Running.{run_of}
-use Rattle.ge_model_jobs.proofs.Samples.{asking, in_queues, with_pe, task, instance, slots_of, running, host, pe}
-use Rattle.ge_model_place.proofs.Site.{runs, job, one, start, filter_of, user_rule, rule_set}
-
-abbrev gigabytes : ℕ → Value
-gigabytes n = Amount (n * 2 ^ 30)
-
-abbrev seconds : ℕ → List ℕ × Value
-seconds n = (codes "h_rt", Amount n)
-
-unfoldable memory : ComplexDef
-memory = record {
-  shortcut = codes "mem";
-  kind = Memory;
-  relop = Le;
-  requestable = Requestable.Yes;
-  consumable = Consumable.Yes;
-  fallback = gigabytes 1;
-  urgency = 0;
-}
+use Rattle.ge_model_jobs.proofs.Samples.{asking, lasting, in_queues, with_pe, task, instance, slots_of, one_slot, running, gigabytes, memory, complexes_with, host, for_pe, pe}
+use Rattle.ge_model_place.proofs.Site.{runs, job, start, filter_of, user_rule, rule_set}
 
 unfoldable long_queue : QueueRow
-long_queue = record default_queue {
+long_queue = for_pe (codes "smp") (record default_queue {
   hosts = codes "@big" ∷ codes "n3" ∷ [];
   slots = record { plain = 2; overrides = (codes "@big", 4) ∷ [] };
-  pes = plain_attr (codes "smp" ∷ []);
-}
+})
 
 unfoldable short_queue : QueueRow
 short_queue = record default_queue {
@@ -50,7 +31,7 @@ short_queue = record default_queue {
 unfoldable day : List (ℕ × Job) → ℕ → Cluster
 day jobs serial = record opening {
   next_serial = serial;
-  complexes = put_text opening_complexes (codes "mem") memory;
+  complexes = complexes_with ((codes "mem", memory (codes "mem")) ∷ []);
   hosts = (codes "global", bare_host) ∷ (codes "local", bare_host)
       ∷ (codes "n1", host ((codes "mem", gigabytes 8) ∷ []) ((codes "np_load_avg", Amount 1000000) ∷ []))
       ∷ (codes "n2", host ((codes "mem", gigabytes 8) ∷ []) ((codes "np_load_avg", Amount 500000) ∷ []))
@@ -64,19 +45,19 @@ day jobs serial = record opening {
 }
 
 unfoldable prep : ℕ × Job
-prep = (1, asking (seconds 600 ∷ []) (job 1 (codes "ann")))
+prep = (1, lasting 600 (job 1 (codes "ann")))
 
 unfoldable sim : ℕ × Job
-sim = (2, asking (seconds 7200 ∷ (codes "mem", gigabytes 2) ∷ []) (job 2 (codes "ann")))
+sim = (2, asking ((codes "h_rt", Amount 7200) ∷ (codes "mem", gigabytes 2) ∷ []) (job 2 (codes "ann")))
 
 unfoldable mpi : ℕ × Job
-mpi = (4, with_pe (codes "smp") 3 8 (asking (seconds 3600 ∷ []) (job 4 (codes "bob"))))
+mpi = (4, with_pe (codes "smp") 3 8 (lasting 3600 (job 4 (codes "bob"))))
 
 unfoldable big : ℕ × Job
 big = (5, asking ((codes "mem", gigabytes 6) ∷ []) (job 5 (codes "bob")))
 
 unfoldable small : ℕ × Job
-small = (6, asking (seconds 1800 ∷ []) (job 6 (codes "bob")))
+small = (6, lasting 1800 (job 6 (codes "bob")))
 
 unfoldable huge : ℕ × Job
 huge = (7, asking ((codes "mem", gigabytes 16) ∷ []) (job 7 (codes "cy")))
@@ -100,19 +81,19 @@ by_load = refl
 first_run : run_of morning
     (task 4 1 ∷ task 1 1 ∷ task 2 1 ∷ task 2 2 ∷ task 2 3 ∷ task 2 4 ∷ task 5 1 ∷ task 6 1 ∷ task 7 1 ∷ task 8 1 ∷ task 12 1 ∷ task 9 1 ∷ []) 20
     ≡ start 1 (task 4 1) (slots_of (codes "long.q") (codes "n2") 4 ∷ [])
-    ∷ start 2 (task 1 1) (one (codes "long.q") (codes "n3"))
-    ∷ start 3 (task 2 1) (one (codes "long.q") (codes "n3"))
-    ∷ start 4 (task 2 2) (one (codes "long.q") (codes "n1"))
-    ∷ start 5 (task 2 3) (one (codes "long.q") (codes "n1"))
-    ∷ start 6 (task 2 4) (one (codes "long.q") (codes "n1"))
+    ∷ start 2 (task 1 1) (one_slot (codes "long.q") (codes "n3"))
+    ∷ start 3 (task 2 1) (one_slot (codes "long.q") (codes "n3"))
+    ∷ start 4 (task 2 2) (one_slot (codes "long.q") (codes "n1"))
+    ∷ start 5 (task 2 3) (one_slot (codes "long.q") (codes "n1"))
+    ∷ start 6 (task 2 4) (one_slot (codes "long.q") (codes "n1"))
     ∷ Skip (task 5 1)
-    ∷ start 7 (task 6 1) (one (codes "short.q") (codes "n3"))
+    ∷ start 7 (task 6 1) (one_slot (codes "short.q") (codes "n3"))
     ∷ Skip (task 7 1)
     ∷ Skip (task 8 1)
-    ∷ start 8 (task 12 1) (one (codes "long.q") (codes "n1"))
+    ∷ start 8 (task 12 1) (one_slot (codes "long.q") (codes "n1"))
     ∷ Skip (task 9 1)
     ∷ []
-unfolding morning day memory long_queue short_queue prep sim mpi big small huge quick low last runs
+unfolding morning day long_queue short_queue prep sim mpi big small huge quick low last runs
 first_run = refl
 
 -- the jobs after the first run at 20 and the end of job 1
@@ -120,18 +101,18 @@ unfoldable later : Cluster
 later = day ((
   2,
   record (sim.1) {
-    running = (1, running 3 20 (one (codes "long.q") (codes "n3"))) ∷ (2, running 4 20 (one (codes "long.q") (codes "n1")))
-        ∷ (3, running 5 20 (one (codes "long.q") (codes "n1"))) ∷ (4, running 6 20 (one (codes "long.q") (codes "n1"))) ∷ [];
+    running = (1, running 3 20 (one_slot (codes "long.q") (codes "n3"))) ∷ (2, running 4 20 (one_slot (codes "long.q") (codes "n1")))
+        ∷ (3, running 5 20 (one_slot (codes "long.q") (codes "n1"))) ∷ (4, running 6 20 (one_slot (codes "long.q") (codes "n1"))) ∷ [];
   },
 )
     ∷ (4, record (mpi.1) { running = (1, running 1 20 (slots_of (codes "long.q") (codes "n2") 4 ∷ [])) ∷ [] })
     ∷ big
-    ∷ (6, record (small.1) { running = (1, running 7 20 (one (codes "short.q") (codes "n3"))) ∷ [] })
+    ∷ (6, record (small.1) { running = (1, running 7 20 (one_slot (codes "short.q") (codes "n3"))) ∷ [] })
     ∷ huge ∷ quick ∷ low
-    ∷ (12, record (last.1) { running = (1, running 8 20 (one (codes "long.q") (codes "n1"))) ∷ [] })
+    ∷ (12, record (last.1) { running = (1, running 8 20 (one_slot (codes "long.q") (codes "n1"))) ∷ [] })
     ∷ []) 9
 
 second_run : run_of later (task 5 1 ∷ task 7 1 ∷ task 8 1 ∷ task 9 1 ∷ []) 700
-    ≡ Skip (task 5 1) ∷ Skip (task 7 1) ∷ Skip (task 8 1) ∷ start 9 (task 9 1) (one (codes "long.q") (codes "n3")) ∷ []
-unfolding later day memory long_queue short_queue sim mpi big small huge quick low last runs
+    ≡ Skip (task 5 1) ∷ Skip (task 7 1) ∷ Skip (task 8 1) ∷ start 9 (task 9 1) (one_slot (codes "long.q") (codes "n3")) ∷ []
+unfolding later day long_queue short_queue sim mpi big small huge quick low last runs
 second_run = refl

@@ -1,26 +1,24 @@
 -- What closes an instance, what `global` configures, names that are empty, and reports that are no amounts, each by computation.
 use Rattle.std.specs.Prelude.{◌≡◌, ℕ, Bool, true, false, None, List, [], ◌∷◌, map, is_some, codes, refl}
-use Rattle.ge_collections.specs.Keyed.{put_text}
-use Rattle.ge_model_rows.specs.ClusterRows.{Cluster, default_queue, bare_host, plain_attr}
+use Rattle.ge_model_rows.specs.ClusterRows.{Cluster, bare_host}
 use Rattle.ge_model_rows.specs.DecisionRows.{Skip}
 use Rattle.ge_model_rows.specs.QuotaRows.{Rule}
 use Rattle.ge_model_rows.specs.TaskRows.{TaskId}
-use Rattle.ge_model_rows.specs.ValueRows.{Value, Amount, Flag, Int, Eq, Le, Requestable}
-use Rattle.ge_model_rows.specs.ValueRows.{Consumable}
-use Rattle.ge_rows.specs.declared.values.Kind.TheVariants.{Bool as Flags}
+use Rattle.ge_model_rows.specs.ValueRows.{Value, Amount, Flag, Consumable}
 use Rattle.ge_model_site.specs.Groups.{expanded}
-use Rattle.ge_model_value.specs.Complexes.{opening_complexes, opening}
+use Rattle.ge_model_value.specs.Complexes.{opening}
 use Rattle.ge_model_place.specs.InstanceOrder.{instance_order}
 use Rattle.ge_model_place.specs.Quotas.{Who, key_of}
 use Rattle.ge_model_place.specs.Running.{run_of}
-use Rattle.ge_model_jobs.proofs.Samples.{asking, task, instance, local, host}
+use Rattle.ge_model_jobs.proofs.Samples.{asking, task, instance, local, licence, licences, forced_flag, complexes_with, host, loaded, two_hosts}
+use Rattle.ge_model_jobs.proofs.Samples.{local_queue, both_queue, all_q}
 use Rattle.ge_model_place.proofs.Site.{runs, job, start, filter_of, user_rule, rule_set}
 
 -- a load threshold (queue_conf): np_load_avg of 1.75 closes the instance, a hair less leaves it open
 
 unfoldable reporting : Value → Cluster
 reporting load = record opening {
-  hosts = (codes "global", bare_host) ∷ (codes "local", host [] ((codes "np_load_avg", load) ∷ [])) ∷ [];
+  hosts = two_hosts bare_host (loaded load);
   jobs = (1, job 1 (codes "ann")) ∷ [];
 }
 
@@ -40,8 +38,8 @@ flag_closes_nothing = refl
 -- and it is no load: its host comes behind one that reports an amount
 unfoldable one_flag : Cluster
 one_flag = record opening {
-  hosts = (codes "global", bare_host) ∷ (codes "h1", host [] ((codes "np_load_avg", Flag false) ∷ [])) ∷ (codes "h2", host [] ((codes "np_load_avg", Amount 9000000) ∷ [])) ∷ [];
-  queues = (codes "q", record default_queue { hosts = codes "h1" ∷ codes "h2" ∷ [] }) ∷ [];
+  hosts = (codes "global", bare_host) ∷ (codes "h1", loaded (Flag false)) ∷ (codes "h2", loaded (Amount 9000000)) ∷ [];
+  queues = (codes "q", both_queue 1) ∷ [];
 }
 
 flag_is_no_load : instance_order one_flag (expanded one_flag) ≡ instance (codes "q") (codes "h2") ∷ instance (codes "q") (codes "h1") ∷ []
@@ -52,12 +50,10 @@ flag_is_no_load = refl
 
 unfoldable for_all : List (List ℕ × Value) → Cluster
 for_all values = record opening {
-  complexes = put_text
-      (put_text opening_complexes (codes "lic") (record { shortcut = codes "l"; kind = Int; relop = Le; requestable = Requestable.Yes; consumable = Consumable.Yes; fallback = Amount 0; urgency = 0 }))
-      (codes "gpu") (record { shortcut = codes "g"; kind = Flags; relop = Eq; requestable = Requestable.Forced; consumable = Consumable.No; fallback = Flag false; urgency = 0 });
-  hosts = (codes "global", host values []) ∷ (codes "local", bare_host) ∷ [];
-  queues = (codes "all.q", record default_queue { hosts = codes "local" ∷ []; slots = plain_attr 9 }) ∷ [];
-  jobs = (1, asking ((codes "lic", Amount 2) ∷ []) (job 1 (codes "ann"))) ∷ (2, asking ((codes "lic", Amount 2) ∷ []) (job 2 (codes "ann")))
+  complexes = complexes_with ((codes "lic", licence Consumable.Yes 0) ∷ (codes "gpu", forced_flag (codes "g")) ∷ []);
+  hosts = two_hosts (host values []) bare_host;
+  queues = all_q (local_queue 9);
+  jobs = (1, asking (licences 2) (job 1 (codes "ann"))) ∷ (2, asking (licences 2) (job 2 (codes "ann")))
       ∷ (3, asking ((codes "gpu", Flag true) ∷ []) (job 3 (codes "ann"))) ∷ (4, job 4 (codes "ann")) ∷ [];
 }
 
@@ -65,7 +61,7 @@ abbrev all_tasks : List TaskId
 all_tasks = task 1 1 ∷ task 2 1 ∷ task 3 1 ∷ task 4 1 ∷ []
 
 -- of three licences one job gets two; a job that asks for none takes none
-consumable_at_global : run_of (for_all ((codes "lic", Amount 3) ∷ [])) all_tasks 0
+consumable_at_global : run_of (for_all (licences 3)) all_tasks 0
     ≡ start 1 (task 1 1) (local 1) ∷ Skip (task 2 1) ∷ Skip (task 3 1) ∷ start 2 (task 4 1) (local 1) ∷ []
 unfolding for_all runs
 consumable_at_global = refl

@@ -1,38 +1,32 @@
 -- Which instances take a job, their order, and what is counted there, each by computation.
 use Rattle.std.specs.Prelude.{◌≡◌, ℕ, ◌-◌, ◌*◌, ◌^◌, Bool, true, false, List, [], ◌∷◌, map, codes, refl}
-use Rattle.ge_collections.specs.Keyed.{put_text}
-use Rattle.ge_model_rows.specs.ClusterRows.{Cluster, default_queue, default_sched, bare_host}
+use Rattle.ge_model_rows.specs.ClusterRows.{Cluster, default_sched, bare_host}
 use Rattle.ge_model_rows.specs.ClusterRows.{plain_attr}
 use Rattle.ge_model_rows.specs.DecisionRows.{Skip}
-use Rattle.ge_model_rows.specs.HostRows.{InstanceId}
 use Rattle.ge_model_rows.specs.JobRows.{Job}
 use Rattle.ge_model_rows.specs.PeRows.{PeSlots, FillUp}
 use Rattle.ge_model_rows.specs.QueueRows.{QueueRow}
 use Rattle.ge_model_rows.specs.ScheduleRows.{Instance, Host, Global, Pe, Quota, Booking}
 use Rattle.ge_model_rows.specs.SettingRows.{SortMethod, Load, Seqno}
-use Rattle.ge_model_rows.specs.ValueRows.{Value, Amount, Flag, Word, Kind, Int, Memory, Relop, Eq}
-use Rattle.ge_model_rows.specs.ValueRows.{Le, Ge, Requestable, Consumable, ComplexDef}
-use Rattle.ge_rows.specs.declared.values.Kind.TheVariants.{Bool as Flags}
+use Rattle.ge_model_rows.specs.ValueRows.{Value, Amount, Flag, Word, Int, Le, Ge, Requestable, Consumable, ComplexDef}
 use Rattle.ge_model_site.specs.Groups.{expanded}
-use Rattle.ge_model_value.specs.Complexes.{opening_complexes, opening}
+use Rattle.ge_model_value.specs.Complexes.{opening}
 use Rattle.ge_model_place.specs.InstanceOrder.{instance_order}
 use Rattle.ge_model_place.specs.Limits.{Counted, counted_at, demands_of}
 use Rattle.ge_model_place.specs.Opening.{is_open, reaches_threshold, names_instance}
 use Rattle.ge_model_place.specs.Placement.{are_admissible}
 use Rattle.ge_model_place.specs.Running.{run_of}
 use Rattle.ge_model_place.specs.Windows.{duration_of, base_bookings}
-use Rattle.ge_model_jobs.proofs.Samples.{asking, with_pe, task, instance, slots_of, local, running, host, pe}
-use Rattle.ge_model_place.proofs.Site.{runs, lasting, job, start, filter_of, user_rule, rule_set}
+use Rattle.ge_model_jobs.proofs.Samples.{asking, lasting, with_pe, task, instance, slots_of, one_slot, all_at_local, local, since, complex, gigabytes, memory, forced_flag}
+use Rattle.ge_model_jobs.proofs.Samples.{complexes_with, host, loaded, two_hosts, bare_hosts, queue_on, local_queue, both_queue, for_pe, all_q, pe}
+use Rattle.ge_model_place.proofs.Site.{runs, job, start, filter_of, user_rule, rule_set}
 
 -- one complex more, values of the host, and jobs of ann by number from 1 on
 
-abbrev complex : Kind → Relop → Requestable → Consumable → Value → ComplexDef
-complex kind relop asked consumed fallback = record { shortcut = codes "c"; kind = kind; relop = relop; requestable = asked; consumable = consumed; fallback = fallback; urgency = 0 }
-
 unfoldable with_complex : List ℕ → ComplexDef → Value → List (ℕ × Job) → Cluster
 with_complex name row value jobs = record opening {
-  complexes = put_text opening_complexes name row;
-  hosts = (codes "global", bare_host) ∷ (codes "local", host ((name, value) ∷ []) []) ∷ [];
+  complexes = complexes_with ((name, row) ∷ []);
+  hosts = two_hosts bare_host (host ((name, value) ∷ []) []);
   jobs = jobs;
 }
 
@@ -40,50 +34,44 @@ abbrev of_ann : ℕ → List (List ℕ × Value) → ℕ × Job
 of_ann number asked = (number, asking asked (job number (codes "ann")))
 
 -- 4 is not at least 5, and arch is at no level
-values_that_admit : run_of (with_complex (codes "ver") (complex Int Ge Requestable.Yes Consumable.No (Amount 0)) (Amount 5)
+values_that_admit : run_of (with_complex (codes "ver") (complex (codes "c") Int Ge Requestable.Yes Consumable.No (Amount 0)) (Amount 5)
     (of_ann 1 ((codes "ver", Amount 5) ∷ []) ∷ of_ann 2 ((codes "ver", Amount 4) ∷ []) ∷ of_ann 3 ((codes "arch", Word (codes "lx")) ∷ []) ∷ []))
     (task 1 1 ∷ task 2 1 ∷ task 3 1 ∷ []) 0
     ≡ start 1 (task 1 1) (local 1) ∷ Skip (task 2 1) ∷ Skip (task 3 1) ∷ []
 unfolding with_complex runs
 values_that_admit = refl
 
-forced_is_for_those_who_ask : run_of (with_complex (codes "gpu") (complex Flags Eq Requestable.Forced Consumable.No (Flag false)) (Flag true)
+forced_is_for_those_who_ask : run_of (with_complex (codes "gpu") (forced_flag (codes "c")) (Flag true)
     (of_ann 1 [] ∷ of_ann 2 ((codes "gpu", Flag true) ∷ []) ∷ [])) (task 1 1 ∷ task 2 1 ∷ []) 0
     ≡ Skip (task 1 1) ∷ start 1 (task 2 1) (local 1) ∷ []
 unfolding with_complex runs
 forced_is_for_those_who_ask = refl
 
 -- slots count as asked for
-forced_slots : run_of (with_complex (codes "slots") (complex Int Le Requestable.Forced Consumable.Yes (Amount 1)) (Amount 1) (of_ann 1 [] ∷ of_ann 2 [] ∷ [])) (task 1 1 ∷ task 2 1 ∷ []) 0
+forced_slots : run_of (with_complex (codes "slots") (complex (codes "c") Int Le Requestable.Forced Consumable.Yes (Amount 1)) (Amount 1) (of_ann 1 [] ∷ of_ann 2 [] ∷ [])) (task 1 1 ∷ task 2 1 ∷ []) 0
     ≡ start 1 (task 1 1) (local 1) ∷ Skip (task 2 1) ∷ []
 unfolding with_complex runs
 forced_slots = refl
 
-abbrev gigabyte : Value
-gigabyte = Amount (2 ^ 30)
-
-abbrev memory : ComplexDef
-memory = complex Memory Le Requestable.Yes Consumable.Yes gigabyte
-
 -- a job without a request takes the default, one that asks for nothing takes nothing
-nothing_asked : run_of (with_complex (codes "mem") memory gigabyte (of_ann 1 [] ∷ of_ann 2 ((codes "mem", Amount 0) ∷ []) ∷ [])) (task 1 1 ∷ task 2 1 ∷ []) 0
+nothing_asked : run_of (with_complex (codes "mem") (memory (codes "c")) (gigabytes 1) (of_ann 1 [] ∷ of_ann 2 ((codes "mem", Amount 0) ∷ []) ∷ [])) (task 1 1 ∷ task 2 1 ∷ []) 0
     ≡ start 1 (task 1 1) (local 1) ∷ start 2 (task 2 1) (local 1) ∷ []
 unfolding with_complex runs
 nothing_asked = refl
 
-default_taken : run_of (with_complex (codes "mem") memory gigabyte (of_ann 1 [] ∷ of_ann 2 [] ∷ [])) (task 1 1 ∷ task 2 1 ∷ []) 0 ≡ start 1 (task 1 1) (local 1) ∷ Skip (task 2 1) ∷ []
+default_taken : run_of (with_complex (codes "mem") (memory (codes "c")) (gigabytes 1) (of_ann 1 [] ∷ of_ann 2 [] ∷ [])) (task 1 1 ∷ task 2 1 ∷ []) 0 ≡ start 1 (task 1 1) (local 1) ∷ Skip (task 2 1) ∷ []
 unfolding with_complex runs
 default_taken = refl
 
 -- a consumable that is configured nowhere
-asked_but_not_there : run_of (record (with_complex (codes "mem") memory gigabyte (of_ann 1 ((codes "mem", Amount 0) ∷ []) ∷ [])) { hosts = (codes "global", bare_host) ∷ (codes "local", bare_host) ∷ [] })
+asked_but_not_there : run_of (record (with_complex (codes "mem") (memory (codes "c")) (gigabytes 1) (of_ann 1 ((codes "mem", Amount 0) ∷ []) ∷ [])) { hosts = bare_hosts (codes "local" ∷ []) })
     (task 1 1 ∷ []) 0 ≡ Skip (task 1 1) ∷ []
 unfolding with_complex runs
 asked_but_not_there = refl
 
 -- each slot takes the amount: two slots of a gigabyte each, where there are two and where there is one
-two_slots_take_twice : map (λ there. run_of (record (with_complex (codes "mem") memory (Amount there) ((1, with_pe (codes "e") 2 2 (job 1 (codes "ann"))) ∷ [])) {
-  queues = (codes "all.q", record default_queue { hosts = codes "local" ∷ []; slots = plain_attr 2; pes = plain_attr (codes "e" ∷ []) }) ∷ [];
+two_slots_take_twice : map (λ there. run_of (record (with_complex (codes "mem") (memory (codes "c")) (Amount there) ((1, with_pe (codes "e") 2 2 (job 1 (codes "ann"))) ∷ [])) {
+  queues = all_q (for_pe (codes "e") (local_queue 2));
   pes = (codes "e", pe FillUp) ∷ [];
 }) (task 1 1 ∷ []) 0) (2 * 2 ^ 30 ∷ (2 * 2 ^ 30 - 1) ∷ [])
     ≡ (start 1 (task 1 1) (local 2) ∷ []) ∷ (Skip (task 1 1) ∷ []) ∷ []
@@ -93,26 +81,16 @@ two_slots_take_twice = refl
 -- demands in their order: the instance's, the host's, those of all, the PE's, the quotas'
 unfoldable each_level : Cluster
 each_level = record opening {
-  complexes = put_text opening_complexes (codes "mem") memory;
-  hosts = (codes "global", host ((codes "mem", Amount 900) ∷ []) []) ∷ (codes "local", host ((codes "mem", Amount 800) ∷ []) []) ∷ [];
-  queues = (
-    codes "all.q",
-    record default_queue {
-      hosts = codes "local" ∷ [];
-      slots = plain_attr 3;
-      values = plain_attr ((codes "mem", Amount 700) ∷ (codes "slots", Amount 1) ∷ []);
-    },
-  ) ∷ [];
+  complexes = complexes_with ((codes "mem", memory (codes "c")) ∷ []);
+  hosts = two_hosts (host ((codes "mem", Amount 900) ∷ []) []) (host ((codes "mem", Amount 800) ∷ []) []);
+  queues = all_q (record (local_queue 3) { values = plain_attr ((codes "mem", Amount 700) ∷ (codes "slots", Amount 1) ∷ []) });
   pes = (codes "e", pe FillUp) ∷ [];
   quotas = (codes "few", rule_set (user_rule (filter_of true (codes "*" ∷ []) []) ((codes "arch", 1) ∷ (codes "mem", 600) ∷ (codes "slots", 5) ∷ []) ∷ [])) ∷ [];
 }
 
-abbrev local_instance : InstanceId
-local_instance = instance (codes "all.q") (codes "local")
-
 demands_of_each_level : demands_of each_level (expanded each_level) (with_pe (codes "e") 1 3 (asking ((codes "mem", Amount 10) ∷ []) (job 1 (codes "ann")))) (local 2)
-    ≡ record { limit = Instance local_instance (codes "mem"); amount = 20 }
-    ∷ record { limit = Instance local_instance (codes "slots"); amount = 2 }
+    ≡ record { limit = Instance all_at_local (codes "mem"); amount = 20 }
+    ∷ record { limit = Instance all_at_local (codes "slots"); amount = 2 }
     ∷ record { limit = Host (codes "local") (codes "mem"); amount = 20 }
     ∷ record { limit = Global (codes "mem"); amount = 20 }
     ∷ record { limit = Pe (codes "e"); amount = 2 }
@@ -122,7 +100,7 @@ demands_of_each_level : demands_of each_level (expanded each_level) (with_pe (co
 unfolding each_level runs
 demands_of_each_level = refl
 
-capacities : map (λ (counted : Counted). counted.capacity) (counted_at each_level (expanded each_level) (with_pe (codes "e") 1 3 (job 1 (codes "ann"))) local_instance)
+capacities : map (λ (counted : Counted). counted.capacity) (counted_at each_level (expanded each_level) (with_pe (codes "e") 1 3 (job 1 (codes "ann"))) all_at_local)
     ≡ 700 ∷ 3 ∷ 800 ∷ 900 ∷ 100 ∷ 600 ∷ 5 ∷ []
 unfolding each_level runs
 capacities = refl
@@ -138,12 +116,12 @@ together_on_a_host = refl
 unfoldable sorted : SortMethod → Cluster
 sorted sort = record opening {
   hosts = (codes "global", bare_host)
-      ∷ (codes "h1", host [] ((codes "np_load_avg", Amount 900000) ∷ []))
-      ∷ (codes "h2", host [] ((codes "np_load_avg", Amount 800000) ∷ []))
-      ∷ (codes "h3", host [] ((codes "np_load_avg", Word (codes "low")) ∷ []))
+      ∷ (codes "h1", loaded (Amount 900000))
+      ∷ (codes "h2", loaded (Amount 800000))
+      ∷ (codes "h3", loaded (Word (codes "low")))
       ∷ [];
-  queues = (codes "a.q", record default_queue { hosts = codes "h1" ∷ codes "h3" ∷ []; seq_no = plain_attr 1 })
-      ∷ (codes "b.q", record default_queue { hosts = codes "h1" ∷ codes "h2" ∷ []; seq_no = record { plain = 0; overrides = (codes "h2", 1) ∷ [] } })
+  queues = (codes "a.q", record (queue_on (codes "h1" ∷ codes "h3" ∷ []) 1) { seq_no = plain_attr 1 })
+      ∷ (codes "b.q", record (both_queue 1) { seq_no = record { plain = 0; overrides = (codes "h2", 1) ∷ [] } })
       ∷ [];
   sched = record default_sched { sort = sort };
 }
@@ -158,17 +136,17 @@ by_number = refl
 
 -- thresholds: np_load_avg of 1.75 and mem_free, whose relation is the other way
 
-unfoldable loaded : List (List ℕ × Value) → Cluster
-loaded report = record opening {
-  hosts = (codes "global", bare_host) ∷ (codes "local", host [] report) ∷ [];
-  queues = (codes "all.q", record default_queue { hosts = codes "local" ∷ []; thresholds = plain_attr ((codes "mem_free", Amount 100) ∷ (codes "np_load_avg", Amount 1750000) ∷ []) }) ∷ [];
+unfoldable reporting : List (List ℕ × Value) → Cluster
+reporting report = record opening {
+  hosts = two_hosts bare_host (host [] report);
+  queues = all_q (record (local_queue 1) { thresholds = plain_attr ((codes "mem_free", Amount 100) ∷ (codes "np_load_avg", Amount 1750000) ∷ []) });
 }
 
-reached_or_not : map (λ report. reaches_threshold (loaded report) (expanded (loaded report)) local_instance)
+reached_or_not : map (λ report. reaches_threshold (reporting report) (expanded (reporting report)) all_at_local)
     ([] ∷ ((codes "np_load_avg", Amount 1749999) ∷ []) ∷ ((codes "np_load_avg", Amount 1750000) ∷ []) ∷ ((codes "mem_free", Amount 101) ∷ []) ∷ ((codes "mem_free", Amount 100) ∷ [])
     ∷ ((codes "np_load_avg", Word (codes "9")) ∷ []) ∷ [])
     ≡ false ∷ false ∷ true ∷ false ∷ true ∷ false ∷ []
-unfolding loaded runs
+unfolding reporting runs
 reached_or_not = refl
 
 -- -q: queue, queue@host, queue@@group, each a pattern
@@ -185,7 +163,7 @@ asked_for_or_not = refl
 -- projects: a queue for p but not q, one against q, one for none
 
 abbrev project_queue : List (List ℕ) → List (List ℕ) → QueueRow
-project_queue lists xlists = record default_queue { hosts = codes "local" ∷ []; projects = plain_attr lists; xprojects = plain_attr xlists }
+project_queue lists xlists = record (local_queue 1) { projects = plain_attr lists; xprojects = plain_attr xlists }
 
 unfoldable projects : Cluster
 projects = record opening {
@@ -202,9 +180,9 @@ with_and_without_a_project = refl
 -- hosts are tried in the order of their first instance, though it is closed: h2 before h1
 unfoldable closed_first : Cluster
 closed_first = record opening {
-  hosts = (codes "global", bare_host) ∷ (codes "h1", bare_host) ∷ (codes "h2", bare_host) ∷ [];
-  queues = (codes "a.q", record default_queue { hosts = codes "h2" ∷ [] })
-      ∷ (codes "b.q", record default_queue { hosts = codes "h1" ∷ codes "h2" ∷ []; seq_no = record { plain = 1; overrides = (codes "h2", 2) ∷ [] }; slots = plain_attr 2; pes = plain_attr (codes "e" ∷ []) })
+  hosts = bare_hosts (codes "h1" ∷ codes "h2" ∷ []);
+  queues = (codes "a.q", queue_on (codes "h2" ∷ []) 1)
+      ∷ (codes "b.q", for_pe (codes "e") (record (both_queue 2) { seq_no = record { plain = 1; overrides = (codes "h2", 2) ∷ [] } }))
       ∷ [];
   pes = (codes "e", pe PeSlots) ∷ [];
   sched = record default_sched { sort = Seqno };
@@ -219,9 +197,9 @@ host_of_a_closed_instance_first = refl
 unfoldable bounded : ℕ → Cluster
 bounded most = record opening {
   next_serial = 2;
-  queues = (codes "all.q", record default_queue { hosts = codes "local" ∷ []; slots = plain_attr 9 }) ∷ [];
+  queues = all_q (local_queue 9);
   sched = record default_sched { maxujobs = most };
-  jobs = (1, record (job 1 (codes "ann")) { running = (1, running 1 0 (local 1)) ∷ [] }) ∷ of_ann 2 [] ∷ of_ann 3 [] ∷ (4, job 4 (codes "bob")) ∷ [];
+  jobs = (1, record (job 1 (codes "ann")) { running = since 1 1 0 ∷ [] }) ∷ of_ann 2 [] ∷ of_ann 3 [] ∷ (4, job 4 (codes "bob")) ∷ [];
 }
 
 two_of_each_user : run_of (bounded 2) (task 2 1 ∷ task 3 1 ∷ task 4 1 ∷ []) 5 ≡ start 2 (task 2 1) (local 1) ∷ Skip (task 3 1) ∷ start 3 (task 4 1) (local 1) ∷ []
@@ -245,7 +223,7 @@ unfolding runs
 durations = refl
 
 -- what is booked at 50 of a task since 0: for 10 seconds, for 60, for ever
-booked_at_50 : map (λ seconds. map (λ (b : Booking). b.until) (base_bookings (record opening { jobs = (1, record (lasting seconds (job 1 (codes "ann"))) { running = (1, running 1 0 (local 1)) ∷ [] }) ∷ [] }) (expanded opening) 50))
+booked_at_50 : map (λ seconds. map (λ (b : Booking). b.until) (base_bookings (record opening { jobs = (1, record (lasting seconds (job 1 (codes "ann"))) { running = since 1 1 0 ∷ [] }) ∷ [] }) (expanded opening) 50))
     (10 ∷ 60 ∷ (2 ^ 48 - 1) ∷ [])
     ≡ (51 ∷ []) ∷ (60 ∷ []) ∷ (2 ^ 63 ∷ []) ∷ []
 unfolding runs
@@ -256,6 +234,6 @@ closed_and_empty : map (λ from. are_admissible (bounded 0) (expanded (bounded 0
 unfolding bounded runs are_admissible
 closed_and_empty = refl
 
-no_such_instance : are_admissible (bounded 0) (expanded (bounded 0)) (job 1 (codes "ann")) [] (2 ^ 63) (slots_of (codes "no.q") (codes "local") 1 ∷ []) ≡ false
+no_such_instance : are_admissible (bounded 0) (expanded (bounded 0)) (job 1 (codes "ann")) [] (2 ^ 63) (one_slot (codes "no.q") (codes "local")) ≡ false
 unfolding bounded runs are_admissible
 no_such_instance = refl

@@ -1,25 +1,25 @@
 -- Runs with reservations, quotas and parallel environments, each by computation.
 use Rattle.std.specs.Prelude.{◌≡◌, ℕ, true, false, List, [], ◌∷◌, map, codes, refl}
-use Rattle.ge_model_rows.specs.ClusterRows.{Cluster, default_queue, default_sched, bare_host}
-use Rattle.ge_model_rows.specs.ClusterRows.{plain_attr}
+use Rattle.ge_model_rows.specs.ClusterRows.{Cluster, default_sched}
 use Rattle.ge_model_rows.specs.DecisionRows.{Decision, Skip}
 use Rattle.ge_model_rows.specs.JobRows.{Job, Grant}
 use Rattle.ge_model_rows.specs.PeRows.{Allocation, Fixed, PeSlots, FillUp, RoundRobin}
 use Rattle.ge_model_rows.specs.QuotaRows.{Rule}
 use Rattle.ge_model_value.specs.Complexes.{opening}
 use Rattle.ge_model_place.specs.Running.{run_of}
-use Rattle.ge_model_jobs.proofs.Samples.{in_queues, with_pe, task, slots_of, local, running, pe}
-use Rattle.ge_model_place.proofs.Site.{runs, lasting, job, reserving, one, start, reserve, filter_of, user_rule, rule_set}
+use Rattle.ge_model_jobs.proofs.Samples.{lasting, in_queues, with_pe, task, slots_of, one_slot, local, first_host, both_hosts, since}
+use Rattle.ge_model_jobs.proofs.Samples.{bare_hosts, queue_on, local_queue, both_queue, for_pe, all_q, pe}
+use Rattle.ge_model_place.proofs.Site.{runs, job, reserving, start, reserve, filter_of, user_rule, rule_set}
 
 -- backfill: job 1 runs up to 100 on one of two slots, job 2 asks for both and a reservation, 3 and 4 for one
 
 unfoldable backfill : ℕ → List (ℕ × Job) → Cluster
 backfill reservations more = record opening {
   next_serial = 2;
-  queues = (codes "all.q", record default_queue { hosts = codes "local" ∷ []; slots = plain_attr 2; pes = plain_attr (codes "smp" ∷ []) }) ∷ [];
+  queues = all_q (for_pe (codes "smp") (local_queue 2));
   pes = (codes "smp", pe PeSlots) ∷ [];
   sched = record default_sched { max_reservation = reservations };
-  jobs = (1, record (lasting 100 (job 1 (codes "ann"))) { running = (1, running 1 0 (local 1)) ∷ [] })
+  jobs = (1, record (lasting 100 (job 1 (codes "ann"))) { running = since 1 1 0 ∷ [] })
       ∷ (2, with_pe (codes "smp") 2 2 (reserving (lasting 100 (job 2 (codes "ann")))))
       ∷ (3, lasting 61 (job 3 (codes "ann")))
       ∷ (4, lasting 50 (job 4 (codes "ann")))
@@ -51,7 +51,7 @@ after_a_reservation = refl
 
 unfoldable five_jobs : List Rule → Cluster
 five_jobs rules = record opening {
-  queues = (codes "all.q", record default_queue { hosts = codes "local" ∷ []; slots = plain_attr 4 }) ∷ [];
+  queues = all_q (local_queue 4);
   quotas = (codes "few", rule_set rules) ∷ [];
   jobs = (1, job 1 (codes "ann")) ∷ (2, job 2 (codes "ann")) ∷ (3, job 3 (codes "ann")) ∷ (4, job 4 (codes "bob")) ∷ (5, job 5 (codes "bob")) ∷ [];
 }
@@ -82,20 +82,14 @@ first_rule_that_matches = refl
 
 unfoldable parallel : Allocation → ℕ → ℕ → Cluster
 parallel rule low high = record opening {
-  hosts = (codes "global", bare_host) ∷ (codes "h1", bare_host) ∷ (codes "h2", bare_host) ∷ [];
-  queues = (codes "p", record default_queue { hosts = codes "h1" ∷ codes "h2" ∷ []; slots = record { plain = 4; overrides = (codes "h2", 2) ∷ [] }; pes = plain_attr (codes "e" ∷ []) }) ∷ [];
+  hosts = bare_hosts (codes "h1" ∷ codes "h2" ∷ []);
+  queues = (codes "p", for_pe (codes "e") (record (both_queue 4) { slots = record { plain = 4; overrides = (codes "h2", 2) ∷ [] } })) ∷ [];
   pes = (codes "e", pe rule) ∷ [];
   jobs = (1, with_pe (codes "e") low high (job 1 (codes "ann"))) ∷ [];
 }
 
 abbrev run_of_one : Allocation → ℕ → ℕ → List Decision
 run_of_one rule low high = run_of (parallel rule low high) (task 1 1 ∷ []) 20
-
-abbrev both_hosts : ℕ → ℕ → List Grant
-both_hosts a b = slots_of (codes "p") (codes "h1") a ∷ slots_of (codes "p") (codes "h2") b ∷ []
-
-abbrev first_host : ℕ → List Grant
-first_host a = slots_of (codes "p") (codes "h1") a ∷ []
 
 in_turn_as_many_as_there_are : run_of_one RoundRobin 3 7 ≡ start 1 (task 1 1) (both_hosts 4 2) ∷ []
 unfolding parallel runs
@@ -139,8 +133,8 @@ too_many = refl
 
 unfoldable two_sets : List (ℕ × Job) → Cluster
 two_sets more = record opening {
-  hosts = (codes "global", bare_host) ∷ (codes "h1", bare_host) ∷ (codes "h2", bare_host) ∷ (codes "h3", bare_host) ∷ [];
-  queues = (codes "p", record default_queue { hosts = codes "h1" ∷ codes "h2" ∷ codes "h3" ∷ []; pes = plain_attr (codes "fu" ∷ []) }) ∷ [];
+  hosts = bare_hosts (codes "h1" ∷ codes "h2" ∷ codes "h3" ∷ []);
+  queues = (codes "p", for_pe (codes "fu") (queue_on (codes "h1" ∷ codes "h2" ∷ codes "h3" ∷ []) 1)) ∷ [];
   pes = (codes "fu", pe FillUp) ∷ [];
   quotas =
       (codes "x", rule_set (record (user_rule (filter_of false (codes "ann" ∷ []) []) (slots_to 1)) { hosts = filter_of false (codes "h1" ∷ codes "h2" ∷ []) [] } ∷ []))
@@ -153,11 +147,11 @@ abbrev on_h2_and_h3 : List Grant
 on_h2_and_h3 = slots_of (codes "p") (codes "h2") 1 ∷ slots_of (codes "p") (codes "h3") 1 ∷ []
 
 -- the first slot goes to h1, and beside it neither h2 nor h3 takes one
-first_choice_stays : run_of (two_sets []) (task 2 1 ∷ task 1 1 ∷ []) 20 ≡ Skip (task 2 1) ∷ start 1 (task 1 1) (one (codes "p") (codes "h1")) ∷ []
+first_choice_stays : run_of (two_sets []) (task 2 1 ∷ task 1 1 ∷ []) 20 ≡ Skip (task 2 1) ∷ start 1 (task 1 1) (one_slot (codes "p") (codes "h1")) ∷ []
 unfolding two_sets runs
 first_choice_stays = refl
 
 same_request_again : run_of (two_sets ((3, with_pe (codes "fu") 2 2 (job 3 (codes "ann"))) ∷ [])) (task 2 1 ∷ task 1 1 ∷ task 3 1 ∷ []) 20
-    ≡ Skip (task 2 1) ∷ start 1 (task 1 1) (one (codes "p") (codes "h1")) ∷ start 2 (task 3 1) on_h2_and_h3 ∷ []
+    ≡ Skip (task 2 1) ∷ start 1 (task 1 1) (one_slot (codes "p") (codes "h1")) ∷ start 2 (task 3 1) on_h2_and_h3 ∷ []
 unfolding two_sets runs
 same_request_again = refl

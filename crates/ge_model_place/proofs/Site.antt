@@ -1,14 +1,13 @@
 -- What the rows' clusters are made of.
-use Rattle.std.specs.Prelude.{ℕ, Bool, true, List, [], ◌∷◌, Option, Some, None, codes}
+use Rattle.std.specs.Prelude.{ℕ, Bool, true, List, [], Option, Some, None, codes}
 use Rattle.ge_model_rows.specs.ClusterRows.{opening_cluster, default_queue, default_sched}
 use Rattle.ge_model_rows.specs.DecisionRows.{Decision, Start, Reserve}
 use Rattle.ge_model_rows.specs.JobRows.{Job, Grant}
 use Rattle.ge_model_rows.specs.QuotaRows.{QuotaRow, Rule, Filter}
 use Rattle.ge_model_rows.specs.TaskRows.{TaskId}
-use Rattle.ge_model_rows.specs.ValueRows.{Amount}
 use Rattle.ge_model_place.specs.Running.{runs_in_full}
 use Rattle.ge_model_value.specs.Complexes.{opening, opening_complexes}
-use Rattle.ge_model_jobs.proofs.Samples.{some_job, asking, slots_of}
+use Rattle.ge_model_jobs.proofs.Samples.{some_job}
 
 -- a job of a user of which no task waits, without a word
 unfoldable pub job : ℕ → List ℕ → Job
@@ -16,10 +15,6 @@ job number owner = record (some_job number (codes "a") owner []) { queued = []; 
 
 abbrev pub reserving : Job → Job
 reserving j = record j { reserve = true }
-
--- one slot
-abbrev pub one : List ℕ → List ℕ → List Grant
-one queue host = slots_of queue host 1 ∷ []
 
 abbrev pub start : ℕ → TaskId → List Grant → Decision
 start serial t grants = Start (record { task = t; serial = serial; grants = grants })
@@ -41,7 +36,3 @@ rule_set rules = record { description = []; enabled = true; rules = rules }
 unfoldable pub runs : Unit {0}
 unfolding job default_queue default_sched opening opening_cluster opening_complexes runs_in_full
 runs = tt
-
--- a job that asks for so many seconds
-abbrev pub lasting : ℕ → Job → Job
-lasting seconds j = asking ((codes "h_rt", Amount seconds) ∷ []) j

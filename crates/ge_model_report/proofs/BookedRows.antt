@@ -3,9 +3,8 @@ use Rattle.std.specs.Prelude.{◌≡◌, ℕ, List, [], ◌∷◌, Some, None, c
 use Rattle.std.specs.Fmt.{digits}
 use Rattle.ge_model_rows.specs.ClusterRows.{Cluster}
 use Rattle.ge_model_rows.specs.JobRows.{Grant, Advance}
-use Rattle.ge_model_rows.specs.ValueRows.{Amount}
 use Rattle.ge_model_value.specs.Complexes.{opening}
-use Rattle.ge_model_jobs.proofs.Samples.{asking, slots_of, on_local, some_advance, with_jobs}
+use Rattle.ge_model_jobs.proofs.Samples.{lasting, slots_of, one_slot, on_local, some_advance, with_jobs}
 use Rattle.ge_model_report.specs.Booked.{booked_lines}
 use Rattle.ge_model_report.specs.Orders.{task_lines}
 use Rattle.ge_model_report.proofs.Samples.{running_job}
@@ -19,7 +18,7 @@ unfoldable two_booked : Cluster
 two_booked = record opening {
   advances =
       (2, from_100 (codes "x") (slots_of (codes "a.q") (codes "h1") 2 ∷ slots_of (codes "a.q") (codes "h2") 1 ∷ []))
-      ∷ (7, from_100 (codes "ar") (slots_of (codes "b.q") (codes "h1") 1 ∷ []))
+      ∷ (7, from_100 (codes "ar") (one_slot (codes "b.q") (codes "h1")))
       ∷ [];
 }
 
@@ -51,7 +50,7 @@ nothing_booked = refl
 unfoldable in_the_second : ℕ → Cluster
 unfolding two_booked
 in_the_second seconds = record two_booked {
-  jobs = (1, asking ((codes "h_rt", Amount seconds) ∷ []) (record (running_job (codes "one") (on_local 1 120)) { advance = 7 })) ∷ [];
+  jobs = (1, lasting seconds (record (running_job (codes "one") (on_local 1 120)) { advance = 7 })) ∷ [];
 }
 
 up_to_the_end : task_lines (in_the_second 60) 1 ≡ codes "limit 30" ∷ codes "words 1" ∷ codes "x" ∷ []

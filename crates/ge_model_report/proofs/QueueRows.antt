@@ -3,12 +3,11 @@ use Rattle.std.specs.Prelude.{◌≡◌, ℕ, List, [], ◌∷◌, codes, refl}
 use Rattle.ge_model_rows.specs.ClusterRows.{Cluster, default_queue, default_sched, bare_host}
 use Rattle.ge_model_rows.specs.ClusterRows.{plain_attr}
 use Rattle.ge_model_rows.specs.CommandRows.{Queues}
-use Rattle.ge_model_rows.specs.HostRows.{HostRow}
 use Rattle.ge_model_rows.specs.JobRows.{Job}
 use Rattle.ge_model_rows.specs.QueueRows.{QueueRow}
-use Rattle.ge_model_rows.specs.ValueRows.{Value, Amount, Word}
+use Rattle.ge_model_rows.specs.ValueRows.{Amount, Word}
 use Rattle.ge_model_value.specs.Complexes.{opening}
-use Rattle.ge_model_jobs.proofs.Samples.{slots_of, running, on_local, host, with_jobs}
+use Rattle.ge_model_jobs.proofs.Samples.{slots_of, running, on_local, host, loaded, local_queue, all_q, with_jobs}
 use Rattle.ge_model_report.specs.Listing.{listing_of, listings_in_full}
 use Rattle.ge_model_report.proofs.Samples.{running_job}
 
@@ -16,16 +15,13 @@ use Rattle.ge_model_report.proofs.Samples.{running_job}
 abbrev two_on_one_slot : Cluster
 two_on_one_slot =
     let c = with_jobs ((1, running_job (codes "a") (on_local 1 20)) ∷ (2, running_job (codes "b") (on_local 2 20)) ∷ []) in
-    record c { queues = (codes "all.q", record default_queue { hosts = codes "local" ∷ []; slots = plain_attr 1 }) ∷ [] }
+    record c { queues = all_q (local_queue 1) }
 
 more_used_than_there_are : listing_of two_on_one_slot Queues 30 [] ≡ codes "all.q@local 2/1 - -" ∷ []
 unfolding listings_in_full with_jobs opening
 more_used_than_there_are = refl
 
 -- two queues over a group of hosts: loads that reach the threshold and that don't, one that is a word, slots of one host alone
-abbrev loaded : Value → HostRow
-loaded load = host [] ((codes "np_load_avg", load) ∷ [])
-
 abbrev over_group : QueueRow
 over_group = record default_queue { hosts = codes "@all" ∷ codes "local" ∷ []; slots = record { plain = 2; overrides = (codes "h1", 4) ∷ [] } }
 
