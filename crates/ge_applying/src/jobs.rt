@@ -4,17 +4,17 @@ ghost use Rattle.ge_model_jobs.specs.Altering.{with_job, alter_job, with_altered
 ghost use Rattle.ge_model_jobs.specs.Ending.{clear_from, with_cleared};
 
 use ge_jobs::{JobTable, NamedTasks, alter, clear_named, hold, joined, release, submit};
-use ge_rows::{Cluster, Job, Patch, Pick, Table, Twin};
+use ge_rows::{Cluster, Job, Patch, Pick, Table};
 use std::alloc::{AllocError, Global};
 
 /// A job comes, and the next one has the number after it.
 #[tactic(auto, unfolding(ge_model_jobs::specs::Altering::with_job))]
-pub(crate) fn add_job(alloc: Global, c: &mut Cluster, job: &Job) -> Result<(), AllocError>
-    ensures { OnOk result (c.new ≡ with_job c.old job.now) }
+pub(crate) fn add_job(c: &mut Cluster, job: Job) -> Result<(), AllocError>
+    ensures { OnOk result (c.new ≡ with_job c.old job) }
 {
-    let copy = job.twin(alloc)?;
-    submit(&mut c.jobs, copy)?;
-    c.next_job = job.number.saturating_add(1);
+    let next = job.number.saturating_add(1);
+    submit(&mut c.jobs, job)?;
+    c.next_job = next;
     Ok(())
 }
 

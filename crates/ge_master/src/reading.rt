@@ -48,7 +48,7 @@ fn apply_next(
 {
     match take_in_format(alloc, format, bytes, at) {
         Ok((entry, end)) => {
-            apply(alloc, cluster, &entry)?;
+            apply(alloc, cluster, entry)?;
             Ok(Some(end))
         }
         Err(TakeFault::Memory) => Err(AllocError),

@@ -84,8 +84,8 @@ fn no_memory(alloc: Global) -> Result<Reply, AllocError>
     })
 }
 
-fn change(alloc: Global, cluster: &mut Cluster, entry: &Option<Entry>) -> Result<(), AllocError>
-    ensures { OnOk result (cluster.new ≡ after_entries cluster.old entry.now) }
+fn change(alloc: Global, cluster: &mut Cluster, entry: Option<Entry>) -> Result<(), AllocError>
+    ensures { OnOk result (cluster.new ≡ after_entries cluster.old entry) }
 {
     match entry {
         Some(entry) => apply(alloc, cluster, entry),
@@ -106,7 +106,7 @@ fn stage(
 {
     match prepare(alloc, cluster, event, replies, body) {
         Ok((entry, stop)) => {
-            change(alloc, cluster, &entry)?;
+            change(alloc, cluster, entry)?;
             Ok(stop)
         }
         Err(_) => {

@@ -92,15 +92,16 @@ fn answer_event(alloc: Global, cluster: &mut Cluster, event: &Event) -> Result<A
     let Ok(planned) = plan(alloc, cluster, event) else {
         return Ok(without_memory());
     };
-    let Ok(text) = render(alloc, &planned.reply) else {
+    let (entry, reply, stop) = planned.into_parts();
+    let Ok(text) = render(alloc, &reply) else {
         return Ok(without_memory());
     };
-    if let Some(entry) = &planned.entry {
+    if let Some(entry) = entry {
         apply(alloc, cluster, entry)?;
     }
     Ok(Answer {
         reply: Rendered::Planned(text),
-        stop: planned.stop,
+        stop,
     })
 }
 

@@ -36,11 +36,12 @@ fn count_event(
         tally.count(NO_MEMORY_CODE, 0);
         return Ok(false);
     };
-    tally.add(&planned.reply);
-    if let Some(entry) = &planned.entry {
+    let (entry, reply, stop) = planned.into_parts();
+    tally.add(&reply);
+    if let Some(entry) = entry {
         apply(alloc, cluster, entry)?;
     }
-    Ok(planned.stop)
+    Ok(stop)
 }
 
 // Simulates the script of a number, and counts the replies of its trace.

@@ -33,7 +33,7 @@ fn main(rt: HostRuntime) -> io::Result<()> {
     let mut rest = bytes.as_slice();
     for number in 0..ENTRIES {
         let (entry, end) = first_entry(alloc, rest)?;
-        apply(alloc, &mut cluster, &entry)?;
+        apply(alloc, &mut cluster, entry)?;
         rest = rest.get(end..).unwrap_or(&[]);
         let line = telling::line(alloc, &cluster, number)?;
         output.write_all(line.as_bytes())?;

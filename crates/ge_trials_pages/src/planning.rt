@@ -74,13 +74,13 @@ pub(crate) fn requests_page(alloc: Global, body: &[u8]) -> io::Result<Vec<u8>> {
 pub(crate) fn plan_page(alloc: Global, script: &[u8]) -> io::Result<Vec<u8>> {
     let event = first_event(alloc, script)?;
     let mut cluster = opening(alloc)?;
-    let planned = plan(alloc, &cluster, &event)?;
-    if let Some(entry) = &planned.entry {
+    let (entry, reply, stop) = plan(alloc, &cluster, &event)?.into_parts();
+    if let Some(entry) = entry {
         apply(alloc, &mut cluster, entry)?;
     }
-    let stop = if planned.stop { "stop" } else { "go on" };
+    let stop = if stop { "stop" } else { "go on" };
     let (last, next, jobs) = (cluster.last, cluster.next_job, cluster.jobs.len());
-    let mut text = Vec::from_slice(alloc, render(alloc, &planned.reply)?.bytes())?;
+    let mut text = Vec::from_slice(alloc, render(alloc, &reply)?.bytes())?;
     let line = format!(in alloc; "{stop}, last {last}, next job {next}, jobs {jobs}\n")?;
     text.extend_from_slice(line.as_bytes())?;
     Ok(text)
