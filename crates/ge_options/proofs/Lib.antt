@@ -1,4 +1,5 @@
 pub mod Known
 pub mod Lacking
+pub mod OneText
 pub mod Passed
 pub mod Steps
