@@ -1,5 +1,8 @@
 // The tasks of a job that targets name, in place of all tasks that they name.
 ghost use Rattle.std.specs.Prelude.{◌≡◌, Bool, IfOk, filter, Some};
+ghost use Rattle.std.specs.Option.{option_map};
+ghost use Rattle.ge_model_tasks.specs.Sets.{meet as meet_of};
+ghost use Rattle.ge_model_jobs.specs.Holds.{holding_tasks as holding_of};
 ghost use Rattle.ge_model_jobs.specs.Ending.{without_picked, is_named, cleared as cleared_of};
 
 use crate::gathered::{Gathered, part_of};
@@ -11,6 +14,7 @@ use std::alloc::{AllocError, Global};
 // Those of a job that sets have.
 #[tactic(auto, using(crate::proofs::NarrowedJobs::narrowed_deleted, crate::proofs::NarrowedJobs::narrowed_named, crate::proofs::NarrowedJobs::narrowed_cleared))]
 fn part_in(alloc: Global, all: &Gathered, job: &Job) -> Result<TaskSet, AllocError>
+    ensures part { IfOk result (λ part. part ≡ meet_of (holding_of job.now) all.now) }
     ensures deleted { IfOk result (λ part. (force : Bool)
         → without_picked force (Some part) job.now ≡ without_picked force (Some all.now) job.now) }
     ensures named { IfOk result (λ part.
@@ -27,9 +31,10 @@ fn part_in(alloc: Global, all: &Gathered, job: &Job) -> Result<TaskSet, AllocErr
     Ok(part)
 }
 
-/// The tasks of a job that targets name, none where they name all: with these a deletion and a clearing do to it what they do
-/// with all tasks that the targets name. A set of them has no task beyond the job's own.
+/// The tasks of a job that targets name, none where they name all: those of its live tasks that they have, and no others. With
+/// these a deletion and a clearing do to it what they do with all tasks that the targets name.
 pub fn narrowed(alloc: Global, named: &NamedTasks, job: &Job) -> Result<Option<TaskSet>, AllocError>
+    ensures part { IfOk result (λ part. part ≡ option_map (meet_of (holding_of job.now)) named.now) }
     ensures deleted { IfOk result (λ part. (force : Bool)
         → without_picked force part job.now ≡ without_picked force named.now job.now) }
     ensures named { IfOk result (λ part.
