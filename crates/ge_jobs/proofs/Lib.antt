@@ -8,3 +8,4 @@ pub mod GatheredSets
 pub mod PutAgain
 pub mod NarrowedJobs
 pub mod NarrowedRows
+pub mod SameLabels

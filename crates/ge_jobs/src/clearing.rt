@@ -26,6 +26,10 @@ impl TryEdit<Job> for Cleared<'_> {
         Ok(Vec::new(alloc))
     }
 
+    fn relabels(&self, _job: &Job) -> bool {
+        false
+    }
+
     fn try_edit(&self, alloc: Global, job: &mut Job) -> Result<(), AllocError> {
         let named = named_in(alloc, self.tasks, &job.broken)?;
         let queued = union(alloc, &job.queued, &named)?;

@@ -190,6 +190,10 @@ impl TryEdit<Job> for Deleted<'_> {
         Ok(Vec::new(alloc))
     }
 
+    fn relabels(&self, _job: &Job) -> bool {
+        false
+    }
+
     fn try_edit(&self, alloc: Global, job: &mut Job) -> Result<(), AllocError> {
         delete_in(alloc, self.force, self.tasks, job)?;
         Ok(())

@@ -58,6 +58,11 @@ impl TryEdit<Job> for Ended {
         Ok(Vec::new(alloc))
     }
 
+    #[tactic(auto, using(crate::proofs::SameLabels::end_keeps))]
+    fn relabels(&self, _job: &Job) -> bool {
+        false
+    }
+
     fn try_edit(&self, alloc: Global, job: &mut Job) -> Result<(), AllocError> {
         end_in(alloc, job, self.task, self.after)?;
         Ok(())

@@ -23,6 +23,10 @@ impl Edit<Job> for Holding {
         Ok(Vec::new(alloc))
     }
 
+    fn relabels(&self, _job: &Job) -> bool {
+        false
+    }
+
     fn edit(&self, job: &mut Job) {
         job.hold = self.bits;
     }
@@ -45,6 +49,10 @@ impl Edit<Job> for Held {
         Ok(Vec::new(alloc))
     }
 
+    fn relabels(&self, _job: &Job) -> bool {
+        false
+    }
+
     fn edit(&self, job: &mut Job) {
         job.hold |= self.bits;
     }
@@ -65,6 +73,10 @@ impl Edit<Job> for Freed {
 
     fn gained(&self, alloc: Global, _job: &Job) -> Result<Vec<JobMark>, AllocError> {
         Ok(Vec::new(alloc))
+    }
+
+    fn relabels(&self, _job: &Job) -> bool {
+        false
     }
 
     fn edit(&self, job: &mut Job) {

@@ -51,6 +51,11 @@ impl TryEdit<Job> for Started<'_> {
         task_marks(alloc, &new_running(alloc, self.moment, self.start)?)
     }
 
+    #[tactic(auto, using(crate::proofs::SameLabels::start_keeps))]
+    fn relabels(&self, _job: &Job) -> bool {
+        false
+    }
+
     fn try_edit(&self, alloc: Global, job: &mut Job) -> Result<(), AllocError> {
         if contains(&job.queued, self.start.task.task) {
             let running = new_running(alloc, self.moment, self.start)?;
