@@ -13,7 +13,7 @@ use ge_rows::{
 };
 use std::alloc::{AllocError, Global};
 
-/// A job comes under its number (qsub). After want of memory the table is given up.
+/// A job comes under its number (qsub). After want of memory the table is as it was.
 pub fn submit(jobs: &mut JobTable, job: Job) -> Result<(), AllocError>
     ensures ok { OnOk result (jobs.new ≡ submitted jobs.old job) }
     ensures err { OnErr result (jobs.new ≡ jobs.old) }
@@ -186,7 +186,7 @@ impl TryEdit<Job> for Patched<'_> {
     }
 }
 
-/// A job gets what a patch gives (qalter); the rest stays. After want of memory the table is given up.
+/// A job gets what a patch gives (qalter); the rest stays. After want of memory the table is as it was.
 pub fn alter(
     alloc: Global,
     jobs: &mut JobTable,

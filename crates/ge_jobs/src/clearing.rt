@@ -40,7 +40,7 @@ impl TryEdit<Job> for Cleared<'_> {
     }
 }
 
-/// The tasks in error of a job that a target names wait again (qmod -cj). After want of memory the table is given up.
+/// The tasks in error of a job that a target names wait again (qmod -cj). After want of memory the table is as it was.
 pub fn clear(
     alloc: Global,
     jobs: &mut JobTable,
@@ -55,7 +55,7 @@ pub fn clear(
 }
 
 /// The tasks in error of a job that targets name together wait again. A job that isn't there stays so. After want of memory the
-/// table is given up.
+/// table is as it was.
 #[tactic(auto, using(crate::proofs::NarrowedRows::none_cleared))]
 pub fn clear_named(
     alloc: Global,

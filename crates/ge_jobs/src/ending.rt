@@ -114,7 +114,7 @@ fn is_spent(job: &Job, task: u32, after: After) -> bool
 }
 
 /// A running task of a job ends: it is gone, waits again (exit status 99) or is in error (100). A job without a task left
-/// goes. Where no such task runs, nothing changes. After want of memory the table is given up.
+/// goes. Where no such task runs, nothing changes. After want of memory the table is as it was.
 pub fn end(alloc: Global, jobs: &mut JobTable, id: TaskId, after: After) -> Result<(), AllocError>
     ensures ok { OnOk result (jobs.new ≡ ended jobs.old id after) }
     ensures err { OnErr result (jobs.new ≡ jobs.old) }

@@ -69,7 +69,7 @@ impl TryEdit<Job> for Started<'_> {
 }
 
 /// A waiting task of a job starts at a moment: it runs, and waits no more. Where no such task waits, nothing changes. After want
-/// of memory the table is given up.
+/// of memory the table is as it was.
 pub fn start(
     alloc: Global,
     jobs: &mut JobTable,
