@@ -1,11 +1,10 @@
 // Array predecessors, step by step.
-use crate::given::{one_slot, two_arrays};
+use crate::given::{begin, finish, two_arrays};
 use ge_jobs::{
-    After, JobTable, clear, delete, eligible, end, free_tasks, get, held_tasks, hold, release,
-    start,
+    After, JobTable, clear, delete, eligible, free_tasks, get, held_tasks, hold, release,
 };
 use ge_ranges::{set_of, text};
-use ge_rows::{Start, TaskId, TaskSet};
+use ge_rows::TaskSet;
 use std::alloc::{AllocError, Global};
 use std::test::Fail;
 
@@ -52,22 +51,6 @@ fn second_has(
         }
         None => Ok(false),
     }
-}
-
-// A task of job 1 starts at 0 under a serial.
-fn begin(alloc: Global, jobs: &mut JobTable, task: u32, serial: u64) -> Result<(), AllocError> {
-    let grants = one_slot(alloc)?;
-    let begun = Start {
-        task: TaskId { job: 1, task },
-        serial,
-        grants,
-    };
-    start(alloc, jobs, &begun, 0)
-}
-
-// A task of job 1 ends.
-fn finish(alloc: Global, jobs: &mut JobTable, task: u32, after: After) -> Result<(), AllocError> {
-    end(alloc, jobs, TaskId { job: 1, task }, after)
 }
 
 // Task 4 is deleted, and so task 4 of job 2 is free; then 1 and 7 start.

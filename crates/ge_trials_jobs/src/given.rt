@@ -1,11 +1,13 @@
-// What the trials begin with: two array jobs.
-use ge_jobs::{JobTable, submit};
+// What the trials begin with: two array jobs. Tasks of the first that start and end, and targets that name some.
+use ge_jobs::{After, JobTable, NamedTasks, end, joined, start, submit};
 use ge_ranges::set_of;
-use ge_rows::{Grant, InstanceId, Job, List, Request, Table, TaskSet, TaskSpan, Text};
+use ge_rows::{
+    Grant, InstanceId, Job, List, Pick, Request, Start, Table, TaskId, TaskSet, TaskSpan, Text,
+};
 use std::alloc::{AllocError, Global};
 
 // One slot of all.q at local.
-pub fn one_slot(alloc: Global) -> Result<List<Grant>, AllocError> {
+fn one_slot(alloc: Global) -> Result<List<Grant>, AllocError> {
     let queue = Text::from_bytes(alloc, b"all.q")?;
     let host = Text::from_bytes(alloc, b"local")?;
     let mut grants = List::new(alloc);
@@ -65,4 +67,51 @@ pub fn two_arrays(alloc: Global) -> Result<JobTable, AllocError> {
     before.push(1)?;
     submit(&mut jobs, array_job(alloc, 2, second, before))?;
     Ok(jobs)
+}
+
+// A task of job 1 starts at 0 under a serial.
+pub fn begin(alloc: Global, jobs: &mut JobTable, task: u32, serial: u64) -> Result<(), AllocError> {
+    let grants = one_slot(alloc)?;
+    let begun = Start {
+        task: TaskId { job: 1, task },
+        serial,
+        grants,
+    };
+    start(alloc, jobs, &begun, 0)
+}
+
+// A task of job 1 ends.
+pub fn finish(
+    alloc: Global,
+    jobs: &mut JobTable,
+    task: u32,
+    after: After,
+) -> Result<(), AllocError> {
+    end(alloc, jobs, TaskId { job: 1, task }, after)
+}
+
+// What two targets of job 1 name: 2, 4 and 5 the one, 7 and 12 the other.
+pub fn two_targets(alloc: Global) -> Result<Table<u32, NamedTasks>, AllocError> {
+    let first = set_of(alloc, &[2, 4, 5])?;
+    let second = set_of(alloc, &[7, 12])?;
+    let mut picks = List::new(alloc);
+    picks.push(Pick {
+        job: 1,
+        tasks: Some(first),
+    })?;
+    picks.push(Pick {
+        job: 1,
+        tasks: Some(second),
+    })?;
+    joined(alloc, picks.items())
+}
+
+// What a target of job 1 names that is the whole job.
+pub fn whole_job(alloc: Global) -> Result<Table<u32, NamedTasks>, AllocError> {
+    let mut picks = List::new(alloc);
+    picks.push(Pick {
+        job: 1,
+        tasks: None,
+    })?;
+    joined(alloc, picks.items())
 }
