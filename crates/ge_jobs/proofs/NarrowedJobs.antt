@@ -166,6 +166,10 @@ module _ (job : Job) (all : List TaskSpan) (waiting : is_form job.queued ≡ tru
       let broken_same = left_same job.broken broken broken_inside in
       λ i. record job { queued = union job.queued (named_same i); broken = broken_same i }
 
+pub narrowed_part : (job : Job) (all own_tasks part_tasks : List TaskSpan) → own_tasks ≡ holding_tasks job → part_tasks ≡ meet own_tasks all
+    → part_tasks ≡ meet (holding_tasks job) all
+narrowed_part job all own_tasks part_tasks is met = met ∙ ap (λ (tasks : List TaskSpan). meet tasks all) is
+
 pub narrowed_deleted : (job : Job) (all own_tasks part_tasks : List TaskSpan) → is_form job.queued ≡ true → is_form job.broken ≡ true
     → IsStrictlySortedBy nat_cmp (keys_of job.running) → is_form all ≡ true → own_tasks ≡ holding_tasks job → part_tasks ≡ meet own_tasks all
     → (force : Bool) → without_picked force (Some part_tasks) job ≡ without_picked force (Some all) job

@@ -12,7 +12,7 @@ use ge_rows::{Job, TaskSet};
 use std::alloc::{AllocError, Global};
 
 // Those of a job that sets have.
-#[tactic(auto, using(crate::proofs::NarrowedJobs::narrowed_deleted, crate::proofs::NarrowedJobs::narrowed_named, crate::proofs::NarrowedJobs::narrowed_cleared))]
+#[tactic(auto, using(crate::proofs::NarrowedJobs::narrowed_part, crate::proofs::NarrowedJobs::narrowed_deleted, crate::proofs::NarrowedJobs::narrowed_named, crate::proofs::NarrowedJobs::narrowed_cleared))]
 fn part_in(alloc: Global, all: &Gathered, job: &Job) -> Result<TaskSet, AllocError>
     ensures part { IfOk result (λ part. part ≡ meet_of (holding_of job.now) all.now) }
     ensures deleted { IfOk result (λ part. (force : Bool)
