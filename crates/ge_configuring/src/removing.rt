@@ -1,5 +1,5 @@
 // Objects deleted.
-ghost use Rattle.std.specs.Prelude.{◌≡◌, ◌++◌, IfOk};
+ghost use Rattle.std.specs.Prelude.{◌≡◌, ◌++◌, IfOk, OnOk};
 ghost use Rattle.std.specs.List.{list_all};
 ghost use Rattle.ge_collections.specs.Keyed.{text_eq};
 ghost use Rattle.ge_model_core.specs.Configuring.{delist_faults, object_faults, remove_faults, manager_faults, remove_plan};
@@ -30,18 +30,31 @@ fn note_leaving(needed: bool, names: &[Text], name: &Text, faults: &mut Option<R
     }
 }
 
-fn note_object(c: &Cluster, kind: ObjectKind, name: &Text, faults: &mut Option<Refusal>)
-    ensures { faults.new ≡ after_faults faults.old (object_faults c.now kind name.now) }
+fn note_object(
+    alloc: Global,
+    c: &Cluster,
+    kind: ObjectKind,
+    name: &Text,
+    faults: &mut Option<Refusal>,
+) -> Result<(), AllocError>
+    ensures { OnOk result (faults.new ≡ after_faults faults.old (object_faults c.now kind name.now)) }
 {
     if is_there(c, kind, name) {
-        note(faults, is_used(c, kind, name), Refusal::InUse);
+        note(faults, is_used(alloc, c, kind, name)?, Refusal::InUse);
     } else {
         note(faults, true, Refusal::NoSuchObject);
     }
+    Ok(())
 }
 
-fn note_removal(c: &Cluster, kind: ObjectKind, name: &Text, faults: &mut Option<Refusal>)
-    ensures { faults.new ≡ after_faults faults.old (remove_faults c.now kind name.now) }
+fn note_removal(
+    alloc: Global,
+    c: &Cluster,
+    kind: ObjectKind,
+    name: &Text,
+    faults: &mut Option<Refusal>,
+) -> Result<(), AllocError>
+    ensures { OnOk result (faults.new ≡ after_faults faults.old (remove_faults c.now kind name.now)) }
 {
     match kind {
         ObjectKind::Managers => note_leaving(true, c.managers.items(), name, faults),
@@ -56,17 +69,23 @@ fn note_removal(c: &Cluster, kind: ObjectKind, name: &Text, faults: &mut Option<
         | ObjectKind::Set
         | ObjectKind::User
         | ObjectKind::Project
-        | ObjectKind::Sched => note_object(c, kind, name, faults),
+        | ObjectKind::Sched => note_object(alloc, c, kind, name, faults)?,
     }
+    Ok(())
 }
 
-fn removal_fault(c: &Cluster, e: &Event, key: &Key) -> Option<Refusal>
-    ensures { result ≡ first_fault
-        (manager_faults c.now e.now ++ remove_faults c.now key.now.kind key.now.name) }
+fn removal_fault(
+    alloc: Global,
+    c: &Cluster,
+    e: &Event,
+    key: &Key,
+) -> Result<Option<Refusal>, AllocError>
+    ensures { IfOk result (λ fault. fault ≡ first_fault
+        (manager_faults c.now e.now ++ remove_faults c.now key.now.kind key.now.name)) }
 {
     let mut faults = role_fault(c, e);
-    note_removal(c, key.kind, &key.name, &mut faults);
-    faults
+    note_removal(alloc, c, key.kind, &key.name, &mut faults)?;
+    Ok(faults)
 }
 
 /// The plan of `qconf -d` and its kin: an object is deleted, or a name leaves the managers (`-dm`) or the operators (`-do`). The
@@ -78,7 +97,7 @@ fn removal_fault(c: &Cluster, e: &Event, key: &Key) -> Option<Refusal>
 pub fn plan_removal(alloc: Global, c: &Cluster, e: &Event, key: &Key) -> Result<Planned, AllocError>
     ensures { IfOk result (λ planned. planned ≡ remove_plan c.now e.now key.now) }
 {
-    if let Some(refusal) = removal_fault(c, e, key) {
+    if let Some(refusal) = removal_fault(alloc, c, e, key)? {
         return refuse(alloc, refusal);
     }
     let key = key.twin(alloc)?;

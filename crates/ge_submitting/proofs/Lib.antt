@@ -4,6 +4,7 @@ pub mod Held
 pub mod Named
 pub mod Noted
 pub mod Once
+pub mod Owned
 pub mod Patched
 pub mod Sizes
 pub mod Walked

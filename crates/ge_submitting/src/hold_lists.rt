@@ -14,22 +14,22 @@ ghost use Rattle.ge_submitting.specs.Holding as holding;
 
 use crate::numbers::{Listed, list_once, none_listed, numbers_of};
 use crate::option_values::{option_word, wide_worth};
+use crate::owners::{Names, own_jobs};
 use ge_base::Refusal;
 use ge_options::WideRange;
-use ge_pieces::{has_digits, is_same, note, slices_at};
-use ge_rows::{Cluster, Job, List, Options, Table, Text};
+use ge_pieces::{has_digits, note, slices_at};
+use ge_rows::{Cluster, Job, List, Options, Text};
 use ge_text::matches;
 use std::alloc::{AllocError, Global};
 use std::marker::Model;
 
-/// The jobs of an owner, found where the first pattern comes. Contracts see the cluster and the owner.
-///
-/// All jobs are gone through once for this, and then each pattern goes through the owner's alone.
+/// The jobs of an owner, found by their marks where the first pattern comes: each pattern goes through these alone. Contracts
+/// see the cluster and the owner.
 #[derive(Drop)]
 struct OwnJobs<'a> {
     cluster: &'a Cluster,
     owner: &'a Text,
-    named: Option<Vec<(u32, &'a Text)>>,
+    named: Option<Names<'a>>,
 }
 
 impl<'a> Model for OwnJobs<'a> {
@@ -42,38 +42,18 @@ impl<'a> Model for OwnJobs<'a> {
 
     ghost view = { λ o. (o.cluster.now, o.owner.now) };
 
-    ghost invariant = { λ o. ForSome o.named (λ named. named_shown named.items ≡ jobs_of_owner o.cluster.now.jobs o.owner.now) };
-}
-
-// The jobs of an owner by number, each with its name.
-fn own_jobs<'a>(
-    alloc: Global,
-    jobs: &'a Table<u32, Job>,
-    owner: &Text,
-) -> Result<Vec<(u32, &'a Text)>, AllocError>
-    ensures { IfOk result (λ named. named_shown named.items ≡ jobs_of_owner jobs.now owner.now) }
-{
-    let mut named = Vec::new(alloc);
-    for (number, job) in jobs.iter() {
-        if is_same(owner, &job.owner) {
-            named.push((*number, &job.name))?;
-        }
-    }
-    Ok(named)
+    ghost invariant = { λ o. ForSome o.named (λ named. named_shown named.entries ≡ jobs_of_owner o.cluster.now.jobs o.owner.now) };
 }
 
 // Lists those of some jobs whose names a pattern stands for.
-fn list_matching(
-    listed: &mut Listed,
-    named: &[(u32, &Text)],
-    pattern: &[u8],
-) -> Result<(), AllocError>
+fn list_matching(listed: &mut Listed, named: &Names<'_>, pattern: &[u8]) -> Result<(), AllocError>
     requires { Knows listed.old }
     ensures numbers { OnOk result (listed.new.numbers
-        ≡ fold with_one_number listed.old.numbers (numbers_matching pattern.now (named_shown named.now))) }
+        ≡ fold with_one_number listed.old.numbers
+        (numbers_matching pattern.now (named_shown named.now.entries))) }
     ensures knows { OnOk result (Knows listed.new) }
 {
-    for (number, name) in named {
+    for (number, name) in named.iter() {
         if matches(pattern, name.bytes()) {
             list_once(listed, *number)?;
         }
@@ -110,7 +90,7 @@ impl<'a> OwnJobs<'a> {
             self.named = Some(own_jobs(alloc, &self.cluster.jobs, self.owner)?);
         }
         match &self.named {
-            Some(named) => list_matching(listed, named.as_slice(), pattern),
+            Some(named) => list_matching(listed, named, pattern),
             None => Err(AllocError),
         }
     }

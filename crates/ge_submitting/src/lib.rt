@@ -20,6 +20,7 @@ mod jobs;
 mod limits;
 mod numbers;
 mod option_values;
+mod owners;
 mod reaching;
 mod submitted_tasks;
 mod submitting;

@@ -9,7 +9,7 @@ use Rattle.ge_collections.specs.Keyed.{text_cmp, text_eq}
 use Rattle.ge_model_config.specs.Cited.{has_name}
 
 -- the order of texts meets where texts are equal
-at_same : (a b : List ℕ) → is_at (text_cmp a) b ≡ text_eq a b
+pub at_same : (a b : List ℕ) → is_at (text_cmp a) b ≡ text_eq a b
 at_same a b = sym (texts_ties a b)
 
 pub has_key : {X : Type 0} (rows : List (List ℕ × X)) (name : List ℕ) → has_name rows name ≡ list_any (text_eq name) (keys_of rows)

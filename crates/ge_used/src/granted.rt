@@ -1,11 +1,13 @@
 // Slots that running tasks and advance reservations have.
-ghost use Rattle.std.specs.Prelude.{◌≡◌};
+ghost use Rattle.std.specs.Prelude.{◌≡◌, IfOk};
 ghost use Rattle.std.specs.List.{list_any};
 ghost use Rattle.ge_collections.specs.Keyed.{text_eq};
 ghost use Rattle.ge_model_config.specs.Used as used;
 
+use crate::marked::is_marked;
 use ge_pieces::is_same;
-use ge_rows::{Advance, Cluster, Grant, Job, Running, Table, Text};
+use ge_rows::{Advance, Cluster, Grant, Job, MarkSort, Table, Text};
+use std::alloc::{AllocError, Global};
 
 fn is_on_queue(name: &Text, grant: &Grant) -> bool
     ensures { result ≡ text_eq name.now grant.now.at.queue }
@@ -31,48 +33,20 @@ fn has_host(name: &Text, grants: &[Grant]) -> bool
     grants.iter().any(|grant| is_on_host(name, grant))
 }
 
-fn task_on_queue(name: &Text, running: &Table<u32, Running>) -> bool
-    ensures { result ≡ list_any (λ task. list_any (λ grant. text_eq name.now grant.at.queue) task.1.grants) running.now }
+#[tactic(auto, using(crate::proofs::Borne::on_queue))]
+fn job_on_queue(alloc: Global, name: &Text, jobs: &Table<u32, Job>) -> Result<bool, AllocError>
+    ensures { IfOk result (λ runs. runs ≡ list_any (λ job. list_any (λ task. list_any (λ grant. text_eq name.now grant.at.queue) task.1.grants) job.1.running) jobs.now) }
 {
-    for (_, task) in running.iter() {
-        if has_queue(name, task.grants.items()) {
-            return true;
-        }
-    }
-    false
+    let runs = is_marked(alloc, jobs, MarkSort::Queue, name)?;
+    Ok(runs)
 }
 
-fn task_on_host(name: &Text, running: &Table<u32, Running>) -> bool
-    ensures { result ≡ list_any (λ task. list_any (λ grant. text_eq name.now grant.at.host) task.1.grants) running.now }
+#[tactic(auto, using(crate::proofs::Borne::on_host))]
+fn job_on_host(alloc: Global, name: &Text, jobs: &Table<u32, Job>) -> Result<bool, AllocError>
+    ensures { IfOk result (λ runs. runs ≡ list_any (λ job. list_any (λ task. list_any (λ grant. text_eq name.now grant.at.host) task.1.grants) job.1.running) jobs.now) }
 {
-    for (_, task) in running.iter() {
-        if has_host(name, task.grants.items()) {
-            return true;
-        }
-    }
-    false
-}
-
-fn job_on_queue(name: &Text, jobs: &Table<u32, Job>) -> bool
-    ensures { result ≡ list_any (λ job. list_any (λ task. list_any (λ grant. text_eq name.now grant.at.queue) task.1.grants) job.1.running) jobs.now }
-{
-    for (_, job) in jobs.iter() {
-        if task_on_queue(name, &job.running) {
-            return true;
-        }
-    }
-    false
-}
-
-fn job_on_host(name: &Text, jobs: &Table<u32, Job>) -> bool
-    ensures { result ≡ list_any (λ job. list_any (λ task. list_any (λ grant. text_eq name.now grant.at.host) task.1.grants) job.1.running) jobs.now }
-{
-    for (_, job) in jobs.iter() {
-        if task_on_host(name, &job.running) {
-            return true;
-        }
-    }
-    false
+    let runs = is_marked(alloc, jobs, MarkSort::Host, name)?;
+    Ok(runs)
 }
 
 fn advance_on_queue(name: &Text, advances: &Table<u32, Advance>) -> bool
@@ -98,15 +72,18 @@ fn advance_on_host(name: &Text, advances: &Table<u32, Advance>) -> bool
 }
 
 /// Whether a running task or an advance reservation has slots of a queue.
-pub(crate) fn queue_is_granted(name: &Text, c: &Cluster) -> bool
-    ensures { result ≡ used.is_queue_used c.now name.now }
+pub(crate) fn queue_is_granted(alloc: Global, name: &Text, c: &Cluster) -> Result<bool, AllocError>
+    ensures { IfOk result (λ granted. granted ≡ used.is_queue_used c.now name.now) }
 {
-    job_on_queue(name, &c.jobs) || advance_on_queue(name, &c.advances)
+    let runs = job_on_queue(alloc, name, &c.jobs)?;
+    Ok(runs || advance_on_queue(name, &c.advances))
 }
 
 /// Whether one has slots on a host.
-pub(crate) fn host_is_granted(name: &Text, c: &Cluster) -> bool
-    ensures { result ≡ used.granted_where c.now (λ grant. text_eq name.now grant.at.host) }
+pub(crate) fn host_is_granted(alloc: Global, name: &Text, c: &Cluster) -> Result<bool, AllocError>
+    ensures { IfOk result (λ granted. granted
+        ≡ used.granted_where c.now (λ grant. text_eq name.now grant.at.host)) }
 {
-    job_on_host(name, &c.jobs) || advance_on_host(name, &c.advances)
+    let runs = job_on_host(alloc, name, &c.jobs)?;
+    Ok(runs || advance_on_host(name, &c.advances))
 }

@@ -1,4 +1,4 @@
-use Rattle.std.proofs.Common.{◌≡◌, drop}
+use Rattle.std.proofs.Common.{◌≡◌}
 use Rattle.std.specs.Prelude.{fold}
 use Rattle.ge_model_value.specs.Pieces.{with_one_number}
 use Rattle.ge_submitting.specs.Listing.{Knows}
@@ -8,6 +8,6 @@ use Rattle.ge_submitting.proofs.hold_lists.list_matching.Given as goal
 abbrev pub invariant-loop-number : goal.invariant-loop-number
 invariant-loop-number l = record {
   knows : Knows l.listed;
-  listed : fold with_one_number l.listed.numbers (numbers_matching l.pattern (named_shown (drop l.number-index l.named)))
-      ≡ fold with_one_number l.fn.listed.numbers (numbers_matching l.pattern (named_shown l.named));
+  listed : fold with_one_number l.listed.numbers (numbers_matching l.pattern (named_shown l.number-iterator))
+      ≡ fold with_one_number l.fn.listed.numbers (numbers_matching l.pattern (named_shown l.named.entries));
 }
