@@ -4,8 +4,47 @@ ghost use Rattle.ge_model_jobs.specs.Altering.{with_job, alter_job, with_altered
 ghost use Rattle.ge_model_jobs.specs.Ending.{clear_from, with_cleared};
 
 use ge_jobs::{JobTable, NamedTasks, alter, clear_named, hold, joined, release, submit};
-use ge_rows::{Cluster, Job, Patch, Pick, Table};
+use ge_rows::{Cluster, Job, List, Patch, Pick, Request, Table, TaskSet, TaskSpan, Text};
 use std::alloc::{AllocError, Global};
+
+/// A job of nobody, which takes no memory: what an entry is left with whose job was moved into the cluster.
+pub(crate) fn no_job(alloc: Global) -> Job {
+    Job {
+        number: 0,
+        name: Text::new(alloc),
+        owner: Text::new(alloc),
+        group: Text::new(alloc),
+        account: Text::new(alloc),
+        submitted: 0,
+        priority: 0,
+        share: 0,
+        project: Text::new(alloc),
+        reserve: false,
+        not_before: 0,
+        deadline: 0,
+        request: Request {
+            asked: Table::new(alloc),
+            queues: List::new(alloc),
+            pe: None,
+        },
+        array: false,
+        span: TaskSpan {
+            first: 1,
+            last: 1,
+            step: 1,
+        },
+        queued: TaskSet::new(alloc),
+        broken: TaskSet::new(alloc),
+        running: Table::new(alloc),
+        hold: 0,
+        after: List::new(alloc),
+        after_each: List::new(alloc),
+        oticket: 0,
+        words: List::new(alloc),
+        script: Text::new(alloc),
+        advance: 0,
+    }
+}
 
 /// A job comes, and the next one has the number after it.
 #[tactic(auto, unfolding(ge_model_jobs::specs::Altering::with_job))]
