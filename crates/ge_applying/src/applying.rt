@@ -16,12 +16,7 @@ use std::mem;
 
 // Makes a change at a moment. A submitted job is moved out of it.
 #[tactic(auto, unfolding(ge_model_jobs::specs::Applying::after_change, ge_model_jobs::specs::Ending::with_end))]
-fn make(
-    alloc: Global,
-    c: &mut Cluster,
-    moment: u64,
-    change: &mut Change,
-) -> Result<(), AllocError>
+fn make(alloc: Global, c: &mut Cluster, moment: u64, change: &mut Change) -> Result<(), AllocError>
     ensures { OnOk result (c.new ≡ after_change moment c.old change.old) }
 {
     match change {
