@@ -11,7 +11,8 @@ ghost use Rattle.ge_rows.specs.declared.cluster.Cluster.{Cluster};
 ghost use Rattle.ge_rows.specs.declared.events.Event.{Event};
 ghost use Rattle.ge_top.specs.Answering.{bytes_of, IsAnswer};
 
-use ge_core::{apply, plan, render};
+use crate::changing::follow;
+use ge_core::{plan, render};
 use ge_outside::{Failed, Sink, Source, write_all};
 use ge_rows::{Cluster, Event, Text, opening};
 use ge_script::{Script, ScriptFault};
@@ -92,13 +93,11 @@ fn answer_event(alloc: Global, cluster: &mut Cluster, event: &Event) -> Result<A
     let Ok(planned) = plan(alloc, cluster, event) else {
         return Ok(without_memory());
     };
-    let (entry, reply, stop) = planned.into_parts();
-    let Ok(text) = render(alloc, &reply) else {
+    let Ok(text) = render(alloc, &planned.reply) else {
         return Ok(without_memory());
     };
-    if let Some(entry) = entry {
-        apply(alloc, cluster, entry)?;
-    }
+    let stop = planned.stop;
+    follow(alloc, cluster, planned)?;
     Ok(Answer {
         reply: Rendered::Planned(text),
         stop,

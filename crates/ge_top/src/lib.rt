@@ -12,6 +12,7 @@
 
 mod answering;
 mod batches;
+mod changing;
 mod generating;
 mod opening;
 mod replaying;

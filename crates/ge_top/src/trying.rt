@@ -7,10 +7,11 @@ ghost use Rattle.ge_rows.specs.declared.events.Event.{Event};
 ghost use Rattle.ge_model_top.specs.Trials.{HasMarks, trial_of, Tries};
 ghost use Rattle.ge_top.specs.Tallies.{HasRoom, IsCounted, IsTallied};
 
+use crate::changing::follow;
 use crate::statuses::{DONE, NO_MEMORY, WRITE_FAULT};
 use crate::tallying::Tally;
 use crate::writing::WriteFault;
-use ge_core::{apply, plan};
+use ge_core::plan;
 use ge_generator::Generator;
 use ge_outside::{Sink, write_all};
 use ge_rows::{Cluster, Event, opening};
@@ -36,11 +37,9 @@ fn count_event(
         tally.count(NO_MEMORY_CODE, 0);
         return Ok(false);
     };
-    let (entry, reply, stop) = planned.into_parts();
-    tally.add(&reply);
-    if let Some(entry) = entry {
-        apply(alloc, cluster, entry)?;
-    }
+    tally.add(&planned.reply);
+    let stop = planned.stop;
+    follow(alloc, cluster, planned)?;
     Ok(stop)
 }
 
