@@ -92,11 +92,11 @@ impl<A: Twin + Drop, B: Twin + Drop, C: Twin> Twin for (A, B, C) {
 
 impl<T: Twin + Drop> Twin for List<T> {
     fn twin(&self, alloc: Global) -> Result<List<T>, AllocError> {
-        let mut copy = List::new(alloc);
+        let mut copy = Vec::with_capacity(alloc, self.len())?;
         for item in self.items() {
             copy.push(item.twin(alloc)?)?;
         }
-        Ok(copy)
+        Ok(List::from_vec(copy))
     }
 }
 
