@@ -1,3 +1,2 @@
 pub mod LeftRows
-pub mod JoinedMarks
 pub mod Folded

@@ -2,6 +2,7 @@ pub mod Samples
 mod Rows
 mod UsageRows
 pub mod Keys
+pub mod BorneMarks
 pub mod Places
 pub mod Orderly
 pub mod HeldTasks

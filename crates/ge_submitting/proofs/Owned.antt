@@ -1,6 +1,6 @@
 -- The jobs of an owner, by the marks of their table: whichever pairs of marks in the owner's range and keys there are, their keys
 -- are the numbers of the owner's jobs.
-use Rattle.std.proofs.Common.{◌≡◌, ℕ, zero, suc, ◌+◌, ◌<◌, ◌==◌, nat_lt, arith, length, get_or, take, not, ◌&&◌, ◌||◌, Bool, true, false, cond, List, [], ◌∷◌, ◌++◌, flat_map, map, refl, sym, ap, subst, ◌∙◌}
+use Rattle.std.proofs.Common.{◌≡◌, ℕ, zero, suc, ◌+◌, ◌<◌, ◌==◌, nat_lt, arith, length, get_or, take, not, ◌&&◌, ◌||◌, Bool, true, false, cond, List, [], ◌∷◌, ◌++◌, map, refl, sym, ap, subst, ◌∙◌}
 use Rattle.std.specs.Prelude.{Option, Some, None, filter}
 use Rattle.std.specs.Option.{option_map, option_or}
 use Rattle.std.specs.Borrow.{Bor}
@@ -8,13 +8,13 @@ use Rattle.std.specs.BTreeMap.{is_at}
 use Rattle.std.specs.Cmp.{nat_eq_equiv, unsigned_ties}
 use Rattle.std.specs.List.{list_any}
 use Rattle.std.specs.List.Sorted.{IsStrictlySortedBy}
-use Rattle.std.specs.Map.{keys_of, lookup, values_of}
+use Rattle.std.specs.Map.{keys_of, lookup}
 use Rattle.std.specs.Ordering.{ordering_then, is_eq, is_le, nat_cmp}
 use Rattle.std.specs.declared.cmp.Ordering.{Ordering}
 use Rattle.std.specs.declared.cmp.Ordering.TheVariants.{Less, Equal, Greater}
 use Rattle.std.proofs.lemmas.Bool.{eqb-true}
 use Rattle.std.proofs.lemmas.Cmp.{alike_right, eq_by_cmp_equiv, nat_cmp_total, tied_itself}
-use Rattle.std.proofs.lemmas.List.Folds.{list_any-append, list_any_more}
+use Rattle.std.proofs.lemmas.List.Folds.{list_any_more}
 use Rattle.std.proofs.lemmas.Map.Entries.{lookup-filter-values, option_filter}
 use Rattle.std.proofs.lemmas.Map.Keys.{IsDistinct-from_sorted}
 use Rattle.std.proofs.lemmas.Map.Lookups.{exact_unsigned, map_keys}
@@ -23,13 +23,11 @@ use Rattle.ge_collections.specs.Asked.{bears, has_pair, is_between}
 use Rattle.ge_collections.specs.Keyed.{at_number, text_cmp, text_eq}
 use Rattle.ge_collections.proofs.Alike.{read_alike}
 use Rattle.ge_collections.proofs.Gathered.{keys_rise}
-use Rattle.ge_rows.specs.declared.jobs.Running.{Running}
-use Rattle.ge_rows.specs.declared.jobs.Grant.{Grant}
+use Rattle.ge_model_jobs.proofs.BorneMarks.{of_owner}
 use Rattle.ge_rows.specs.declared.jobs.Job.{Job}
-use Rattle.ge_rows.specs.declared.jobs.PeRequest.{PeRequest}
 use Rattle.ge_rows.specs.declared.marks.JobMark.{JobMark}
 use Rattle.ge_rows.specs.declared.marks.MarkSort.TheVariants as sort
-use Rattle.ge_rows.specs.Marks.{mark_of, project_marks, advance_marks, pe_marks, attribute_mark, run_marks, grant_marks, task_marks, own_marks, job_marks}
+use Rattle.ge_rows.specs.Marks.{mark_of, job_marks}
 use Rattle.ge_rows.specs.contracts.marks.JobMarkOrd.TheImpl as order
 use Rattle.ge_rows.specs.contracts.marks.JobMarkOrd.TheImpl.Laws.{total-law}
 use Rattle.ge_submitting.specs.Holding.{at_name, name_at, is_keyed, PutsName, named_shown, jobs_of_owner}
@@ -86,64 +84,19 @@ module _ (owner : List ℕ) where
       kept Equal (b ∷ n) = refl
       kept Greater n = refl
 
-  no_project : (name : List ℕ) → list_any in_range (project_marks name) ≡ false
-  no_project [] = refl
-  no_project (b ∷ name) = refl
-
-  no_advance : (n : ℕ) → list_any in_range (advance_marks n) ≡ false
-  no_advance zero = refl
-  no_advance (suc n) = refl
-
-  no_pe : (pe : Option PeRequest) → list_any in_range (pe_marks pe) ≡ false
-  no_pe None = refl
-  no_pe (Some pe) = refl
-
-  no_attribute : (names : List (List ℕ)) → list_any in_range (map attribute_mark names) ≡ false
-  no_attribute [] = refl
-  no_attribute (name ∷ names) = no_attribute names
-
-  no_run : (n : ℕ) (grants : List Grant) → list_any in_range (run_marks n grants) ≡ false
-  no_run n [] = refl
-  no_run n (grant ∷ grants) = refl
-
-  no_grants : (grants : List Grant) → list_any in_range (flat_map grant_marks grants) ≡ false
-  no_grants [] = refl
-  no_grants (grant ∷ grants) = no_grants grants
-
-  none_in : (xs ys : List JobMark) → list_any in_range xs ≡ false → list_any in_range ys ≡ false → list_any in_range (xs ++ ys) ≡ false
-  none_in xs ys p q = list_any-append in_range xs ys ∙ (λ i. p i || q i)
-
-  no_task : (task : Running) → list_any in_range (task_marks task) ≡ false
-  no_task task =
-      none_in (two ++ run_marks task.serial task.grants) (flat_map grant_marks task.grants)
-      (none_in two (run_marks task.serial task.grants) refl (no_run task.serial task.grants)) (no_grants task.grants)
-    where
-      two : List JobMark
-      two = mark_of sort.Runs [] [] 0 ∷ mark_of sort.Serial [] [] task.serial ∷ []
-
-  no_tasks : (rows : List (ℕ × Running)) → list_any in_range (flat_map task_marks (values_of rows)) ≡ false
-  no_tasks [] = refl
-  no_tasks (row ∷ rows) = none_in (task_marks row.1) (flat_map task_marks (values_of rows)) (no_task row.1) (no_tasks rows)
-
   -- a job bears a mark in the range exactly where it is the owner's
   job_in_range : (job : Job) → list_any in_range (job_marks job) ≡ text_eq owner job.owner
   job_in_range job =
-      with_none (own_marks job) (flat_map task_marks (values_of job.running)) (no_tasks job.running)
-      ∙ with_none (((one ++ project_marks job.project) ++ advance_marks job.advance) ++ pe_marks job.request.pe) (map attribute_mark (keys_of job.request.asked)) (no_attribute (keys_of job.request.asked))
-      ∙ with_none ((one ++ project_marks job.project) ++ advance_marks job.advance) (pe_marks job.request.pe) (no_pe job.request.pe)
-      ∙ with_none (one ++ project_marks job.project) (advance_marks job.advance) (no_advance job.advance)
-      ∙ with_none one (project_marks job.project) (no_project job.project)
-      ∙ alone (in_range (mark_of sort.Owner job.owner job.name 0)) ∙ in_owner job.owner job.name
-    where
-      one : List JobMark
-      one = mark_of sort.Owner job.owner job.name 0 ∷ []
-
-      alone : (b : Bool) → (b || false) ≡ b
-      alone true = refl
-      alone false = refl
-
-      with_none : (xs ys : List JobMark) → list_any in_range ys ≡ false → list_any in_range (xs ++ ys) ≡ list_any in_range xs
-      with_none xs ys none = list_any-append in_range xs ys ∙ ap (λ t. list_any in_range xs || t) none ∙ alone (list_any in_range xs)
+      of_owner in_range (record {
+        runs = λ name other n. refl;
+        runs_on = λ name other n. refl;
+        queue = λ name other n. refl;
+        host = λ name other n. refl;
+        project = λ name other n. refl;
+        pe = λ name other n. refl;
+        attribute = λ name other n. refl;
+      }) (λ name other n. refl) (λ name other n. refl) job
+      ∙ in_owner job.owner job.name
 
   -- a mark that compares as one in the range is in it
   carried : (m : JobMark) (xs : List JobMark) → in_range m ≡ true → list_any (is_at (order.ghosts.cmp m)) xs ≡ true → list_any in_range xs ≡ true
