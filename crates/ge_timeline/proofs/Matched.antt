@@ -1,17 +1,18 @@
 -- Bookings that pass the test are one.
-use Rattle.std.proofs.Common.{◌≡◌, ℕ, ◌<◌, ◌==◌, ◌&&◌, ◌+◌, not, zero, suc, true, List, [], ◌∷◌, get_or, length, refl, sym, ap, subst, ◌∙◌, arith, Some, None}
+use Rattle.std.proofs.Common.{◌≡◌, ℕ, ◌<◌, ◌==◌, ◌&&◌, ◌+◌, not, zero, suc, true, false, take, drop, List, [], ◌∷◌, get_or, length, refl, sym, ap, subst, ◌∙◌, arith, Some, None}
 use Rattle.std.specs.Prelude.{position, Contains, remove}
 use Rattle.std.specs.List.{position_or_len}
 use Rattle.std.specs.Cmp.Lexicographic.{pointwise}
 use Rattle.std.proofs.lemmas.Bool.{and_parts, and_from, eqb-true, eq-eqb, true≢false, cond_both, cond-true, lt-ltb}
 use Rattle.std.proofs.lemmas.List.Quantifiers.{position-Some}
+use Rattle.std.proofs.lemmas.List.{length-take, get_or-take}
 use Rattle.std.proofs.lemmas.Option.{slice_get-get_or}
 use Rattle.ge_model_bookings.specs.Bookings.{same_limit}
 use Rattle.ge_model_place.proofs.Same.{limits_equal, limit_same}
 use Rattle.ge_model_rows.specs.ScheduleRows.{Demand, Booking}
 use Rattle.ge_model_rows.specs.TaskRows.{TaskId}
-use Rattle.ge_timeline.specs.Taking.{same_task, same_demand, same_booking, IsTakenOut}
-use Rattle.ge_timeline.proofs.Renewed.{taken_out}
+use Rattle.ge_timeline.specs.Taking.{same_task, same_demand, same_booking, Takes}
+use Rattle.ge_timeline.proofs.Renewed.{stood_at, left_by}
 
 tasks_equal : (a b : TaskId) → same_task a b ≡ true → a ≡ b
 tasks_equal a b e =
@@ -59,12 +60,25 @@ booking_same a =
     (and_from (a.task.job == a.task.job) (a.task.task == a.task.task) (eq-eqb a.task.job a.task.job refl) (eq-eqb a.task.task a.task.task refl))
     (and_from (pointwise same_demand a.demands a.demands) (a.from == a.from && a.until == a.until) (list_same a.demands) (and_from (a.from == a.from) (a.until == a.until) (eq-eqb a.from a.from refl) (eq-eqb a.until a.until refl)))
 
--- the booking at the place that was found is out
-pub found_out : (old new : List Booking) (place : ℕ) (b : Booking) → position (λ other. same_booking other b) old ≡ Some place → new ≡ remove old place → IsTakenOut b old new
+-- the booking at the place that was found is out, and none before it equals it
+pub found_out : (old new : List Booking) (place : ℕ) (b : Booking) → position (λ other. same_booking other b) old ≡ Some place → new ≡ remove old place → Takes b old new true
 found_out old new place b found rest =
     let is = position-Some (λ other. same_booking other b) old place b found in
-    let here : get_or old place b ≡ b = bookings_equal (get_or old place b) b is.1 in
-    taken_out old new place b (slice_get-get_or old place b is.0 ∙ ap (λ x. Some x) here) rest
+    let here : get_or old place b ≡ b = bookings_equal (get_or old place b) b is.1 in (
+      record {
+        front = take place old;
+        behind = drop (place + 1) old;
+        before = stood_at old place b (slice_get-get_or old place b is.0 ∙ ap (λ x. Some x) here);
+        after = left_by old new place rest;
+      },
+      λ there. none_in_front there is.0 is.2,
+    )
+  where
+    none_in_front : Contains (take place old) b → place < length old → ((k : ℕ) → k < place → same_booking (get_or old k b) b ≡ false) → ⊥
+    none_in_front there inside other =
+        let before : there.0 < place = let h = there.1 in let l = length-take place old in omega (arith, h, l, inside) in
+        let met : get_or old there.0 b ≡ b = sym (get_or-take place old there.0 b before) ∙ there.2 in
+        true≢false (sym (subst (λ x. same_booking x b ≡ true) (sym met) (booking_same b)) ∙ other there.0 before)
 
 -- one that is there is found
 within : (b : Booking) (xs : List Booking) (k : ℕ) → k < length xs → same_booking (get_or xs k b) b ≡ true → position_or_len (λ other. same_booking other b) xs < length xs

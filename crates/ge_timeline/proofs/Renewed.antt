@@ -129,14 +129,23 @@ pub anew_shows : (index : List (LimitId × ℕ)) (functions : Slab (Vec Point Gl
 anew_shows index functions b old new out s =
     shows_more index functions _ (plain_sum new) _ (changes new) (λ limit t. anew_sum b old new limit t out) (λ limit. no_more_same _ _ (anew_changes b old new limit out)) s
 
+-- a list in parts, by the booking at a place
+pub stood_at : (old : List Booking) (place : ℕ) (b : Booking) → slice_get old place ≡ Some b → old ≡ take place old ++ b ∷ drop (place + 1) old
+stood_at old place b at =
+    let within = slice_get_within old place b at in
+    let here : get_or old place b ≡ b = get_or_from_slice_get old place b b at in
+    sym (take-append-drop place old) ∙ ap (λ xs. take place old ++ xs) (drop_more old place b within ∙ ap (λ x. x ∷ drop (place + 1) old) here)
+
+-- and what is left without it
+pub left_by : (old new : List Booking) (place : ℕ) → new ≡ remove old place → new ≡ take place old ++ drop (place + 1) old
+left_by old new place rest = rest ∙ ap (λ n. take place old ++ drop n old) (let e : suc place ≡ place + 1 = omega arith in e)
+
 -- what stood at a place and was removed is taken out
 pub taken_out : (old new : List Booking) (place : ℕ) (b : Booking) → slice_get old place ≡ Some b → new ≡ remove old place → IsTakenOut b old new
 taken_out old new place b at rest =
-    let within = slice_get_within old place b at in
-    let here : get_or old place b ≡ b = get_or_from_slice_get old place b b at in
     record {
       front = take place old;
       behind = drop (place + 1) old;
-      before = sym (take-append-drop place old) ∙ ap (λ xs. take place old ++ xs) (drop_more old place b within ∙ ap (λ x. x ∷ drop (place + 1) old) here);
-      after = rest ∙ ap (λ n. take place old ++ drop n old) (let e : suc place ≡ place + 1 = omega arith in e);
+      before = stood_at old place b at;
+      after = left_by old new place rest;
     }

@@ -25,9 +25,9 @@ pub record IsTakenOut (b : Booking) (old new : List Booking) : Type 0 where
   pub before : old ≡ front ++ b ∷ behind
   pub after : new ≡ front ++ behind
 
--- whether a booking was there: then it is taken out, once; else it is nowhere in the list, which is as it was
+-- Whether a booking was there: then the first one that equals it is taken out; else it is nowhere in the list, which is as it was.
 abbrev pub Takes : Booking → List Booking → List Booking → Bool → Type 0
-Takes b old new true = IsTakenOut b old new
+Takes b old new true = (out : IsTakenOut b old new) × (Contains out.front b → ⊥)
 Takes b old new false = (new ≡ old) × (Contains old b → ⊥)
 
 -- the set has the moments at which bookings end
