@@ -1,6 +1,6 @@
 -- What handling a batch comes to, at each exit.
 use Rattle.std.proofs.Common.{◌≡◌, ℕ, ◌+◌, ◌<◌, ◌≤◌, Bool, true, false, List, [], ◌∷◌, length, replicate, Result, Ok, Err, refl, ap, ◌∙◌, sym, subst, inl, inr, arith, fold}
-use Rattle.std.specs.Prelude.{IsTrue, ◌↔◌, ◌||◌}
+use Rattle.std.specs.Prelude.{IsTrue, ◌↔◌, ◌||◌, flat_map}
 use Rattle.std.proofs.lemmas.List.{length-replicate}
 use Rattle.ge_limits.specs.Limits as limit
 use Rattle.ge_model_rows.specs.ClusterRows.{Cluster}
@@ -8,7 +8,7 @@ use Rattle.ge_model_rows.specs.EventRows.{Event, Reply, Planned}
 use Rattle.ge_model_disk.specs.Disk.{IsImageSince}
 use Rattle.ge_model_journal.specs.Journal.{State, IsOneOf}
 use Rattle.ge_model_jobs.specs.Applying.{after_entry}
-use Rattle.ge_model_store.specs.StandsFor.{cluster_bytes, cluster_fits, held, StandsForOneOf}
+use Rattle.ge_model_store.specs.StandsFor.{entry_bytes, cluster_bytes, cluster_fits, held, StandsForOneOf}
 use Rattle.ge_model_batch.specs.Traced.{Traced, traced}
 use Rattle.ge_spool.specs.Settled.{IsSettled, Grows, format_of}
 use Rattle.ge_spool.specs.declared.spool.Spool.{Spool}
@@ -51,21 +51,25 @@ stays old before after home same_a same_b c d of_c of_d =
 
 module _ (plan : Cluster → Event → Planned) (old : Parts) (events : List Event) (before after : Areas) where
   -- there is no memory, and nothing was written
-  pub handled-spent : (new : Parts) → after.a ≡ before.a → after.b ≡ before.b → Grows before.a after.a before.b after.b → after.syncs ≡ before.syncs
-      → HandlesBatch plan old new events (Err Spent) before after
-  handled-spent new same_a same_b grows syncs = record {
-    marks = replicate (length events) false;
-    counted = length-replicate (length events) false;
-    handled = record {
-      answer = tt;
-      left = tt;
-      home = λ home. tt;
-      any_moment = λ home c d of_c of_d. inl (stays old before after home same_a same_b c d of_c of_d);
-      unwritten = λ home. stays old before after home same_a same_b;
-      grows = grows;
-      syncs = omega (arith, syncs);
-    };
-  }
+  pub handled-spent : (new : Parts) → after ≡ before → Grows before.a after.a before.b after.b → HandlesBatch plan old new events (Err Spent) before after
+  handled-spent new same grows =
+      let same_a : after.a ≡ before.a = ap (λ (now : Areas). now.a) same in
+      let same_b : after.b ≡ before.b = ap (λ (now : Areas). now.b) same in
+      let same_syncs : after.syncs ≡ before.syncs = ap (λ (now : Areas). now.syncs) same in
+      record {
+        marks = replicate (length events) false;
+        counted = length-replicate (length events) false;
+        handled = record {
+          answer = tt;
+          left = tt;
+          home = λ home. tt;
+          idle = λ none. same;
+          any_moment = λ home c d of_c of_d. inl (stays old before after home same_a same_b c d of_c of_d);
+          unwritten = λ home. stays old before after home same_a same_b;
+          grows = grows;
+          syncs = omega (arith, same_syncs);
+        };
+      }
 
   module _ (cluster : Cluster) (staged : Staged) (is : IsStaged plan old.cluster events staged cluster) where
     abbrev trace : Traced
@@ -75,10 +79,12 @@ module _ (plan : Cluster → Event → Planned) (old : Parts) (events : List Eve
     made = is.cluster ∙ traced-applied plan old.cluster events is.marks
 
     -- there was nothing to write
-    pub handled-nothing : (stopping : Bool) → stopping ≡ (old.stopping || staged.stop) → staged.body ≡ [] → after.a ≡ before.a → after.b ≡ before.b
-        → Grows before.a after.a before.b after.b → after.syncs ≡ before.syncs
+    pub handled-nothing : (stopping : Bool) → stopping ≡ (old.stopping || staged.stop) → staged.body ≡ [] → after ≡ before → Grows before.a after.a before.b after.b
         → HandlesBatch plan old (record { spool = old.spool; cluster = cluster; stopping = stopping }) events (Ok staged.replies) before after
-    handled-nothing stopping asks empty same_a same_b grows syncs =
+    handled-nothing stopping asks empty same_areas grows =
+        let same_a : after.a ≡ before.a = ap (λ (now : Areas). now.a) same_areas in
+        let same_b : after.b ≡ before.b = ap (λ (now : Areas). now.b) same_areas in
+        let same_syncs : after.syncs ≡ before.syncs = ap (λ (now : Areas). now.syncs) same_areas in
         let none : trace.entries ≡ [] = no_entries trace.entries staged.body is.bytes empty in
         let same : old.cluster ≡ cluster = sym (made ∙ ap (fold after_entry old.cluster) none) in
         record {
@@ -97,10 +103,11 @@ module _ (plan : Cluster → Event → Planned) (old : Parts) (events : List Eve
               settled = subst (λ told. IsSettled old.spool told after.b home.state) (sym same_a) (subst (λ told. IsSettled old.spool before.a told home.state) (sym same_b) home.settled);
               holds = home.holds ∙ ap (λ x. Ok x) same;
             };
+            idle = λ none. same_areas;
             any_moment = λ home c d of_c of_d. inl (stays old before after home same_a same_b c d of_c of_d);
             unwritten = λ home. tt;
             grows = grows;
-            syncs = omega (arith, syncs);
+            syncs = omega (arith, same_syncs);
           };
         }
 
@@ -117,6 +124,12 @@ module _ (plan : Cluster → Event → Planned) (old : Parts) (events : List Eve
 
       the_syncs : after.syncs ≤ before.syncs + stored_syncs (compacts old.spool (traced_size trace))
       the_syncs = subst (λ body. after.syncs ≤ before.syncs + stored_syncs (compacts old.spool (length body))) is.bytes syncs
+
+      -- there is something to write
+      never-idle : trace.entries ≡ [] → after ≡ before
+      never-idle none =
+          let empty : length staged.body ≡ 0 = ap length is.bytes ∙ ap (λ entries. length (flat_map entry_bytes entries)) none in
+          absurd (omega (arith, some, empty))
 
       -- what was written stands for the cluster after the batch
       written-holds : (compacting ≡ true → IsTrue (cluster_fits cluster)) → (home : IsHome old before)
@@ -142,6 +155,7 @@ module _ (plan : Cluster → Event → Planned) (old : Parts) (events : List Eve
           answer = answer;
           left = tt;
           home = λ home. tt;
+          idle = never-idle;
           any_moment = any_moment;
           unwritten = unwritten;
           grows = grows;
@@ -197,6 +211,7 @@ module _ (plan : Cluster → Event → Planned) (old : Parts) (events : List Eve
                 settled = done home.state home.settled;
                 holds = written-holds fits home;
               };
+              idle = never-idle;
               any_moment = each-moment fits;
               unwritten = λ home. tt;
               grows = grows;

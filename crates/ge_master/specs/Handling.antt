@@ -64,6 +64,8 @@ pub record Handles (t : Traced) (old new : Parts) (result : Result (List Reply) 
   pub answer : RepliesAs t old.spool result (HasFailed before after)
   pub left : OnOk result (HasHandled t old new)
   pub home : IsHome old before → OnOk result (IsHome new after)
+  -- where nothing is to be written the areas are left alone
+  pub idle : t.entries ≡ [] → after ≡ before
   -- at each moment every pair of images stands for the cluster before the events or after them
   pub any_moment : IsHome old before → EachSince before after (StandsForOneOf old.cluster t.cluster)
   -- for the one before where nothing was written

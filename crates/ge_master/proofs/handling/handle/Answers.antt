@@ -11,14 +11,14 @@ returns-in_default-clause-handled g c =
     let old : Parts = record { spool = c.args.spool.now; cluster = c.args.cluster.now; stopping = c.args.stopping.now } in
     let new : Parts = record { spool = c.args.spool.now; cluster = c.stage_all.new.cluster; stopping = c.args.stopping.now } in
     let now = areas_of g.D.Disk.told g.D.Disk.syncs g.D.Disk.disk_faults c.args.a.now c.args.b.now in
-    handled-spent plan_of old c.args.events.now now now new refl refl (omega arith, omega arith) refl
+    handled-spent plan_of old c.args.events.now now now new refl (omega arith, omega arith)
 
 pub returns-then-is_empty-clause-handled : goal.returns-then-is_empty-clause-handled
 returns-then-is_empty-clause-handled g c =
     let old : Parts = record { spool = c.args.spool.now; cluster = c.args.cluster.now; stopping = c.args.stopping.now } in
     let now = areas_of g.D.Disk.told g.D.Disk.syncs g.D.Disk.disk_faults c.args.a.now c.args.b.now in
     handled-nothing plan_of old c.args.events.now now now c.stage_all.new.cluster c.in-Ok.staged c.in-Ok.ensures (c.args.stopping.now || c.in-Ok.staged.stop) refl
-    (c.is_empty.ensures.0 c.if-is_empty.true) refl refl (omega arith, omega arith) refl
+    (c.is_empty.ensures.0 c.if-is_empty.true) refl (omega arith, omega arith)
 
 pub returns-in-Ok-store-clause-handled : goal.returns-in-Ok-store-clause-handled
 returns-in-Ok-store-clause-handled g c =
