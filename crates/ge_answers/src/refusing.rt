@@ -30,9 +30,9 @@ fn text_of(refusal: Refusal) -> &'static [u8]
 pub fn one_line(alloc: Global, text: Text) -> Result<List<Text>, AllocError>
     ensures { IfOk result (λ lines. lines ≡ text ∷ []) }
 {
-    let mut lines = List::new(alloc);
+    let mut lines = Vec::with_capacity(alloc, 1)?;
     lines.push(text)?;
-    Ok(lines)
+    Ok(List::from_vec(lines))
 }
 
 /// The plan of an event that is refused: it changes nothing.

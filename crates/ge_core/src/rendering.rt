@@ -5,6 +5,9 @@ ghost use Rattle.ge_model_core.specs.Render.{rendered_line, rendered};
 use ge_rows::{Reply, Text};
 use std::alloc::{AllocError, Global};
 
+/// Room for a reply of one line, in bytes; a longer one grows.
+const REPLY_ROOM: usize = 100;
+
 fn append_line(text: &mut Text, line: &Text) -> Result<(), AllocError>
     ensures { OnOk result (text.new ≡ text.old ++ rendered_line line.now) }
 {
@@ -24,7 +27,8 @@ fn append_lines(text: &mut Text, lines: &[Text]) -> Result<(), AllocError>
 fn head(alloc: Global, code: u8, lines: usize) -> Result<Text, AllocError>
     ensures { IfOk result (λ text. text ≡ decimal code ++ 32 ∷ [] ++ decimal lines ++ 10 ∷ []) }
 {
-    let mut text = Text::from_bytes(alloc, code.to_string(alloc)?.as_bytes())?;
+    let mut text = Text::from_vec(Vec::with_capacity(alloc, REPLY_ROOM)?);
+    text.append(code.to_string(alloc)?.as_bytes())?;
     text.push(b' ')?;
     text.append(lines.to_string(alloc)?.as_bytes())?;
     text.push(b'\n')?;

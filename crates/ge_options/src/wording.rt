@@ -38,7 +38,7 @@ fn in_span(line: &[u8], span: Span) -> &[u8]
 fn words_at<'a>(alloc: Global, line: &'a [u8], spans: &[Span]) -> Result<Vec<&'a [u8]>, AllocError>
     ensures { IfOk result (λ found. texts found.items ≡ map (text_at line.now) spans.now) }
 {
-    let mut found = Vec::new(alloc);
+    let mut found = Vec::with_capacity(alloc, spans.len())?;
     for span in spans {
         found.push(in_span(line, *span))?;
     }
@@ -77,9 +77,9 @@ pub fn words_of_line(alloc: Global, line: &[u8]) -> Result<Vec<&[u8]>, ReadFault
 pub fn owned(alloc: Global, lent: &[&[u8]]) -> Result<List<Text>, AllocError>
     ensures { IfOk result (λ copy. copy ≡ texts lent.now) }
 {
-    let mut copy = List::new(alloc);
+    let mut copy = Vec::with_capacity(alloc, lent.len())?;
     for word in lent {
         copy.push(Text::from_bytes(alloc, word)?)?;
     }
-    Ok(copy)
+    Ok(List::from_vec(copy))
 }

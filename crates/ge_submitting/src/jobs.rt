@@ -20,6 +20,9 @@ use ge_rows::{
 };
 use std::alloc::{AllocError, Global};
 
+/// Room for the line of a submission, in bytes; that of a long name grows.
+const LINE_ROOM: usize = 80;
+
 // The name that is made of a command; STDIN without one.
 fn name_of_words(alloc: Global, words: &[Text]) -> Result<Text, AllocError>
     ensures { IfOk result (λ name. name ≡ name_of words.now) }
@@ -129,10 +132,19 @@ pub(crate) fn job_of_parts(
     })
 }
 
+// A text's first words, with room for those that mostly follow.
+fn begun(alloc: Global, words: &[u8]) -> Result<Text, AllocError>
+    ensures { IfOk result (λ text. text ≡ words.now) }
+{
+    let mut text = Text::from_vec(Vec::with_capacity(alloc, LINE_ROOM)?);
+    text.append(words)?;
+    Ok(text)
+}
+
 fn quoted(alloc: Global, name: &[u8]) -> Result<Text, AllocError>
     ensures { IfOk result (λ text. text ≡ quoted_of name.now) }
 {
-    let mut text = Text::from_bytes(alloc, b" (\"")?;
+    let mut text = begun(alloc, b" (\"")?;
     text.append(name)?;
     text.append(b"\") has been submitted")?;
     Ok(text)
@@ -153,7 +165,7 @@ fn array_line(alloc: Global, job: &Job) -> Result<Text, AllocError>
     ensures { IfOk result (λ line. line ≡ codes "Your job-array " ++ decimal job.now.number
         ++ 46 ∷ array_range_text job.now.span ++ quoted_of job.now.name) }
 {
-    let mut line = Text::from_bytes(alloc, b"Your job-array ")?;
+    let mut line = begun(alloc, b"Your job-array ")?;
     line.append(job.number.to_string(alloc)?.as_bytes())?;
     line.push(b'.')?;
     line.append(range_text(alloc, &job.span)?.bytes())?;
@@ -164,7 +176,7 @@ fn array_line(alloc: Global, job: &Job) -> Result<Text, AllocError>
 fn job_line(alloc: Global, job: &Job) -> Result<Text, AllocError>
     ensures { IfOk result (λ line. line ≡ codes "Your job " ++ decimal job.now.number ++ quoted_of job.now.name) }
 {
-    let mut line = Text::from_bytes(alloc, b"Your job ")?;
+    let mut line = begun(alloc, b"Your job ")?;
     line.append(job.number.to_string(alloc)?.as_bytes())?;
     line.append(quoted(alloc, job.name.bytes())?.bytes())?;
     Ok(line)

@@ -3,4 +3,4 @@ use Rattle.ge_options.specs.Lent.{texts}
 use Rattle.ge_options.proofs.wording.owned.Given as goal
 
 abbrev pub invariant-loop-word : goal.invariant-loop-word
-invariant-loop-word l = l.copy ≡ texts (take l.word-index l.lent)
+invariant-loop-word l = l.copy.items ≡ texts (take l.word-index l.lent)
