@@ -12,7 +12,7 @@ use std::alloc::{AllocError, Global};
 fn added(alloc: Global, tickets: &[u64], others: &[u64]) -> Result<List<u64>, AllocError>
     ensures { IfOk result (λ sums. sums ≡ added_tickets tickets.now others.now) }
 {
-    let mut sums = List::new(alloc);
+    let mut sums = List::from_vec(Vec::with_capacity(alloc, tickets.len())?);
     for (one, other) in tickets.iter().zip(others) {
         sums.push(one.saturating_add(*other))?;
     }

@@ -1,3 +1,5 @@
+pub mod Exact
+pub mod OneKind
 pub mod Rising
 pub mod Ordered
 pub mod Slots

@@ -1,5 +1,5 @@
 -- What is told of a job is what its tasks say.
-use Rattle.std.proofs.Common.{◌≡◌, ℕ, zero, suc, ◌+◌, ◌-◌, ◌/◌, ◌==◌, Bool, true, false, not, ◌||◌, ◌&&◌, cond, List, [], ◌∷◌, ◌++◌, Option, Some, None, refl, sym, ap, ◌∙◌, arith, map, filter, fold, take, length, nat_lt}
+use Rattle.std.proofs.Common.{◌≡◌, ℕ, zero, suc, ◌+◌, ◌-◌, ◌/◌, ◌==◌, Bool, true, false, not, ◌||◌, ◌&&◌, cond, List, [], ◌∷◌, ◌++◌, Option, Some, None, refl, sym, subst, ap, ◌∙◌, arith, map, filter, fold, take, length, nat_lt}
 use Rattle.std.specs.Prelude.{All, IfSome, if◌then◌else◌, refl as same}
 use mathlib.Core.Bool.{true≢false}
 use native.Mathlib.Nat.{zero-div}
@@ -13,6 +13,7 @@ use Rattle.std.specs.declared.cmp.Ordering.TheVariants.{Less}
 use Rattle.std.proofs.lemmas.Cmp.{eq_by_cmp_equiv}
 use Rattle.std.proofs.lemmas.List.Elements.{recursion_from_All}
 use Rattle.std.proofs.lemmas.Map.Lookups.{exact_unsigned}
+use Rattle.ge_beside.specs.Met.{AreFound}
 use Rattle.ge_collections.specs.Keyed.{at_number}
 use Rattle.ge_collections.specs.Short.{AreShort, short_of}
 use Rattle.ge_collections.specs.declared.short_row.ShortRow.{ShortRow}
@@ -122,6 +123,10 @@ found_each {V} (row ∷ rows) rising =
     further [] above all = tt
     further (e ∷ more) above all =
         (ap (λ o. cond (is_eq o) (Some row.1) (at_number rows e.0)) (nat_cmp_total.antisymm e.0 row.0 ∙ ap ordering_reverse above.0) ∙ all.0, further more above.1 all.1)
+
+-- so each row of a walk that begins is found
+pub all_found : {V : Type 0} (rows entries : List (ℕ × V)) → entries ≡ rows → IsStrictlySortedBy nat_cmp (keys_of rows) → AreFound rows entries
+all_found rows entries is rising = subst (λ es. AreFound rows es) (sym is) (found_each rows rising)
 
 -- what holds of each job by its own types
 abbrev pub IsOrderlyJob : Job → Type 0

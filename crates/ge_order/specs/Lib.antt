@@ -1,3 +1,4 @@
+pub mod Kinds
 pub mod Ranked
 pub mod Standings
 pub mod Told

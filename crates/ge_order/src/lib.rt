@@ -11,11 +11,13 @@
 
 mod asked;
 mod choosing;
+mod kinds;
 mod ordering;
 mod parts;
 mod priority;
 mod standing;
 mod tasks;
+mod telling;
 mod urging;
 
 pub use choosing::candidates;

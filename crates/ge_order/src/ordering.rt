@@ -5,7 +5,7 @@ ghost use Rattle.std.specs.Ordering.{is_lt};
 ghost use Rattle.ge_model_order.specs.Priority.{rank_cmp, rank_of, with_rank, order_of};
 ghost use Rattle.ge_order.specs.Ranked.{AreRanks, rise, rise_above, tasks_at_rank};
 
-use crate::tasks::add_tasks;
+use crate::tasks::{add_tasks, walk_jobs};
 use ge_rows::{Cluster, List, Prio, TaskId};
 use std::alloc::{AllocError, Global};
 use std::cmp::Reverse;
@@ -23,7 +23,7 @@ fn rank(prio: &Prio) -> Rank
 fn ranks(alloc: Global, prios: &[Prio]) -> Result<Vec<Rank>, AllocError>
     ensures { IfOk result (λ ranks. ranks.items ≡ map rank_of prios.now) }
 {
-    let mut ranks = Vec::new(alloc);
+    let mut ranks = Vec::with_capacity(alloc, prios.len())?;
     for prio in prios {
         ranks.push(rank(prio))?;
     }
@@ -118,9 +118,10 @@ fn tasks_at(
 ) -> Result<List<TaskId>, AllocError>
     ensures { IfOk result (λ order. order ≡ flat_map (tasks_at_rank c.now now) ranks.now) }
 {
-    let mut order = List::new(alloc);
+    let mut order = List::from_vec(Vec::with_capacity(alloc, ranks.len())?);
+    let mut left = walk_jobs(c);
     for rank in ranks {
-        add_tasks(alloc, c, rank.1, now, &mut order)?;
+        add_tasks(alloc, c, &mut left, rank.1, now, &mut order)?;
     }
     Ok(order)
 }

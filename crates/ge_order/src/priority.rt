@@ -64,7 +64,7 @@ fn prios_on(
     ensures { IfOk result (λ prios. prios ≡ map (prio_of sched.now scale)
         (zip standings.now tickets.now)) }
 {
-    let mut prios = List::new(alloc);
+    let mut prios = List::from_vec(Vec::with_capacity(alloc, standings.len())?);
     for (standing, tickets) in standings.iter().zip(tickets) {
         prios.push(prio_at(sched, scale, standing, *tickets))?;
     }

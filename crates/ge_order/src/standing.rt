@@ -6,6 +6,7 @@ ghost use Rattle.ge_model_order.specs.Amounts.{least, greatest};
 ghost use Rattle.ge_order.specs.Standings.{standing_of, urgencies_of, with_lesser, with_greater};
 
 use crate::asked::slots_complex;
+use crate::telling::standings_told;
 use crate::urging::urgency_with;
 use ge_jobs::get;
 use ge_rows::{Cluster, ComplexDef};
@@ -48,8 +49,8 @@ fn standing_at(c: &Cluster, unit: Option<&ComplexDef>, number: u32, now: u64) ->
     }
 }
 
-/// What is known of these jobs.
-pub(crate) fn standings(
+// The same of each job by its row, for a table without short rows.
+fn standings_each(
     alloc: Global,
     c: &Cluster,
     jobs: &[u32],
@@ -63,6 +64,24 @@ pub(crate) fn standings(
         standings.push(standing_at(c, unit, *number, now))?;
     }
     Ok(standings)
+}
+
+/// What is known of these jobs.
+pub(crate) fn standings(
+    alloc: Global,
+    c: &Cluster,
+    jobs: &[u32],
+    now: u64,
+) -> Result<Vec<Standing>, AllocError>
+    ensures { IfOk result (λ standings. standings.items ≡ map (standing_of c.now now) jobs.now) }
+{
+    match c.jobs.shorts() {
+        Some(shorts) => {
+            let standings = standings_told(alloc, c, shorts.rows, jobs, now)?;
+            Ok(standings)
+        }
+        None => standings_each(alloc, c, jobs, now),
+    }
 }
 
 fn lesser(low: Option<u128>, standing: &Standing) -> Option<u128>

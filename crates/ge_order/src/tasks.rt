@@ -1,12 +1,17 @@
 // The tasks of a job that a run may start.
 ghost use Rattle.std.specs.Prelude.{◌≡◌, ◌∷◌, [], ◌++◌, IfSome, OnOk, map};
+ghost use Rattle.std.specs.Option.{option_copied};
+ghost use Rattle.ge_beside.specs.Met.{AreFound};
+ghost use Rattle.ge_collections.specs.Keyed.{at_number};
 ghost use Rattle.ge_model_value.specs.Pieces.{is_empty as is_empty_list};
 ghost use Rattle.ge_order.specs.Ranked.{task_at, tasks_of_job};
 ghost use Rattle.ge_order.specs.Told as telling;
 
+use ge_beside::next_at;
 use ge_jobs::{eligible, get};
 use ge_rows::{Cluster, Job, List, TaskId, TaskSpan};
 use std::alloc::{AllocError, Global};
+use std::collections::btree_map::Iter;
 
 fn has_none(numbers: &[u32]) -> bool
     ensures { result ≡ is_empty_list numbers.now }
@@ -52,11 +57,29 @@ fn only_task(job: &Job, now: u64) -> Option<u32>
     }
 }
 
-// The same by the job's number.
-fn only_task_at(c: &Cluster, number: u32, now: u64) -> Option<u32>
-    ensures { IfSome result (λ task. tasks_of_job c.now now number ≡ task_at number task ∷ []) }
+// A job, met in a walk over all or looked up.
+fn job_at<'a>(c: &'a Cluster, left: &mut Iter<'a, u32, Job>, number: u32) -> Option<&'a Job>
+    ensures job { AreFound c.now.jobs left.old → option_copied result ≡ at_number c.now.jobs number }
+    ensures others { AreFound c.now.jobs left.old → AreFound c.now.jobs left.new }
 {
-    match get(&c.jobs, number) {
+    match next_at(left, number) {
+        Some(job) => Some(job),
+        None => get(&c.jobs, number),
+    }
+}
+
+// The same by the job's number.
+fn only_task_at<'a>(
+    c: &'a Cluster,
+    left: &mut Iter<'a, u32, Job>,
+    number: u32,
+    now: u64,
+) -> Option<u32>
+    ensures task { AreFound c.now.jobs left.old
+        → IfSome result (λ task. tasks_of_job c.now now number ≡ task_at number task ∷ []) }
+    ensures others { AreFound c.now.jobs left.old → AreFound c.now.jobs left.new }
+{
+    match job_at(c, left, number) {
         Some(job) => only_task(job, now),
         None => None,
     }
@@ -86,18 +109,28 @@ fn push_eligible(
     push_tasks(order, job, tasks.items())
 }
 
-/// The eligible tasks of a job, at most as many as a run considers, put behind others. Of most jobs one task waits: that one takes
-/// no list.
-pub(crate) fn add_tasks(
+/// A walk over all jobs, of which none is met yet.
+pub(crate) fn walk_jobs(c: &Cluster) -> Iter<'_, u32, Job>
+    ensures { AreFound c.now.jobs result }
+{
+    c.jobs.iter()
+}
+
+/// The eligible tasks of a job, at most as many as a run considers, put behind others. The job is met in a walk over all, where
+/// its number is above those before. Of most jobs one task waits: that one takes no list.
+pub(crate) fn add_tasks<'a>(
     alloc: Global,
-    c: &Cluster,
+    c: &'a Cluster,
+    left: &mut Iter<'a, u32, Job>,
     job: u32,
     now: u64,
     order: &mut List<TaskId>,
 ) -> Result<(), AllocError>
-    ensures { OnOk result (order.new ≡ order.old ++ tasks_of_job c.now now job) }
+    ensures tasks { AreFound c.now.jobs left.old
+        → OnOk result (order.new ≡ order.old ++ tasks_of_job c.now now job) }
+    ensures others { AreFound c.now.jobs left.old → AreFound c.now.jobs left.new }
 {
-    match only_task_at(c, job, now) {
+    match only_task_at(c, left, job, now) {
         Some(task) => {
             order.push(TaskId { job, task })?;
             Ok(())

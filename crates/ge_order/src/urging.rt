@@ -4,6 +4,7 @@ ghost use Rattle.std.specs.Option.{option_copied};
 ghost use Rattle.ge_base.specs.Fixed.{cut_product};
 ghost use Rattle.ge_model_value.specs.Complexes.{complex_at};
 ghost use Rattle.ge_model_order.specs.Urgency.{urgency_of};
+ghost use Rattle.ge_order.specs.Kinds as kinds;
 
 use crate::asked::{resources_urgency, slots_complex};
 use ge_base::{product_of, sum_of};
@@ -32,6 +33,15 @@ fn deadline_urgency(c: &Cluster, deadline: u64, now: u64) -> u64
     }
 }
 
+/// The urgency by what a request adds, the moment of the submission and the deadline, 0 for none.
+pub(crate) fn urgency_by(c: &Cluster, asked: u128, submitted: u64, deadline: u64, now: u64) -> u128
+    ensures { result ≡ kinds.urgency_by c.now asked submitted deadline now }
+{
+    let waiting = waiting_urgency(c, submitted, now);
+    let nearing = u128::from(deadline_urgency(c, deadline, now));
+    sum_of(sum_of(asked, waiting), nearing).min(GREATEST)
+}
+
 /// The urgency of a job, given the row that complexes have for slots.
 #[tactic(auto, unfolding(ge_model_order::specs::Urgency::urgency_of))]
 pub(crate) fn urgency_with(c: &Cluster, unit: Option<&ComplexDef>, job: &Job, now: u64) -> u128
@@ -39,9 +49,7 @@ pub(crate) fn urgency_with(c: &Cluster, unit: Option<&ComplexDef>, job: &Job, no
         → result ≡ urgency_of c.now job.now now }
 {
     let asked = resources_urgency(c, unit, &job.request);
-    let waiting = waiting_urgency(c, job.submitted, now);
-    let deadline = u128::from(deadline_urgency(c, job.deadline, now));
-    sum_of(sum_of(asked, waiting), deadline).min(GREATEST)
+    urgency_by(c, asked, job.submitted, job.deadline, now)
 }
 
 /// The urgency of a job at a moment, in millionths: what each resource that it asks for adds (complex, urgency) for each unit and

@@ -157,7 +157,7 @@ fn tree_tickets(
 fn list_none(alloc: Global, numbers: &[u32]) -> Result<List<u64>, AllocError>
     ensures { IfOk result (λ list. list ≡ map no_tickets numbers.now) }
 {
-    let mut list = List::new(alloc);
+    let mut list = List::from_vec(Vec::with_capacity(alloc, numbers.len())?);
     for _number in numbers {
         list.push(0)?;
     }

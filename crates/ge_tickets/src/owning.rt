@@ -1,12 +1,15 @@
 //! The tickets of jobs where they have none but their own.
 
 ghost use Rattle.std.specs.Prelude.{◌≡◌, IfOk, IsTrue, map};
+ghost use Rattle.ge_beside.specs.Met.{AreFound};
 ghost use Rattle.ge_tickets.specs.Own.{OwnAlone, own_tickets as own_of, told_tickets as told_of};
 
 use crate::dividing::{cut, functional};
+use ge_beside::{row_at, walk};
 use ge_rows::{Cluster, JobFacts, List, ShortRow};
 use std::alloc::{AllocError, Global};
 use std::collections::BTreeMap;
+use std::collections::btree_map::Iter;
 
 /// Whether no user and no project has a row, and no tickets are divided by the shares of jobs.
 pub(crate) fn has_own_alone(c: &Cluster) -> bool
@@ -34,10 +37,16 @@ fn list_each(alloc: Global, c: &Cluster, numbers: &[u32]) -> Result<List<u64>, A
     Ok(tickets)
 }
 
-fn told_tickets(rows: &BTreeMap<u32, ShortRow<JobFacts>>, number: u32) -> u64
-    ensures { result ≡ told_of rows.now.entries number }
+// The same by short rows, met in a walk.
+fn told_tickets<'a>(
+    rows: &'a BTreeMap<u32, ShortRow<JobFacts>>,
+    left: &mut Iter<'a, u32, ShortRow<JobFacts>>,
+    number: u32,
+) -> u64
+    ensures tickets { AreFound rows.now.entries left.old → result ≡ told_of rows.now.entries number }
+    ensures others { AreFound rows.now.entries left.old → AreFound rows.now.entries left.new }
 {
-    match rows.get(&number) {
+    match row_at(rows, left, number) {
         Some(row) => cut(u128::from(row.facts.oticket)),
         None => 0,
     }
@@ -50,9 +59,10 @@ fn list_told(
 ) -> Result<List<u64>, AllocError>
     ensures { IfOk result (λ tickets. tickets ≡ map (told_of rows.now.entries) numbers.now) }
 {
-    let mut tickets = List::new(alloc);
+    let mut tickets = List::from_vec(Vec::with_capacity(alloc, numbers.len())?);
+    let mut left = walk(rows);
     for number in numbers {
-        tickets.push(told_tickets(rows, *number))?;
+        tickets.push(told_tickets(rows, &mut left, *number))?;
     }
     Ok(tickets)
 }

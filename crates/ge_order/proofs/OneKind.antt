@@ -1,0 +1,150 @@
+-- Jobs of one kind ask alike, and short rows tell what is known of jobs.
+use Rattle.std.proofs.Common.{◌≡◌, ℕ, ◌+◌, ◌<◌, Bool, true, false, List, [], ◌∷◌, ◌++◌, Option, Some, None, IsSome, cond, unwrap_or, refl, sym, subst, ap, ◌∙◌, map, take, get_or, length}
+use Rattle.std.specs.Prelude.{All, refl as same}
+use Rattle.std.specs.Ordering.{nat_cmp}
+use Rattle.std.specs.BTreeMap.{is_at}
+use Rattle.std.specs.Map.{lookup, values_of}
+use Rattle.std.specs.Option.{option_map}
+use Rattle.std.proofs.lemmas.List.{take_more}
+use Rattle.std.proofs.lemmas.List.Elements.{All-head, All-tail}
+use Rattle.std.proofs.lemmas.Map.Lookups.{exact_unsigned}
+use Rattle.ge_collections.specs.Changed.{ChangesAt}
+use Rattle.ge_collections.specs.Keyed.{at_number}
+use Rattle.ge_collections.specs.Short.{AreShort, IsNumbered, short_of, number_of}
+use Rattle.ge_collections.specs.declared.short_row.ShortRow.{ShortRow}
+use Rattle.ge_model_rows.specs.ClusterRows.{Cluster}
+use Rattle.ge_model_rows.specs.JobRows.{Job}
+use Rattle.ge_model_order.specs.Urgency.{resources_urgency, urgency_of}
+use Rattle.ge_rows.specs.JobShort.{job_facts, job_kind, job_labels}
+use Rattle.ge_rows.specs.declared.labels.JobFacts.{JobFacts}
+use Rattle.ge_rows.specs.declared.labels.JobLabel.TheVariants.{Kind}
+use Rattle.ge_rows.specs.contracts.labels.JobLabelOrd.TheImpl.{cmp-value as by_label}
+use Rattle.ge_order.specs.Kinds.{kind_in, asked_of, SameAsked, AreAsked, TellJobs, urgent_by, told_standing}
+use Rattle.ge_order.specs.Standings.{standing_of, urgent_of}
+use Rattle.ge_order.specs.declared.standing.Standing.{Standing}
+use Rattle.ge_order.specs.declared.standing.Urgent.{Urgent}
+use Rattle.ge_order.proofs.Exact.{equal_at, exact_labels}
+
+-- what holds of all values holds of one that is found
+found_among : {K V : Type 0} (P : V → Type 0) (test : K → Bool) (rows : List (K × V)) (v : V) → All P (values_of rows) → lookup test rows ≡ Some v → P v
+found_among P test [] v all e = absurd cc
+found_among {K} {V} P test (row ∷ rows) v all e =
+    here (test row.0) e (λ later. found_among P test rows v (All-tail P row.1 (values_of rows) all) later)
+  where
+    here : (b : Bool) → cond b (Some row.1) (lookup test rows) ≡ Some v → (lookup test rows ≡ Some v → P v) → P v
+    here true is others = let same : row.1 ≡ v = cc in subst P same (All-head P row.1 (values_of rows) all)
+    here false is others = others is
+
+unwrapped : (o : Option ℕ) (k : ℕ) → IsSome o → unwrap_or o 0 ≡ k → o ≡ Some k
+unwrapped None k some e = absurd cc
+unwrapped (Some n) k some e = ap (λ m. Some m) e
+
+module _ (c : Cluster) (rows : List (ℕ × ShortRow JobFacts)) (bound : ℕ) (are : AreShort nat_cmp by_label.it job_labels job_facts rows bound c.jobs) where
+  kind_is : (number kind : ℕ) (job : Job) → at_number c.jobs number ≡ Some job → kind_in rows number ≡ Some kind → are.0 (Kind (job_kind job)) ≡ Some kind
+  kind_is number kind job there short =
+      let is : at_number rows number ≡ Some (short_of job_labels job_facts are.0 job) = are.1.found number ∙ ap (λ found. option_map (short_of job_labels job_facts are.0) found) there in
+      let third : Some (number_of job_labels job_facts are.0 (Kind (job_kind job))) ≡ Some kind = sym (ap (λ row. option_map (λ s. s.third) row) is) ∙ short in
+      let same : number_of job_labels job_facts are.0 (Kind (job_kind job)) ≡ kind = cc in
+      unwrapped (are.0 (Kind (job_kind job))) kind (found_among (IsNumbered job_labels job_facts are.0) (is_at (nat_cmp number)) c.jobs job are.1.numbered there).2 same
+
+  none_there : (number kind : ℕ) → at_number c.jobs number ≡ None → kind_in rows number ≡ Some kind → ◌≡◌ {A = Option ℕ} None (Some kind)
+  none_there number kind none short =
+      ap (λ found. option_map (λ s. s.third) (option_map (short_of job_labels job_facts are.0) found)) (sym none)
+      ∙ ap (λ row. option_map (λ s. s.third) row) (sym (are.1.found number)) ∙ short
+
+  same_asked : SameAsked c rows
+  same_asked first second kind one two = by (at_number c.jobs first) same (at_number c.jobs second) same
+    where
+      by : (a : Option Job) → at_number c.jobs first ≡ a → (b : Option Job) → at_number c.jobs second ≡ b → asked_of c first ≡ asked_of c second
+      by None is_a b is_b = absurd (let never : ◌≡◌ {A = Option ℕ} None (Some kind) = none_there first kind is_a one in cc)
+      by (Some a) is_a None is_b = absurd (let never : ◌≡◌ {A = Option ℕ} None (Some kind) = none_there second kind is_b two in cc)
+      by (Some a) is_a (Some b) is_b =
+          let kinds =
+          exact_labels (job_kind a) (job_kind b)
+          (equal_at (by_label.it (Kind (job_kind a)) (Kind (job_kind b)))
+          (are.1.apart (Kind (job_kind a)) (Kind (job_kind b)) kind (kind_is first kind a is_a one) (kind_is second kind b is_b two))) in
+          ap (λ o. elim o as (λ (o : Option Job). ℕ) [ None ↦ 0 | Some job ↦ resources_urgency c job.request ]) is_a
+          ∙ ap (λ k. resources_urgency c k.request) kinds
+          ∙ ap (λ o. elim o as (λ (o : Option Job). ℕ) [ None ↦ 0 | Some job ↦ resources_urgency c job.request ]) (sym is_b)
+
+  same_facts : (number : ℕ) → option_map (λ row. row.facts) (at_number rows number) ≡ option_map job_facts (at_number c.jobs number)
+  same_facts number = ap (λ row. option_map (λ r. r.facts) row) (are.1.found number) ∙ by (at_number c.jobs number)
+    where
+      by : (o : Option Job) → option_map (λ r. r.facts) (option_map (short_of job_labels job_facts are.0) o) ≡ option_map job_facts o
+      by None = refl
+      by (Some job) = refl
+
+  -- the short rows of jobs tell of them
+  pub rows_tell : TellJobs c rows
+  rows_tell = record { alike = same_asked; facts = same_facts }
+
+module _ (c : Cluster) (rows : List (ℕ × ShortRow JobFacts)) where
+  -- what is known of kinds, with one more
+  pub kept_more : (before after : List (ℕ × ℕ)) (kind asked number : ℕ) → SameAsked c rows → AreAsked c rows before → kind_in rows number ≡ Some kind → asked ≡ asked_of c number
+      → ChangesAt nat_cmp kind (λ _. Some asked) before after → AreAsked c rows after
+  kept_more before after kind asked number alike are here is changes other found told q of_kind =
+      by (is_at (nat_cmp kind) other) same (sym (changes other) ∙ told)
+    where
+      by : (b : Bool) → is_at (nat_cmp kind) other ≡ b → cond b (Some asked) (at_number before other) ≡ Some found → found ≡ asked_of c q
+      by true at e =
+          let value : asked ≡ found = cc in
+          let one : kind ≡ other = exact_unsigned kind other (equal_at (nat_cmp kind other) at) in
+          sym value ∙ is ∙ alike number q kind here (of_kind ∙ ap (λ k. Some k) (sym one))
+      by false at e = are other found e q of_kind
+
+  pub none_asked : (kinds : List (ℕ × ℕ)) → kinds ≡ [] → AreAsked c rows kinds
+  none_asked kinds none kind asked told number of_kind = absurd (let never : ◌≡◌ {A = Option ℕ} None (Some asked) = sym (ap (λ ks. at_number ks kind) none) ∙ told in cc)
+
+  pub kind_of_row : (number : ℕ) (row : ShortRow JobFacts) → at_number rows number ≡ Some row → kind_in rows number ≡ Some row.third
+  kind_of_row number row there = ap (λ found. option_map (λ r. r.third) found) there
+
+  module _ (now number : ℕ) where
+    pub told_none : at_number rows number ≡ None → record { job = number; urgent = None } ≡ told_standing c rows now number
+    told_none none = ap (λ found. record { job = number; urgent = option_map (λ row. urgent_by c now (asked_of c number) row.facts) found }) (sym none)
+
+    pub told_some : (row : ShortRow JobFacts) (asked : ℕ) (urgent : Urgent) → at_number rows number ≡ Some row → asked ≡ asked_of c number → urgent ≡ urgent_by c now asked row.facts
+        → record { job = number; urgent = Some urgent } ≡ told_standing c rows now number
+    told_some row asked urgent there is found =
+        (λ i. record { job = number; urgent = Some (found i) })
+        ∙ (λ i. record { job = number; urgent = Some (urgent_by c now (is i) row.facts) })
+        ∙ ap (λ (o : Option (ShortRow JobFacts)). record { job = number; urgent = option_map (λ r. urgent_by c now (asked_of c number) r.facts) o }) (sym there)
+
+  module _ (now number : ℕ) where
+    -- what is known of the job by its short row, by the facts in it, by its row, and by what its request adds
+    abbrev by_short : Option (ShortRow JobFacts) → Standing
+    by_short found = record { job = number; urgent = option_map (λ row. urgent_by c now (asked_of c number) row.facts) found }
+
+    abbrev by_facts : Option JobFacts → Standing
+    by_facts found = record { job = number; urgent = option_map (λ f. urgent_by c now (asked_of c number) f) found }
+
+    abbrev by_row : Option Job → Standing
+    by_row found = record { job = number; urgent = option_map (urgent_of c now) found }
+
+    abbrev by_asked : Job → ℕ → Standing
+    by_asked job asked = record { job = number; urgent = Some (urgent_by c now asked (job_facts job)) }
+
+    facts_of : (found : Option (ShortRow JobFacts)) → by_short found ≡ by_facts (option_map (λ row. row.facts) found)
+    facts_of None = refl
+    facts_of (Some row) = refl
+
+    row_of : (found : Option Job) → at_number c.jobs number ≡ found → by_facts (option_map job_facts found) ≡ by_row found
+    unfolding urgency_of
+    row_of None is = refl
+    row_of (Some job) is =
+        ap (by_asked job) (ap (λ o. elim o as (λ (o : Option Job). ℕ) [ None ↦ 0 | Some row ↦ resources_urgency c row.request ]) is)
+
+    one_told : TellJobs c rows → told_standing c rows now number ≡ standing_of c now number
+    one_told tell = facts_of (at_number rows number) ∙ ap by_facts (tell.facts number) ∙ row_of (at_number c.jobs number) same
+
+  pub all_told : (now : ℕ) (numbers : List ℕ) → TellJobs c rows → map (told_standing c rows now) numbers ≡ map (standing_of c now) numbers
+  all_told now numbers tell = λ i. map (λ number. one_told now number tell i) numbers
+
+mapped_more : {X Y : Type 0} (f : X → Y) (xs ys : List X) → map f (xs ++ ys) ≡ map f xs ++ map f ys
+mapped_more f [] ys = refl
+mapped_more {X} {Y} f (x ∷ xs) ys = ap (λ (zs : List Y). f x ∷ zs) (mapped_more f xs ys)
+
+-- one turn of a loop that lists what it maps
+pub listed_more : {X Y : Type 0} (f : X → Y) (xs : List X) (i : ℕ) (d : X) (old new : List Y) (item : Y) → i < length xs → old ≡ map f (take i xs) → item ≡ f (get_or xs i d) → new ≡ old ++ item ∷ []
+    → new ≡ map f (take (i + 1) xs)
+listed_more {X} {Y} f xs i d old new item lt so_far is next =
+    next ∙ (λ j. so_far j ++ is j ∷ []) ∙ sym (mapped_more f (take i xs) (get_or xs i d ∷ [])) ∙ sym (ap (λ (ys : List X). map f ys) (take_more xs i d lt))

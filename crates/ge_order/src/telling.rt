@@ -1,0 +1,82 @@
+// What short rows tell of jobs before their priorities can be told.
+ghost use Rattle.std.specs.Prelude.{◌≡◌, IfOk, OnOk, map, codes};
+ghost use Rattle.std.specs.Option.{option_copied};
+ghost use Rattle.ge_beside.specs.Met.{AreFound};
+ghost use Rattle.ge_model_value.specs.Complexes.{complex_at};
+ghost use Rattle.ge_order.specs.Kinds as kind;
+
+use crate::asked::slots_complex;
+use crate::kinds::kind_urgency;
+use crate::standing::{Standing, Urgent};
+use crate::urging::urgency_by;
+use ge_beside::{row_at, walk};
+use ge_rows::{Cluster, ComplexDef, JobFacts, ShortRow, Table};
+use std::alloc::{AllocError, Global};
+use std::collections::BTreeMap;
+use std::collections::btree_map::Iter;
+
+// What the facts of a job tell, where it is known what its request adds.
+fn urgent_by(c: &Cluster, now: u64, asked: u128, facts: &JobFacts) -> Urgent
+    ensures { result ≡ kind.urgent_by c.now now asked facts.now }
+{
+    Urgent {
+        priority: facts.priority,
+        urgency: urgency_by(c, asked, facts.submitted, facts.deadline, now),
+    }
+}
+
+fn standing_told<'a>(
+    c: &Cluster,
+    unit: Option<&ComplexDef>,
+    rows: &'a BTreeMap<u32, ShortRow<JobFacts>>,
+    left: &mut Iter<'a, u32, ShortRow<JobFacts>>,
+    kinds: &mut Table<u32, u128>,
+    number: u32,
+    now: u64,
+) -> Result<Standing, AllocError>
+    ensures standing { option_copied unit.entry ≡ complex_at c.now (codes "slots")
+        → AreFound rows.now.entries left.old → kind.AreAsked c.now rows.now.entries kinds.old
+        → IfOk result (λ standing. standing
+        ≡ kind.told_standing c.now rows.now.entries now number) }
+    ensures others { AreFound rows.now.entries left.old → AreFound rows.now.entries left.new }
+    ensures asked { option_copied unit.entry ≡ complex_at c.now (codes "slots")
+        → AreFound rows.now.entries left.old → kind.SameAsked c.now rows.now.entries
+        → kind.AreAsked c.now rows.now.entries kinds.old
+        → OnOk result (kind.AreAsked c.now rows.now.entries kinds.new) }
+{
+    match row_at(rows, left, number) {
+        None => Ok(Standing {
+            job: number,
+            urgent: None,
+        }),
+        Some(row) => {
+            let asked = kind_urgency(c, unit, kinds, row.third, number)?;
+            Ok(Standing {
+                job: number,
+                urgent: Some(urgent_by(c, now, asked, &row.facts)),
+            })
+        }
+    }
+}
+
+/// What is known of these jobs by their short rows.
+pub(crate) fn standings_told(
+    alloc: Global,
+    c: &Cluster,
+    rows: &BTreeMap<u32, ShortRow<JobFacts>>,
+    jobs: &[u32],
+    now: u64,
+) -> Result<Vec<Standing>, AllocError>
+    ensures { kind.SameAsked c.now rows.now.entries → IfOk result (λ standings. standings.items
+        ≡ map (kind.told_standing c.now rows.now.entries now) jobs.now) }
+{
+    let unit = slots_complex(c);
+    let mut kinds = Table::new(alloc);
+    let mut left = walk(rows);
+    let mut standings = Vec::with_capacity(alloc, jobs.len())?;
+    for number in jobs {
+        let standing = standing_told(c, unit, rows, &mut left, &mut kinds, *number, now)?;
+        standings.push(standing)?;
+    }
+    Ok(standings)
+}
