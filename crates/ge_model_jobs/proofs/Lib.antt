@@ -3,6 +3,7 @@ mod Rows
 mod UsageRows
 pub mod Keys
 pub mod BorneMarks
+pub mod SameKind
 pub mod Places
 pub mod Orderly
 pub mod HeldTasks

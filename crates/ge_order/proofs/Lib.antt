@@ -1,4 +1,3 @@
-pub mod Exact
 pub mod OneKind
 pub mod Rising
 pub mod Ordered

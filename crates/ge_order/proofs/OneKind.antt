@@ -1,52 +1,27 @@
 -- Jobs of one kind ask alike, and short rows tell what is known of jobs.
-use Rattle.std.proofs.Common.{◌≡◌, ℕ, ◌+◌, ◌<◌, Bool, true, false, List, [], ◌∷◌, ◌++◌, Option, Some, None, IsSome, cond, unwrap_or, refl, sym, subst, ap, ◌∙◌, map, take, get_or, length}
-use Rattle.std.specs.Prelude.{All, refl as same}
+use Rattle.std.proofs.Common.{◌≡◌, ℕ, Bool, true, false, List, [], Option, Some, None, cond, refl, sym, ap, ◌∙◌, map}
+use Rattle.std.specs.Prelude.{refl as same}
 use Rattle.std.specs.Ordering.{nat_cmp}
 use Rattle.std.specs.BTreeMap.{is_at}
-use Rattle.std.specs.Map.{lookup, values_of}
 use Rattle.std.specs.Option.{option_map}
-use Rattle.std.proofs.lemmas.List.{take_more}
-use Rattle.std.proofs.lemmas.List.Elements.{All-head, All-tail}
 use Rattle.std.proofs.lemmas.Map.Lookups.{exact_unsigned}
 use Rattle.ge_collections.specs.Changed.{ChangesAt}
 use Rattle.ge_collections.specs.Keyed.{at_number}
-use Rattle.ge_collections.specs.Short.{AreShort, IsNumbered, short_of, number_of}
+use Rattle.ge_collections.specs.Short.{AreShort, short_of}
 use Rattle.ge_collections.specs.declared.short_row.ShortRow.{ShortRow}
 use Rattle.ge_model_rows.specs.ClusterRows.{Cluster}
 use Rattle.ge_model_rows.specs.JobRows.{Job}
+use Rattle.ge_model_jobs.proofs.SameKind.{equal_at, one_kind}
 use Rattle.ge_model_order.specs.Urgency.{resources_urgency, urgency_of}
 use Rattle.ge_rows.specs.JobShort.{job_facts, job_kind, job_labels}
 use Rattle.ge_rows.specs.declared.labels.JobFacts.{JobFacts}
-use Rattle.ge_rows.specs.declared.labels.JobLabel.TheVariants.{Kind}
 use Rattle.ge_rows.specs.contracts.labels.JobLabelOrd.TheImpl.{cmp-value as by_label}
 use Rattle.ge_order.specs.Kinds.{kind_in, asked_of, SameAsked, AreAsked, TellJobs, urgent_by, told_standing}
 use Rattle.ge_order.specs.Standings.{standing_of, urgent_of}
 use Rattle.ge_order.specs.declared.standing.Standing.{Standing}
 use Rattle.ge_order.specs.declared.standing.Urgent.{Urgent}
-use Rattle.ge_order.proofs.Exact.{equal_at, exact_labels}
-
--- what holds of all values holds of one that is found
-found_among : {K V : Type 0} (P : V → Type 0) (test : K → Bool) (rows : List (K × V)) (v : V) → All P (values_of rows) → lookup test rows ≡ Some v → P v
-found_among P test [] v all e = absurd cc
-found_among {K} {V} P test (row ∷ rows) v all e =
-    here (test row.0) e (λ later. found_among P test rows v (All-tail P row.1 (values_of rows) all) later)
-  where
-    here : (b : Bool) → cond b (Some row.1) (lookup test rows) ≡ Some v → (lookup test rows ≡ Some v → P v) → P v
-    here true is others = let same : row.1 ≡ v = cc in subst P same (All-head P row.1 (values_of rows) all)
-    here false is others = others is
-
-unwrapped : (o : Option ℕ) (k : ℕ) → IsSome o → unwrap_or o 0 ≡ k → o ≡ Some k
-unwrapped None k some e = absurd cc
-unwrapped (Some n) k some e = ap (λ m. Some m) e
 
 module _ (c : Cluster) (rows : List (ℕ × ShortRow JobFacts)) (bound : ℕ) (are : AreShort nat_cmp by_label.it job_labels job_facts rows bound c.jobs) where
-  kind_is : (number kind : ℕ) (job : Job) → at_number c.jobs number ≡ Some job → kind_in rows number ≡ Some kind → are.0 (Kind (job_kind job)) ≡ Some kind
-  kind_is number kind job there short =
-      let is : at_number rows number ≡ Some (short_of job_labels job_facts are.0 job) = are.1.found number ∙ ap (λ found. option_map (short_of job_labels job_facts are.0) found) there in
-      let third : Some (number_of job_labels job_facts are.0 (Kind (job_kind job))) ≡ Some kind = sym (ap (λ row. option_map (λ s. s.third) row) is) ∙ short in
-      let same : number_of job_labels job_facts are.0 (Kind (job_kind job)) ≡ kind = cc in
-      unwrapped (are.0 (Kind (job_kind job))) kind (found_among (IsNumbered job_labels job_facts are.0) (is_at (nat_cmp number)) c.jobs job are.1.numbered there).2 same
-
   none_there : (number kind : ℕ) → at_number c.jobs number ≡ None → kind_in rows number ≡ Some kind → ◌≡◌ {A = Option ℕ} None (Some kind)
   none_there number kind none short =
       ap (λ found. option_map (λ s. s.third) (option_map (short_of job_labels job_facts are.0) found)) (sym none)
@@ -59,10 +34,7 @@ module _ (c : Cluster) (rows : List (ℕ × ShortRow JobFacts)) (bound : ℕ) (a
       by None is_a b is_b = absurd (let never : ◌≡◌ {A = Option ℕ} None (Some kind) = none_there first kind is_a one in cc)
       by (Some a) is_a None is_b = absurd (let never : ◌≡◌ {A = Option ℕ} None (Some kind) = none_there second kind is_b two in cc)
       by (Some a) is_a (Some b) is_b =
-          let kinds =
-          exact_labels (job_kind a) (job_kind b)
-          (equal_at (by_label.it (Kind (job_kind a)) (Kind (job_kind b)))
-          (are.1.apart (Kind (job_kind a)) (Kind (job_kind b)) kind (kind_is first kind a is_a one) (kind_is second kind b is_b two))) in
+          let kinds = one_kind c.jobs rows bound are first second kind a b is_a is_b one two in
           ap (λ o. elim o as (λ (o : Option Job). ℕ) [ None ↦ 0 | Some job ↦ resources_urgency c job.request ]) is_a
           ∙ ap (λ k. resources_urgency c k.request) kinds
           ∙ ap (λ o. elim o as (λ (o : Option Job). ℕ) [ None ↦ 0 | Some job ↦ resources_urgency c job.request ]) (sym is_b)
@@ -138,13 +110,3 @@ module _ (c : Cluster) (rows : List (ℕ × ShortRow JobFacts)) where
 
   pub all_told : (now : ℕ) (numbers : List ℕ) → TellJobs c rows → map (told_standing c rows now) numbers ≡ map (standing_of c now) numbers
   all_told now numbers tell = λ i. map (λ number. one_told now number tell i) numbers
-
-mapped_more : {X Y : Type 0} (f : X → Y) (xs ys : List X) → map f (xs ++ ys) ≡ map f xs ++ map f ys
-mapped_more f [] ys = refl
-mapped_more {X} {Y} f (x ∷ xs) ys = ap (λ (zs : List Y). f x ∷ zs) (mapped_more f xs ys)
-
--- one turn of a loop that lists what it maps
-pub listed_more : {X Y : Type 0} (f : X → Y) (xs : List X) (i : ℕ) (d : X) (old new : List Y) (item : Y) → i < length xs → old ≡ map f (take i xs) → item ≡ f (get_or xs i d) → new ≡ old ++ item ∷ []
-    → new ≡ map f (take (i + 1) xs)
-listed_more {X} {Y} f xs i d old new item lt so_far is next =
-    next ∙ (λ j. so_far j ++ is j ∷ []) ∙ sym (mapped_more f (take i xs) (get_or xs i d ∷ [])) ∙ sym (ap (λ (ys : List X). map f ys) (take_more xs i d lt))

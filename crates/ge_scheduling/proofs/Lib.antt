@@ -1,7 +1,6 @@
 pub mod Tallies
 pub mod Ends
 pub mod Bridged
-pub mod Exact
 pub mod OneKind
 pub mod Grown
 pub mod Shut

@@ -1,5 +1,5 @@
-pub mod Turns
 pub mod Walked
 pub mod Linked
 pub mod Shared
 pub mod Treeless
+pub mod Summed

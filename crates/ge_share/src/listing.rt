@@ -1,6 +1,6 @@
 //! Usage and jobs along the lines, and the share tickets of each job of a list.
 
-ghost use Rattle.std.specs.Prelude.{◌≡◌, [], IfOk, OnOk, IsTrue, fold, map};
+ghost use Rattle.std.specs.Prelude.{◌≡◌, true, [], IfOk, OnOk, IsTrue, fold, map};
 ghost use Rattle.ge_model_order.specs.Share.{share_tickets_of, leaf_tickets};
 ghost use Rattle.ge_share.specs.Listed.{with_usage_by, usage_by, with_number, jobs_by, number_tickets, no_tickets};
 
@@ -10,23 +10,19 @@ use crate::dividing::give;
 use crate::finding::{LeafFinder, leaf_of, line_up, prepare};
 use crate::leveling::divide_tickets;
 use crate::walking::{Walk, walk_tree};
+use ge_base::sum_of;
 use ge_rows::{Cluster, List, Table, Text};
 use std::alloc::{AllocError, Global};
 
-fn add_usage(
-    alloc: Global,
-    finder: &LeafFinder,
-    now_epoch: u64,
-    usage: &mut Table<u32, u128>,
-    key: &(Text, Text, u64),
-    amount: u128,
-) -> Result<(), AllocError>
-    ensures { OnOk result (usage.new ≡ with_usage_by now_epoch finder.now usage.old (key.now, amount)) }
+// Whether the usage that is summed up is that of a row's user and project.
+fn is_of(begun: bool, user: &[u8], project: &[u8], key: &(Text, Text, u64)) -> bool
+    ensures { IsTrue result
+        → (begun ≡ true) × (user.now ≡ key.now.0) × (project.now ≡ key.now.1) }
 {
-    let line = line_up(alloc, finder, &key.0, &key.1)?;
-    raise_along(usage, line, decay(amount, key.2, now_epoch))
+    begun && user == key.0.bytes() && project == key.1.bytes()
 }
 
+// The rows are in order of users and projects, so that the epochs of both are summed up before the line is raised, once.
 fn add_usages(
     alloc: Global,
     c: &Cluster,
@@ -36,9 +32,25 @@ fn add_usages(
     ensures { IfOk result (λ usage. usage ≡ fold (with_usage_by now_epoch finder.now) [] c.now.usage) }
 {
     let mut usage = Table::new(alloc);
+    let mut begun = false;
+    let mut user: &[u8] = &[];
+    let mut project: &[u8] = &[];
+    let mut line: &[u32] = &[];
+    let mut sum: u128 = 0;
     for (key, amount) in c.usage.iter() {
-        add_usage(alloc, finder, now_epoch, &mut usage, key, *amount)?;
+        let more = decay(*amount, key.2, now_epoch);
+        if is_of(begun, user, project, key) {
+            sum = sum_of(sum, more);
+        } else {
+            raise_along(&mut usage, line, sum)?;
+            line = line_up(alloc, finder, &key.0, &key.1)?;
+            user = key.0.bytes();
+            project = key.1.bytes();
+            begun = true;
+            sum = more;
+        }
     }
+    raise_along(&mut usage, line, sum)?;
     Ok(usage)
 }
 

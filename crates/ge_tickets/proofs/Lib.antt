@@ -1,4 +1,3 @@
 pub mod Raised
-pub mod Turns
 pub mod Divided
 pub mod Own

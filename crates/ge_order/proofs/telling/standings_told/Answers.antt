@@ -1,5 +1,6 @@
 use Rattle.ge_order.specs.Kinds.{told_standing}
-use Rattle.ge_order.proofs.OneKind.{listed_more, none_asked}
+use Rattle.ge_beside.proofs.Turns.{listed_more}
+use Rattle.ge_order.proofs.OneKind.{none_asked}
 use Rattle.ge_order.proofs.telling.standings_told.Goals as goal
 
 pub loop-number-init : goal.loop-number-init

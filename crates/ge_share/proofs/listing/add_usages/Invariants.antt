@@ -1,6 +1,11 @@
-use Rattle.std.proofs.Common.{◌≡◌, [], fold}
+use Rattle.std.proofs.Common.{◌≡◌, true, [], fold}
+use Rattle.ge_model_order.specs.ShareTables.{raised_along}
+use Rattle.ge_share.specs.Found.{line_by}
 use Rattle.ge_share.specs.Listed.{with_usage_by}
 use Rattle.ge_share.proofs.listing.add_usages.Given as goal
 
 abbrev pub invariant-loop-key : goal.invariant-loop-key
-invariant-loop-key l = fold (with_usage_by l.now_epoch l.finder) l.usage l.key-iterator ≡ fold (with_usage_by l.now_epoch l.finder) [] l.c.usage
+invariant-loop-key l = record {
+  own : l.begun ≡ true → l.line ≡ line_by l.finder l.user l.project;
+  summed : fold (with_usage_by l.now_epoch l.finder) (raised_along l.usage l.line l.sum) l.key-iterator ≡ fold (with_usage_by l.now_epoch l.finder) [] l.c.usage;
+}

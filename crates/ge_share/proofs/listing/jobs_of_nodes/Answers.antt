@@ -1,6 +1,6 @@
 use Rattle.std.proofs.Common.{[]}
 use Rattle.ge_share.specs.Listed.{with_number}
-use Rattle.ge_share.proofs.Turns.{folded_more}
+use Rattle.ge_beside.proofs.Turns.{folded_more}
 use Rattle.ge_share.proofs.listing.jobs_of_nodes.Goals as goal
 
 pub loop-number-preserved : goal.loop-number-preserved

@@ -1,6 +1,6 @@
 use Rattle.std.proofs.Common.{refl}
 use Rattle.ge_share.specs.Listed.{no_tickets}
-use Rattle.ge_share.proofs.Turns.{listed_more}
+use Rattle.ge_beside.proofs.Turns.{listed_more}
 use Rattle.ge_share.proofs.listing.list_none.Goals as goal
 
 pub loop-number-preserved : goal.loop-number-preserved

@@ -1,5 +1,5 @@
 use Rattle.ge_share.specs.Listed.{number_tickets}
-use Rattle.ge_share.proofs.Turns.{listed_more}
+use Rattle.ge_beside.proofs.Turns.{listed_more}
 use Rattle.ge_share.proofs.listing.list_tickets.Goals as goal
 
 pub loop-number-preserved : goal.loop-number-preserved

@@ -1,18 +1,26 @@
--- Kinds of jobs that compare equal are one kind.
-use Rattle.std.proofs.Common.{◌≡◌, ℕ, Bool, true, false, List, [], ◌∷◌, Option, Some, None, refl, ap}
+-- Kinds of jobs that compare equal are one kind, and so are those whose short rows have one number for them.
+use Rattle.std.proofs.Common.{◌≡◌, ℕ, Bool, true, false, List, [], ◌∷◌, Option, Some, None, IsSome, cond, unwrap_or, refl, sym, subst, ap, ◌∙◌}
+use Rattle.std.specs.Prelude.{All}
+use Rattle.std.specs.BTreeMap.{is_at}
+use Rattle.std.specs.Map.{lookup, values_of}
 use Rattle.std.specs.Ordering.{nat_cmp, bool_cmp, ordering_then, is_eq}
-use Rattle.std.specs.Option.{option_cmp}
+use Rattle.std.specs.Option.{option_cmp, option_map}
 use Rattle.std.specs.Cmp.Lexicographic.{slice_cmp}
 use Rattle.std.specs.declared.cmp.Ordering.{Ordering}
 use Rattle.std.specs.declared.cmp.Ordering.TheVariants.{Less, Equal, Greater}
+use Rattle.std.proofs.lemmas.List.Elements.{All-head, All-tail}
 use Rattle.std.proofs.lemmas.Map.Lookups.{CmpEqualImpliesEq, exact_unsigned, exact_bytes}
-use Rattle.ge_collections.specs.Keyed.{text_cmp}
-use Rattle.ge_model_rows.specs.JobRows.{PeRequest}
+use Rattle.ge_collections.specs.Keyed.{at_number, text_cmp}
+use Rattle.ge_collections.specs.Short.{AreShort, IsNumbered, short_of, number_of}
+use Rattle.ge_collections.specs.declared.short_row.ShortRow.{ShortRow}
+use Rattle.ge_model_rows.specs.JobRows.{Job, PeRequest}
 use Rattle.ge_model_rows.specs.ValueRows.{Value}
 use Rattle.ge_rows.specs.declared.values.Value.TheVariants.{Amount, Flag, Word}
 use Rattle.ge_rows.specs.declared.jobs.Request.{Request}
+use Rattle.ge_rows.specs.declared.labels.JobFacts.{JobFacts}
 use Rattle.ge_rows.specs.declared.labels.JobKind.{JobKind}
 use Rattle.ge_rows.specs.declared.labels.JobLabel.TheVariants.{Kind}
+use Rattle.ge_rows.specs.JobShort.{job_facts, job_kind, job_labels}
 use Rattle.ge_rows.specs.contracts.values.ValueOrd.TheImpl.{cmp-value as by_value}
 use Rattle.ge_rows.specs.contracts.jobs.PeRequestOrd.TheImpl.{cmp-value as by_pe}
 use Rattle.ge_rows.specs.contracts.jobs.RequestOrd.TheImpl.{cmp-value as by_request}
@@ -106,5 +114,38 @@ exact_kinds a b e =
     λ i. record { owner = owner i; group = group i; project = project i; request = request i; advance = advance i }
 
 -- two kinds that have one label are one
-pub exact_labels : (a b : JobKind) → by_label.it (Kind a) (Kind b) ≡ Equal → a ≡ b
+exact_labels : (a b : JobKind) → by_label.it (Kind a) (Kind b) ≡ Equal → a ≡ b
 exact_labels a b e = exact_kinds a b e
+
+-- what holds of all values holds of one that is found
+found_among : {K V : Type 0} (P : V → Type 0) (test : K → Bool) (rows : List (K × V)) (v : V) → All P (values_of rows) → lookup test rows ≡ Some v → P v
+found_among P test [] v all e = absurd cc
+found_among {K} {V} P test (row ∷ rows) v all e =
+    here (test row.0) e (λ later. found_among P test rows v (All-tail P row.1 (values_of rows) all) later)
+  where
+    here : (b : Bool) → cond b (Some row.1) (lookup test rows) ≡ Some v → (lookup test rows ≡ Some v → P v) → P v
+    here true is others = let same : row.1 ≡ v = cc in subst P same (All-head P row.1 (values_of rows) all)
+    here false is others = others is
+
+unwrapped : (o : Option ℕ) (k : ℕ) → IsSome o → unwrap_or o 0 ≡ k → o ≡ Some k
+unwrapped None k some e = absurd cc
+unwrapped (Some n) k some e = ap (λ m. Some m) e
+
+-- the number of a job's kind in its short row
+abbrev numbered : List (ℕ × ShortRow JobFacts) → ℕ → Option ℕ
+numbered rows job = option_map (λ row. row.third) (at_number rows job)
+
+module _ (jobs : List (ℕ × Job)) (rows : List (ℕ × ShortRow JobFacts)) (bound : ℕ) (are : AreShort nat_cmp by_label.it job_labels job_facts rows bound jobs) where
+  kind_is : (number kind : ℕ) (job : Job) → at_number jobs number ≡ Some job → numbered rows number ≡ Some kind → are.0 (Kind (job_kind job)) ≡ Some kind
+  kind_is number kind job there short =
+      let is : at_number rows number ≡ Some (short_of job_labels job_facts are.0 job) = are.1.found number ∙ ap (λ found. option_map (short_of job_labels job_facts are.0) found) there in
+      let third : Some (number_of job_labels job_facts are.0 (Kind (job_kind job))) ≡ Some kind = sym (ap (λ row. option_map (λ s. s.third) row) is) ∙ short in
+      let same : number_of job_labels job_facts are.0 (Kind (job_kind job)) ≡ kind = cc in
+      unwrapped (are.0 (Kind (job_kind job))) kind (found_among (IsNumbered job_labels job_facts are.0) (is_at (nat_cmp number)) jobs job are.1.numbered there).2 same
+
+  -- jobs whose kinds have one number are of one kind
+  pub one_kind : (first second kind : ℕ) (a b : Job) → at_number jobs first ≡ Some a → at_number jobs second ≡ Some b → numbered rows first ≡ Some kind → numbered rows second ≡ Some kind → job_kind a ≡ job_kind b
+  one_kind first second kind a b is_a is_b one two =
+      exact_labels (job_kind a) (job_kind b)
+      (equal_at (by_label.it (Kind (job_kind a)) (Kind (job_kind b)))
+      (are.1.apart (Kind (job_kind a)) (Kind (job_kind b)) kind (kind_is first kind a is_a one) (kind_is second kind b is_b two)))
