@@ -1,11 +1,10 @@
 -- One more task is decided, and a job whose tasks wait is kept.
-use Rattle.std.proofs.Common.{◌+◌, ◌≤◌, ◌<◌, ◌==◌, ◌&&◌, length, take, get_or, fold, ◌≡◌, ℕ, Bool, true, false, cond, List, [], ◌∷◌, ◌++◌, Option, Some, None, IfSome, refl, sym, subst, ap, ◌∙◌}
+use Rattle.std.proofs.Common.{◌+◌, ◌≤◌, ◌<◌, ◌==◌, ◌&&◌, ◌≡◌, ℕ, Bool, true, false, cond, List, [], ◌∷◌, ◌++◌, Option, Some, None, IfSome, refl, sym, subst, ap, ◌∙◌}
 use Rattle.std.specs.Prelude.{nat_lt}
 use Rattle.std.specs.Ordering.{nat_cmp}
 use Rattle.std.specs.BTreeSet.{BTreeSet, contains}
 use Rattle.std.proofs.lemmas.Bool.{true≢false, and_right, le-ltb}
-use Rattle.std.proofs.lemmas.List.{append-nil, take_more}
-use Rattle.std.proofs.lemmas.List.Sums.{fold-append}
+use Rattle.std.proofs.lemmas.List.{append-nil}
 use Rattle.ge_collections.specs.Keyed.{at_number}
 use Rattle.ge_limits.specs.Limits.{last_serial}
 use Rattle.ge_model_rows.specs.ClusterRows.{Cluster}
@@ -124,6 +123,17 @@ module _ (c : Cluster) (groups : Groups) (order : List InstanceId) (now : ℕ) w
       here None is e = absurd (true≢false (sym e))
       here (Some kind) is e = (shut kind e number job there is).1
 
+  -- a job that can't be placed now, of which no task may be reserved
+  pub none_may_start : (booked : List Booking) (decisions : List Decision) (tally : Tally) (number : ℕ) (job : Job) → IsTallied c decisions tally → at_number c.jobs number ≡ Some job
+      → placement_of c groups order booked job now ≡ None → may_be_reserved c.sched tally job ≡ false → Waits c groups order now booked decisions number
+  none_may_start booked decisions tally number job tallied there nowhere may task same =
+      model_by_parts c groups order now booked decisions task
+      ∙ ap (λ n. by_parts c groups order now booked decisions (at_number c.jobs n) task) same
+      ∙ ap (λ j. by_parts c groups order now booked decisions j task) there
+      ∙ ap (λ m. decision_by c groups order now booked (owner_is_full c decisions job.owner) m (serial_after c decisions) (Some job) task) (sym (may_same c decisions tally tallied job) ∙ may)
+      ∙ must_wait c groups order now booked (owner_is_full c decisions job.owner) (serial_after c decisions) (Some job) task (placement_of c groups order booked job now)
+      (ap (λ given. started_by (owner_is_full c decisions job.owner) (serial_after c decisions) task given) nowhere)
+
   -- where nothing can be placed now and no task may be reserved
   pub all_must_wait : (booked : List Booking) (decisions : List Decision) (tally : Tally) (number : ℕ) → IsTallied c decisions tally → ((job : Job) → placement_of c groups order booked job now ≡ None)
       → c.sched.max_reservation ≤ tally.reserved → Waits c groups order now booked decisions number
@@ -188,8 +198,3 @@ module _ (c : Cluster) (groups : Groups) (order : List InstanceId) (now : ℕ) w
           left = follows.left;
           room = follows.room;
         }
-
--- one turn of a loop that folds a list
-pub folded_more : {X B : Type 0} (f : B → X → B) (z : B) (xs : List X) (i : ℕ) (d : X) (old new : B) → i < length xs → old ≡ fold f z (take i xs) → new ≡ f old (get_or xs i d) → new ≡ fold f z (take (i + 1) xs)
-folded_more {X} {B} f z xs i d old new lt so_far next =
-    next ∙ ap (λ (b : B). f b (get_or xs i d)) so_far ∙ sym (fold-append f z (take i xs) (get_or xs i d ∷ [])) ∙ sym (ap (λ (ys : List X). fold f z ys) (take_more xs i d lt))

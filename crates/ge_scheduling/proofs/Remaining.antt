@@ -3,7 +3,7 @@ use Rattle.std.proofs.Common.{◌≡◌, ℕ, suc, ◌+◌, ◌-◌, ◌≤◌, 
 use Rattle.std.specs.List.{list_any}
 use Rattle.std.specs.BTreeMap.{is_at}
 use Rattle.std.specs.Prelude.{nat_lt}
-use Rattle.std.proofs.lemmas.Bool.{cond-true, and_parts, or_parts, or_cases, or_from, or_left, or_right, cases_eq, true≢false, false_from_ne_true, ltb-true}
+use Rattle.std.proofs.lemmas.Bool.{cond-true, cond-false, cases_Bool, eqb-true, and_parts, or_parts, or_cases, or_from, or_left, or_right, cases_eq, true≢false, false_from_ne_true, ltb-true}
 use Rattle.std.proofs.lemmas.List.{length-map, length-set, get_or-map, get_or_read}
 use Rattle.std.proofs.lemmas.List.Elements.{All-nil, All-cons, All-head, All-tail}
 use Rattle.std.proofs.lemmas.List.Quantifiers.{position-Some}
@@ -31,7 +31,7 @@ use Rattle.ge_model_place.proofs.Same.{texts_equal, text_same, instances_equal, 
 use Rattle.ge_timeline.specs.Looks.{window_peak}
 use Rattle.ge_scheduling.specs.declared.rests.Rest.{Rest}
 use Rattle.ge_scheduling.specs.Common.{IsAsked}
-use Rattle.ge_scheduling.specs.Rests.{rest_of, host_rests, rests_at, is_of, asks_more, is_short, is_short_now, are_short, left_then, is_short_then, are_short_then, has_host, AreKept, IsLeft, AreLeft}
+use Rattle.ge_scheduling.specs.Rests.{rest_of, host_rests, rests_at, is_of, asks_more, is_short, is_short_now, are_short, left_then, is_short_then, are_short_then, are_short_at, has_host, AreKept, IsLeft, AreLeft}
 use Rattle.ge_scheduling.specs.Vacant.{goes_on, slots_of}
 use Rattle.ge_scheduling.proofs.Admitting.{any_first, any_second, counts_here, slots_count, has_room_for}
 use Rattle.ge_scheduling.proofs.Grown.{sum_grows}
@@ -162,15 +162,15 @@ module _ (c : Cluster) (groups : Groups) (now : ℕ) (booked : List Booking) whe
         → IsAsked c groups job x → asks_more resource most x ≡ true → takes ≡ false
     one_short limit resource most x of_it counts within is e =
         false_from_ne_true takes (λ does.
-        let parts = and_parts (is_of x.limit resource) (nat_lt most (min x.amount greatest_demand)) e in
+        let parts = and_parts (nat_lt most (min x.amount greatest_demand)) (is_of x.limit resource) e in
         let are = admissible_is c groups job booked now (one_slot at) does in
         let opened = (and_parts (is_open c groups job at) (are_open c groups job []) are.opened).0 in
         let some = is.some in
-        let same : per_slot c job (resource_of limit) ≡ x.amount = ap (λ name. per_slot c job name) (of_it ∙ sym (of_resource x.limit resource parts.0)) ∙ sym is.asks in
+        let same : per_slot c job (resource_of limit) ≡ x.amount = ap (λ name. per_slot c job name) (of_it ∙ sym (of_resource x.limit resource parts.1)) ∙ sym is.asks in
         let ever = lasts_on c job now on free in
         let room = has_room_for c groups job at booked now limit ever (counts opened free) (λ none. some (sym same ∙ none)) does in
         let peak = within_peak booked limit now (window_end_from c job now) now (omega arith) ever in
-        let over = ltb-true most (min x.amount greatest_demand) parts.1 in
+        let over = ltb-true most (min x.amount greatest_demand) parts.0 in
         absurd (omega (arith, same, room, peak, over, within)))
 
     some_short : (limit : LimitId) (resource : List ℕ) (most : ℕ) (asked : List Counted) → resource_of limit ≡ resource
@@ -255,32 +255,46 @@ module _ (old new : List (List ℕ × ℕ)) (host : List ℕ) (put : (q : List �
   pub own_host : has_host new host ≡ true
   own_host = put host ∙ or_left (text_eq host host) (has_host old host) (text_same host)
 
-module _ (booked : List Booking) (moment : ℕ) (asked : List Counted) (order : List InstanceId) (rests : List (List Rest)) where
-  pub none_kept : (hosts : List (List ℕ × ℕ)) → AreKept booked moment asked order rests 0 hosts
+module _ (now : ℕ) (booked : List Booking) (moment : ℕ) (asked : List Counted) (order : List InstanceId) (rests : List (List Rest)) where
+  pub none_kept : (hosts : List (List ℕ × ℕ)) → AreKept now booked moment asked order rests 0 hosts
   none_kept hosts = record { short = λ k at none less gone. absurd (omega (arith, less)) }
 
   -- one more instance: its host is kept, or something is short there
   pub kept_more : (old new : List (List ℕ × ℕ)) (place : ℕ) (at : InstanceId) (left : List Rest) (all : List (List Rest)) → place < length order → place < length rests → all ≡ rests → at ≡ slice_index_or order place at → left ≡ slice_index_or all place left
-      → ((q : List ℕ) → has_host new q ≡ false → has_host old q ≡ false) → (has_host new at.host ≡ false → are_short_then booked moment asked left ≡ true)
-      → AreKept booked moment asked order rests place old → AreKept booked moment asked order rests (place + 1) new
+      → ((q : List ℕ) → has_host new q ≡ false → has_host old q ≡ false) → (has_host new at.host ≡ false → are_short_at now booked moment asked left ≡ true)
+      → AreKept now booked moment asked order rests place old → AreKept now booked moment asked order rests (place + 1) new
   kept_more old new place at left all inside long same at_is left_is fewer here were =
       record {
         short = λ k d none less gone.
-            below_more (λ (n : ℕ). (e : InstanceId) (nothing : List Rest) → has_host new (slice_index_or order n e).host ≡ false → are_short_then booked moment asked (slice_index_or rests n nothing) ≡ true) place
+            below_more (λ (n : ℕ). (e : InstanceId) (nothing : List Rest) → has_host new (slice_index_or order n e).host ≡ false → are_short_at now booked moment asked (slice_index_or rests n nothing) ≡ true) place
             (λ n below e nothing away. were.short n e nothing below (fewer (slice_index_or order n e).host away))
             (λ e nothing away.
             let this : slice_index_or order place e ≡ at = sym (get_or_read order place at inside at_is e) in
             let those : slice_index_or rests place nothing ≡ left = sym (get_or_read rests place left long (left_is ∙ ap (λ xs. slice_index_or xs place left) same) nothing) in
-            ap (λ rs. are_short_then booked moment asked rs) those ∙ here (sym (ap (λ (x : InstanceId). has_host new x.host) this) ∙ away)) k less d none gone;
+            ap (λ rs. are_short_at now booked moment asked rs) those ∙ here (sym (ap (λ (x : InstanceId). has_host new x.host) this) ∙ away)) k less d none gone;
       }
 
-module _ (c : Cluster) (groups : Groups) (now moment : ℕ) (old booked : List Booking) (job : Job) (on : goes_on c moment ≡ true) (free : (job.advance == 0) ≡ true) where
+module _ (c : Cluster) (groups : Groups) (now moment : ℕ) (booked : List Booking) (job : Job) (on : goes_on c moment ≡ true) (free : (job.advance == 0) ≡ true) where
+  -- at the moment of the run by what is known to be left, at another by what is booked there
+  refused_at : (at : InstanceId) (rests : List Rest) (asked : List Counted) → All (IsLeft c groups now booked at) rests → All (IsAsked c groups job) asked → are_short_at now booked moment asked rests ≡ true
+      → takes_one c groups job booked moment at ≡ false
+  refused_at at rests asked left is short =
+      elim (cases_Bool (moment == now)) [
+        | inl this ↦
+            let same : moment ≡ now = eqb-true moment now this in
+            refused_short c groups moment booked job at on free rests asked (subst (λ n. All (IsLeft c groups n booked at) rests) (sym same) left) is
+            (sym (cond-true (moment == now) (are_short asked rests) (are_short_then booked moment asked rests) this) ∙ short)
+        | inr other ↦
+            refused_then c groups moment booked job at on free now booked rests asked left is
+            (sym (cond-false (moment == now) (are_short asked rests) (are_short_then booked moment asked rests) other) ∙ short)
+      ]
+
   -- where hosts are left out at which each instance is short of something
-  pub placed_on_hosts : (asked : List Counted) (order left : List InstanceId) (rests : List (List Rest)) (hosts : List (List ℕ × ℕ)) → AreLeft c groups now old order rests → All (IsAsked c groups job) asked
-      → AreKept booked moment asked order rests (length order) hosts → left ≡ filter (λ (at : InstanceId). has_host hosts at.host) order
+  pub placed_on_hosts : (asked : List Counted) (order left : List InstanceId) (rests : List (List Rest)) (hosts : List (List ℕ × ℕ)) → AreLeft c groups now booked order rests → All (IsAsked c groups job) asked
+      → AreKept now booked moment asked order rests (length order) hosts → left ≡ filter (λ (at : InstanceId). has_host hosts at.host) order
       → placement_of c groups left booked job moment ≡ placement_of c groups order booked job moment
   placed_on_hosts asked order left rests hosts are is kept left_is =
       ap (λ ats. placement_of c groups ats booked job moment) left_is
       ∙ placed_thinned c groups job booked moment (has_host hosts) order
       (each_at (λ (at : InstanceId). has_host hosts at.host ≡ false → takes_one c groups job booked moment at ≡ false) order (λ k d less gone.
-      refused_then c groups moment booked job (slice_index_or order k d) on free now old (slice_index_or rests k []) asked (are.each k d [] less) is (kept.short k d [] less gone)))
+      refused_at (slice_index_or order k d) (slice_index_or rests k []) asked (are.each k d [] less) is (kept.short k d [] less gone)))

@@ -1,5 +1,5 @@
 -- What is left at the moment of a run of an instance's slots and of its host's values, at most.
-use Rattle.std.specs.Prelude.{◌≡◌, ℕ, ◌+◌, ◌-◌, ◌≤◌, ◌<◌, ◌==◌, Bool, true, false, ◌&&◌, is_some, nat_lt, min, All, List, [], ◌∷◌, map, length, slice_index_or, Option, Some, None}
+use Rattle.std.specs.Prelude.{◌≡◌, ℕ, ◌+◌, ◌-◌, ◌≤◌, ◌<◌, ◌==◌, Bool, true, false, ◌&&◌, is_some, nat_lt, cond, min, All, List, [], ◌∷◌, map, length, slice_index_or, Option, Some, None}
 use Rattle.std.specs.List.{list_any}
 use Rattle.ge_collections.specs.Keyed.{text_eq, at_text}
 use Rattle.ge_model_bookings.specs.Bookings.{plain_sum}
@@ -41,7 +41,7 @@ is_of (Booked number at) resource = false
 
 -- whether more is asked of a resource than is left
 abbrev pub asks_more : List ℕ → ℕ → Counted → Bool
-asks_more resource most counted = is_of counted.limit resource && nat_lt most (min counted.amount greatest_demand)
+asks_more resource most counted = nat_lt most (min counted.amount greatest_demand) && is_of counted.limit resource
 
 abbrev pub is_short : List Counted → List ℕ → ℕ → Bool
 is_short asked resource most = list_any (asks_more resource most) asked
@@ -63,13 +63,17 @@ is_short_then booked moment asked rest = is_short asked rest.resource (left_then
 abbrev pub are_short_then : List Booking → ℕ → List Counted → List Rest → Bool
 are_short_then booked moment asked rests = list_any (is_short_then booked moment asked) rests
 
+-- at the moment of the run by what is known to be left then, at another by what is booked there
+abbrev pub are_short_at : ℕ → List Booking → ℕ → List Counted → List Rest → Bool
+are_short_at now booked moment asked rests = cond (moment == now) (are_short asked rests) (are_short_then booked moment asked rests)
+
 -- whether a host is among those that are kept
 abbrev pub has_host : List (List ℕ × ℕ) → List ℕ → Bool
 has_host hosts host = is_some (at_text hosts host)
 
 -- hosts that were kept are still kept, and those of instances before a place at which nothing is short
-pub record AreKept (booked : List Booking) (moment : ℕ) (asked : List Counted) (order : List InstanceId) (rests : List (List Rest)) (place : ℕ) (hosts : List (List ℕ × ℕ)) : Type 0 where
-  pub short : (k : ℕ) (at : InstanceId) (none : List Rest) → k < place → has_host hosts (slice_index_or order k at).host ≡ false → are_short_then booked moment asked (slice_index_or rests k none) ≡ true
+pub record AreKept (now : ℕ) (booked : List Booking) (moment : ℕ) (asked : List Counted) (order : List InstanceId) (rests : List (List Rest)) (place : ℕ) (hosts : List (List ℕ × ℕ)) : Type 0 where
+  pub short : (k : ℕ) (at : InstanceId) (none : List Rest) → k < place → has_host hosts (slice_index_or order k at).host ≡ false → are_short_at now booked moment asked (slice_index_or rests k none) ≡ true
 
 module _ (c : Cluster) (groups : Groups) (now : ℕ) (booked : List Booking) where
   -- no more of a resource is left of a limit that each job counts for to which the instance is open and that is sent into no reservation

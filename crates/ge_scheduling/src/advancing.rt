@@ -65,7 +65,15 @@ fn is_passed(passed: Option<u32>, number: u32) -> bool
     }
 }
 
-// Whether the kind of a job is noted, and none of its tasks may have slots kept.
+// Whether no task can start any more: no instance has a slot left, and there is no reservation that a job may be sent into.
+fn no_slot_is_left(at: &Setting<'_>, so_far: &Progress) -> bool
+    ensures { IsTrue result
+        → (so_far.now.vacant ≡ []) × (at.now.cluster.now.advances ≡ []) }
+{
+    so_far.vacant.is_empty() && at.cluster.advances.is_empty()
+}
+
+// Whether no task of a job may have slots kept, and none can start: no slot is left, or the job's kind is noted.
 fn is_shut(at: &Setting<'_>, so_far: &Progress, number: u32) -> bool
     requires { Follows at.now.cluster.now at.now.groups.now at.now.order.now
         at.now.moment at.now.kinds.now.entries so_far.now.booked so_far.now.decisions
@@ -80,18 +88,18 @@ fn is_shut(at: &Setting<'_>, so_far: &Progress, number: u32) -> bool
     if may_reserve(&at.cluster.sched, &so_far.tally, job) {
         return false;
     }
+    if no_slot_is_left(at, so_far) {
+        return true;
+    }
     is_noted(at.kinds, &so_far.full, number)
 }
 
-// Whether no task can start any more, and none may have slots kept: no instance has a slot left, there is no reservation that
-// a job may be sent into, and as many tasks have slots kept as may.
+// Whether no task can start any more, and none may have slots kept, since as many have as may.
 fn nothing_is_left(at: &Setting<'_>, so_far: &Progress) -> bool
     ensures { IsTrue result → (so_far.now.vacant ≡ []) × (at.now.cluster.now.advances ≡ [])
         × (at.now.cluster.now.sched.max_reservation ≤ so_far.now.tally.reserved) }
 {
-    so_far.vacant.is_empty()
-        && at.cluster.advances.is_empty()
-        && at.cluster.sched.max_reservation <= so_far.tally.reserved
+    at.cluster.sched.max_reservation <= so_far.tally.reserved && no_slot_is_left(at, so_far)
 }
 
 // Whether the tasks of a job are known to wait.

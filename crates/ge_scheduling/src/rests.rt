@@ -4,7 +4,7 @@ ghost use Rattle.ge_model_bookings.specs.Bookings.{same_instance};
 ghost use Rattle.ge_model_value.specs.Complexes.{is_consumable as is_consumed};
 ghost use Rattle.ge_model_place.specs.Limits.{consumables, resource_of};
 ghost use Rattle.ge_model_rows.specs.ScheduleRows.{Host};
-ghost use Rattle.ge_scheduling.specs.Rests.{rest_of as left_of, rests_at as left_at, is_of, asks_more as more_than, is_short as short_of, is_short_now as short_now, are_short as all_short_of, left_then as rest_then, is_short_then as short_then, are_short_then as all_short_then, AreLeft};
+ghost use Rattle.ge_scheduling.specs.Rests.{rest_of as left_of, rests_at as left_at, is_of, asks_more as more_than, is_short as short_of, is_short_now as short_now, are_short as all_short_of, left_then as rest_then, is_short_then as short_then, are_short_then as all_short_then, are_short_at as all_short_at, AreLeft};
 ghost use Rattle.ge_scheduling.specs.Vacant.{slots_of};
 
 use crate::setting::Setting;
@@ -248,7 +248,7 @@ pub(crate) fn is_of_resource(limit: &LimitId, resource: &Text) -> bool
 fn asks_more(resource: &Text, most: u128, counted: &Counted) -> bool
     ensures { result ≡ more_than resource.now most counted.now }
 {
-    is_of_resource(&counted.limit, resource) && most < u128::from(counted.amount)
+    most < u128::from(counted.amount) && is_of_resource(&counted.limit, resource)
 }
 
 fn is_short(asked: &[Counted], resource: &Text, most: u128) -> bool
@@ -285,16 +285,28 @@ fn is_short_then(booked: &Timeline, moment: u64, asked: &[Counted], rest: &Rest)
     is_short(asked, &rest.resource, left_then(booked, moment, rest))
 }
 
-/// Whether more is asked than is left of one of these at a moment.
-pub(crate) fn are_short_then(
-    booked: &Timeline,
-    moment: u64,
-    asked: &[Counted],
-    rests: &[Rest],
-) -> bool
+// Whether more is asked than is left of one of these by what is booked at a moment.
+fn are_short_then(booked: &Timeline, moment: u64, asked: &[Counted], rests: &[Rest]) -> bool
     ensures { result ≡ all_short_then booked.now moment asked.now rests.now }
 {
     rests
         .iter()
         .any(|rest| is_short_then(booked, moment, asked, rest))
+}
+
+/// Whether more is asked than is left of one of these at a moment. At that of the run nothing is looked up.
+pub(crate) fn are_short_at(
+    at: &Setting<'_>,
+    booked: &Timeline,
+    moment: u64,
+    asked: &[Counted],
+    rests: &[Rest],
+) -> bool
+    ensures { result ≡ all_short_at at.now.moment booked.now moment asked.now rests.now }
+{
+    if moment == at.moment {
+        are_short(asked, rests)
+    } else {
+        are_short_then(booked, moment, asked, rests)
+    }
 }

@@ -3,10 +3,10 @@ ghost use Rattle.std.specs.Prelude.{◌≡◌, ℕ, ◌==◌, ◌||◌, true, fa
 ghost use Rattle.ge_collections.specs.Keyed.{text_eq};
 ghost use Rattle.ge_model_place.specs.Placement.{placement_of};
 ghost use Rattle.ge_scheduling.specs.Common.{IsAsked};
-ghost use Rattle.ge_scheduling.specs.Rests.{has_host, are_short_then as all_short_then, AreKept, AreLeft};
+ghost use Rattle.ge_scheduling.specs.Rests.{has_host, are_short_at as all_short_at, AreKept, AreLeft};
 ghost use Rattle.ge_scheduling.specs.Vacant.{goes_on as has_moment};
 
-use crate::rests::{Rest, are_short_then};
+use crate::rests::{Rest, are_short_at};
 use crate::setting::Setting;
 use ge_demands::Counted;
 use ge_place::place_job;
@@ -29,6 +29,7 @@ fn keep_host(alloc: Global, hosts: &mut Hosts, host: &Text) -> Result<(), AllocE
 // Keeps the host of an instance, unless something is short there.
 fn note_host(
     alloc: Global,
+    at: &Setting<'_>,
     booked: &Timeline,
     moment: u64,
     asked: &[Counted],
@@ -39,9 +40,9 @@ fn note_host(
     ensures fewer { OnOk result ((q : Items ℕ)
         → has_host hosts.new q ≡ false → has_host hosts.old q ≡ false) }
     ensures here { OnOk result (has_host hosts.new instance.now.host ≡ false
-        → all_short_then booked.now moment asked.now left.now ≡ true) }
+        → all_short_at at.now.moment booked.now moment asked.now left.now ≡ true) }
 {
-    if are_short_then(booked, moment, asked, left.items()) {
+    if are_short_at(at, booked, moment, asked, left.items()) {
         return Ok(());
     }
     keep_host(alloc, hosts, &instance.host)?;
@@ -57,8 +58,8 @@ fn hosts_left(
     moment: u64,
 ) -> Result<Hosts, AllocError>
     requires { length rests.now ≡ length at.now.order.now }
-    ensures { IfOk result (λ hosts. AreKept booked.now moment asked.now at.now.order.now rests.now
-        (length at.now.order.now) hosts) }
+    ensures { IfOk result (λ hosts. AreKept at.now.moment booked.now moment asked.now
+        at.now.order.now rests.now (length at.now.order.now) hosts) }
 {
     let order = at.order;
     let lefts = rests.items();
@@ -67,7 +68,7 @@ fn hosts_left(
     while place < order.len() {
         let instance = &order[place];
         let left = &lefts[place];
-        note_host(alloc, booked, moment, asked, left, &mut hosts, instance)?;
+        note_host(alloc, at, booked, moment, asked, left, &mut hosts, instance)?;
         place += 1;
     }
     Ok(hosts)

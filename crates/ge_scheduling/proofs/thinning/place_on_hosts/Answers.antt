@@ -13,8 +13,8 @@ returns c =
     let groups = c.args.at.now.groups.now in
     let booked = c.args.booked.now in
     let order = c.args.at.now.order.now in
-    let kept = subst (λ counts. AreKept booked c.args.moment counts order c.args.rests.now (length order) c.in_ok-hosts.hosts) c.items-counts.ensures c.in_ok-hosts.ensures in
+    let kept = subst (λ counts. AreKept c.args.at.now.moment booked c.args.moment counts order c.args.rests.now (length order) c.in_ok-hosts.hosts) c.items-counts.ensures c.in_ok-hosts.ensures in
     c.in_ok-grants.ensures
     ∙ ap (λ ats. placement_of C groups ats booked c.args.job.now c.args.moment) c.items-order.ensures
-    ∙ placed_on_hosts C groups c.args.at.now.moment c.args.moment booked booked c.args.job.now c.requires.goes_on c.requires.free c.args.asked.now order c.in_ok-left.left c.args.rests.now c.in_ok-hosts.hosts c.requires.left
+    ∙ placed_on_hosts C groups c.args.at.now.moment c.args.moment booked c.args.job.now c.requires.goes_on c.requires.free c.args.asked.now order c.in_ok-left.left c.args.rests.now c.in_ok-hosts.hosts c.requires.left
     c.requires.asked kept c.in_ok-left.ensures
