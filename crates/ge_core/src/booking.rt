@@ -17,8 +17,7 @@ use ge_pieces::note;
 use ge_place::place_job;
 use ge_request::request_over;
 use ge_rows::{
-    Advance, Booking, Change, Cluster, Event, Grant, Kind, List, Options, Planned, Request, Text,
-    Twin,
+    Advance, Change, Cluster, Event, Grant, Kind, List, Options, Planned, Request, Text, Twin,
 };
 use ge_submitting::{no_request, number_given, option_word, text_given};
 use ge_timeline::Timeline;
@@ -96,16 +95,6 @@ fn is_booked_out(c: &Cluster) -> bool
     c.advances.len() >= ADVANCE_RESERVATIONS || c.next_advance > LAST_NUMBER
 }
 
-fn timeline_of(alloc: Global, bookings: &[Booking]) -> Result<Timeline, AllocError>
-    ensures { IfOk result (λ booked. booked ≡ bookings.now) }
-{
-    let mut booked = Timeline::new(alloc)?;
-    for one in bookings {
-        booked.add(one)?;
-    }
-    Ok(booked)
-}
-
 #[tactic(auto, unfolding(ge_model_place::specs::Advances::advance_grants))]
 fn grants_for(
     alloc: Global,
@@ -118,7 +107,7 @@ fn grants_for(
     let groups = expand(alloc, c)?;
     let order = instance_order(alloc, c, &groups)?;
     let bookings = base_bookings(alloc, c, &groups, now)?;
-    let booked = timeline_of(alloc, bookings.items())?;
+    let booked = Timeline::from_bookings(alloc, bookings)?;
     let job = stand_in(alloc, asked)?;
     place_job(alloc, c, &groups, order.items(), &booked, &job, asked.from)
 }

@@ -2,6 +2,7 @@
 ghost use Rattle.std.specs.Prelude.{◌≡◌, [], ◌∷◌, ◌++◌, IfOk, OnOk, codes, decimal, filter_map, flat_map};
 ghost use Rattle.ge_rows.specs.Parts.{start_of};
 ghost use Rattle.ge_model_core.specs.Scheduling as scheduling;
+ghost use Rattle.ge_scheduling.specs.Bases.{IsBasis};
 
 use crate::prioritizing::priorities;
 use ge_access::is_manager;
@@ -13,7 +14,7 @@ use ge_rows::{
     Change, Cluster, Decision, Entry, Event, List, Planned, Reply, Reservation, Start, TaskId,
     Text, Twin,
 };
-use ge_scheduling::run;
+use ge_scheduling::{Basis, all_wait, basis_of, run_on};
 use ge_wording::decimal_text;
 use std::alloc::{AllocError, Global};
 
@@ -93,13 +94,34 @@ fn starts_in(alloc: Global, decisions: &[Decision]) -> Result<List<Start>, Alloc
     Ok(starts)
 }
 
+// The decisions of a run on its basis, over all candidates in the order of their priorities.
 #[tactic(auto, unfolding(ge_model_core::specs::Scheduling::decisions_at))]
-fn decisions_at(alloc: Global, c: &Cluster, now: u64) -> Result<List<Decision>, AllocError>
+fn decisions_on(
+    alloc: Global,
+    c: &Cluster,
+    basis: Basis,
+    now: u64,
+) -> Result<List<Decision>, AllocError>
+    requires basis { IsBasis c.now basis }
+    requires moment { basis.moment ≡ now }
     ensures { IfOk result (λ decisions. decisions ≡ scheduling.decisions_at c.now now) }
 {
     let prios = priorities(alloc, c, now)?;
     let order = order(alloc, c, &prios, now)?;
-    run(alloc, c, order.items(), now)
+    run_on(alloc, c, basis, order.items())
+}
+
+// The decisions of a run of which anything is told. Where each task waits, in whatever order, none is made.
+fn decisions_told(alloc: Global, c: &Cluster, e: &Event) -> Result<List<Decision>, AllocError>
+    ensures { IfOk result (λ decisions. scheduling.decided e.now decisions
+        ≡ scheduling.decided e.now (scheduling.decisions_at c.now e.now.moment)) }
+{
+    let basis = basis_of(alloc, c, e.moment)?;
+    if all_wait(c, &basis) {
+        return Ok(List::new(alloc));
+    }
+    let decisions = decisions_on(alloc, c, basis, e.moment)?;
+    Ok(decisions)
 }
 
 fn decided(alloc: Global, e: &Event, decisions: &[Decision]) -> Result<Planned, AllocError>
@@ -118,7 +140,8 @@ fn decided(alloc: Global, e: &Event, decisions: &[Decision]) -> Result<Planned, 
 }
 
 /// The plan of a scheduling run at the event's moment: NotPermitted for whoever is no manager, else a line for each start and each
-/// reservation, and an entry with the starts, also where there is none.
+/// reservation, and an entry with the starts, also where there is none. Priorities and their order are made only where a task may
+/// start or have slots kept.
 #[tactic(auto, unfolding(ge_model_core::specs::Scheduling::sched_plan))]
 pub fn plan_run(alloc: Global, c: &Cluster, e: &Event) -> Result<Planned, AllocError>
     ensures { IfOk result (λ planned. planned ≡ scheduling.sched_plan c.now e.now) }
@@ -126,6 +149,6 @@ pub fn plan_run(alloc: Global, c: &Cluster, e: &Event) -> Result<Planned, AllocE
     if !is_manager(c, &e.user) {
         return refuse(alloc, Refusal::NotPermitted);
     }
-    let decisions = decisions_at(alloc, c, e.moment)?;
+    let decisions = decisions_told(alloc, c, e)?;
     decided(alloc, e, decisions.items())
 }

@@ -13,7 +13,7 @@ use Rattle.ge_model_rows.specs.ClusterRows.{Cluster}
 use Rattle.ge_model_rows.specs.JobRows.{Job}
 use Rattle.ge_model_jobs.proofs.SameKind.{equal_at, one_kind}
 use Rattle.ge_model_order.specs.Urgency.{resources_urgency, urgency_of}
-use Rattle.ge_rows.specs.JobShort.{job_facts, job_kind, job_labels}
+use Rattle.ge_rows.specs.JobShort.{job_facts, job_labels}
 use Rattle.ge_rows.specs.declared.labels.JobFacts.{JobFacts}
 use Rattle.ge_rows.specs.contracts.labels.JobLabelOrd.TheImpl.{cmp-value as by_label}
 use Rattle.ge_order.specs.Kinds.{kind_in, asked_of, SameAsked, AreAsked, TellJobs, urgent_by, told_standing}

@@ -1,19 +1,16 @@
 -- What is told of a job is what its tasks say.
-use Rattle.std.proofs.Common.{◌≡◌, ℕ, zero, suc, ◌+◌, ◌-◌, ◌/◌, ◌==◌, Bool, true, false, not, ◌||◌, ◌&&◌, cond, List, [], ◌∷◌, ◌++◌, Option, Some, None, refl, sym, subst, ap, ◌∙◌, arith, map, filter, fold, take, length, nat_lt}
+use Rattle.std.proofs.Common.{◌≡◌, ℕ, zero, suc, ◌+◌, ◌-◌, ◌/◌, ◌==◌, Bool, true, false, not, ◌||◌, ◌&&◌, cond, List, [], ◌∷◌, ◌++◌, Option, Some, None, refl, sym, ap, ◌∙◌, arith, map, filter, fold, take, length, nat_lt}
 use Rattle.std.specs.Prelude.{All, IfSome, if◌then◌else◌, refl as same}
 use mathlib.Core.Bool.{true≢false}
 use native.Mathlib.Nat.{zero-div}
 use Rattle.std.proofs.lemmas.Bool.{eqb-true}
-use Rattle.std.specs.Cmp.{nat_cmp_total}
 use Rattle.std.specs.List.{AllByRecursion, list_any}
 use Rattle.std.specs.List.Sorted.{IsStrictlySortedBy}
 use Rattle.std.specs.Map.{keys_of, values_of}
-use Rattle.std.specs.Ordering.{nat_cmp, is_eq, ordering_reverse}
-use Rattle.std.specs.declared.cmp.Ordering.TheVariants.{Less}
-use Rattle.std.proofs.lemmas.Cmp.{eq_by_cmp_equiv}
+use Rattle.std.specs.Ordering.{nat_cmp}
 use Rattle.std.proofs.lemmas.List.Elements.{recursion_from_All}
 use Rattle.std.proofs.lemmas.Map.Lookups.{exact_unsigned}
-use Rattle.ge_beside.specs.Met.{AreFound}
+use Rattle.ge_beside.proofs.Walked.{found_each}
 use Rattle.ge_collections.specs.Keyed.{at_number}
 use Rattle.ge_collections.specs.Short.{AreShort, short_of}
 use Rattle.ge_collections.specs.declared.short_row.ShortRow.{ShortRow}
@@ -110,23 +107,6 @@ module _ (c : Cluster) (now number : ℕ) where
         ap (λ each. is_empty (first_tasks 1 (difference job.queued (fold (with_holding c.jobs) [] each)))) (nothing_in job.after_each follow.1) ∙ some_waits job.queued form waits,
       ))
       ∙ ap (λ o. not (is_empty (eligible_of c.jobs now 1 o))) (sym there)
-
--- in a table whose keys rise each row is found at its key
-found_each : {V : Type 0} (rows : List (ℕ × V)) → IsStrictlySortedBy nat_cmp (keys_of rows) → AllByRecursion (λ e. at_number rows e.0 ≡ Some e.1) rows
-unfolding IsStrictlySortedBy
-found_each [] rising = tt
-found_each {V} (row ∷ rows) rising =
-    (ap (λ b. cond b (Some row.1) (at_number rows row.0)) ((eq_by_cmp_equiv nat_cmp_total).refl row.0), further rows rising.0 (found_each rows rising.1))
-  where
-    further : (more : List (ℕ × V)) → AllByRecursion (λ key. nat_cmp row.0 key ≡ Less) (keys_of more) → AllByRecursion (λ e. at_number rows e.0 ≡ Some e.1) more
-        → AllByRecursion (λ e. at_number (row ∷ rows) e.0 ≡ Some e.1) more
-    further [] above all = tt
-    further (e ∷ more) above all =
-        (ap (λ o. cond (is_eq o) (Some row.1) (at_number rows e.0)) (nat_cmp_total.antisymm e.0 row.0 ∙ ap ordering_reverse above.0) ∙ all.0, further more above.1 all.1)
-
--- so each row of a walk that begins is found
-pub all_found : {V : Type 0} (rows entries : List (ℕ × V)) → entries ≡ rows → IsStrictlySortedBy nat_cmp (keys_of rows) → AreFound rows entries
-all_found rows entries is rising = subst (λ es. AreFound rows es) (sym is) (found_each rows rising)
 
 -- what holds of each job by its own types
 abbrev pub IsOrderlyJob : Job → Type 0

@@ -5,7 +5,6 @@ use Rattle.ge_base.specs.Fixed.{cut_sum, cut_product}
 use Rattle.ge_collections.specs.Keyed.{at_number}
 use Rattle.ge_collections.specs.declared.short_row.ShortRow.{ShortRow}
 use Rattle.ge_model_rows.specs.ClusterRows.{Cluster}
-use Rattle.ge_model_rows.specs.JobRows.{Job}
 use Rattle.ge_model_order.specs.Urgency.{resources_urgency}
 use Rattle.ge_rows.specs.JobShort.{job_facts}
 use Rattle.ge_rows.specs.declared.labels.JobFacts.{JobFacts}

@@ -1,5 +1,5 @@
 -- A limit that counts at whatever instance and has no room for one slot: nothing is placed.
-use Rattle.std.proofs.Common.{◌≡◌, ℕ, ◌+◌, ◌*◌, ◌≤◌, ◌<◌, ◌==◌, inl, inr, Bool, true, false, not, ◌&&◌, ◌||◌, cond, min, List, [], ◌∷◌, ◌++◌, length, map, flat_map, filter, is_some, All, slice_index_or, Option, Some, None, refl, sym, subst, ap, ◌∙◌, arith}
+use Rattle.std.proofs.Common.{◌≡◌, ℕ, ◌+◌, ◌≤◌, ◌<◌, ◌==◌, inl, inr, Bool, true, false, not, ◌&&◌, ◌||◌, cond, min, List, [], ◌∷◌, ◌++◌, length, map, flat_map, filter, is_some, All, slice_index_or, Option, Some, None, refl, sym, subst, ap, ◌∙◌, arith}
 use Rattle.std.specs.List.{list_any}
 use Rattle.std.specs.Prelude.{nat_le, nat_lt}
 use Rattle.std.proofs.lemmas.Bool.{cond-true, cond-false, cases_Bool, and_parts, or_parts, or_cases, or_from, true≢false, false_from_ne_true, cases_lt, leb-false, ltb-true, lt-ltb}
@@ -19,7 +19,7 @@ use Rattle.ge_model_rows.specs.ScheduleRows.{Advance as Booked, QuotaKey}
 use Rattle.ge_model_bookings.specs.Bookings.{same_limit, demand_on, peak}
 use Rattle.ge_model_jobs.specs.Accounts.{pe_name}
 use Rattle.ge_model_place.specs.Demands.{counts_for, slots_for, amount_for}
-use Rattle.ge_model_place.specs.Limits.{Counted as Limited, greatest_demand, capacity_of, consumables, is_other, instance_limits, host_limits, pe_limits, who_at, configured_limits, limits_at, counted_at, per_slot, is_per_job, resource_of, demands_of}
+use Rattle.ge_model_place.specs.Limits.{Counted as Limited, greatest_demand, consumables, is_other, instance_limits, host_limits, pe_limits, who_at, configured_limits, limits_at, counted_at, per_slot, is_per_job, resource_of, demands_of}
 use Rattle.ge_model_place.specs.Opening.{slots_name, global_name}
 use Rattle.ge_model_place.specs.Placement.{placement_of}
 use Rattle.ge_model_place.specs.Quotas.{names_user, names, admits_name, rule_matches, rule_from, rule_key, keys_with, keys_of_set, quota_keys}

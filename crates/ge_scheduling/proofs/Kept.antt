@@ -1,5 +1,5 @@
 -- One more task is decided, and a job whose tasks wait is kept.
-use Rattle.std.proofs.Common.{◌+◌, ◌≤◌, ◌<◌, ◌==◌, ◌&&◌, ◌≡◌, ℕ, Bool, true, false, cond, List, [], ◌∷◌, ◌++◌, Option, Some, None, IfSome, refl, sym, subst, ap, ◌∙◌}
+use Rattle.std.proofs.Common.{◌≤◌, ◌==◌, ◌&&◌, ◌≡◌, ℕ, Bool, true, false, cond, List, [], ◌∷◌, ◌++◌, Option, Some, None, IfSome, refl, sym, subst, ap, ◌∙◌}
 use Rattle.std.specs.Prelude.{nat_lt}
 use Rattle.std.specs.Ordering.{nat_cmp}
 use Rattle.std.specs.BTreeSet.{BTreeSet, contains}
@@ -135,22 +135,26 @@ module _ (c : Cluster) (groups : Groups) (order : List InstanceId) (now : ℕ) w
       (ap (λ given. started_by (owner_is_full c decisions job.owner) (serial_after c decisions) task given) nowhere)
 
   -- where nothing can be placed now and no task may be reserved
-  pub all_must_wait : (booked : List Booking) (decisions : List Decision) (tally : Tally) (number : ℕ) → IsTallied c decisions tally → ((job : Job) → placement_of c groups order booked job now ≡ None)
-      → c.sched.max_reservation ≤ tally.reserved → Waits c groups order now booked decisions number
-  all_must_wait booked decisions tally number tallied nowhere enough task same =
+  pub must_each_wait : (booked : List Booking) (decisions : List Decision) → ((job : Job) → placement_of c groups order booked job now ≡ None)
+      → ((job : Job) → may_reserve c decisions (Some job) ≡ false) → (task : TaskId) → decision_of c groups order now booked decisions task ≡ Skip task
+  must_each_wait booked decisions nowhere unreserved task =
       model_by_parts c groups order now booked decisions task ∙ here (at_number c.jobs task.job)
     where
-      unreserved : (job : Job) → may_reserve c decisions (Some job) ≡ false
-      unreserved job =
-          sym (may_same c decisions tally tallied job)
-          ∙ and_right (job.reserve && job.advance == 0) (nat_lt tally.reserved c.sched.max_reservation) (le-ltb tally.reserved c.sched.max_reservation enough)
-
       here : (job : Option Job) → by_parts c groups order now booked decisions job task ≡ Skip task
       here None = refl
       here (Some job) =
           ap (λ m. decision_by c groups order now booked (owner_is_full c decisions job.owner) m (serial_after c decisions) (Some job) task) (unreserved job)
           ∙ must_wait c groups order now booked (owner_is_full c decisions job.owner) (serial_after c decisions) (Some job) task (placement_of c groups order booked job now)
           (ap (λ given. started_by (owner_is_full c decisions job.owner) (serial_after c decisions) task given) (nowhere job))
+
+  -- where as many are reserved as may be, by what is counted
+  pub all_must_wait : (booked : List Booking) (decisions : List Decision) (tally : Tally) (number : ℕ) → IsTallied c decisions tally → ((job : Job) → placement_of c groups order booked job now ≡ None)
+      → c.sched.max_reservation ≤ tally.reserved → Waits c groups order now booked decisions number
+  all_must_wait booked decisions tally number tallied nowhere enough task same =
+      must_each_wait booked decisions nowhere
+      (λ job.
+      sym (may_same c decisions tally tallied job)
+      ∙ and_right (job.reserve && job.advance == 0) (nat_lt tally.reserved c.sched.max_reservation) (le-ltb tally.reserved c.sched.max_reservation enough)) task
 
   -- a job whose tasks wait, after one more that does
   waits_still : (booked : List Booking) (decisions : List Decision) (tally : Tally) (skipped : TaskId) (passed : Option ℕ) → IsTallied c decisions tally

@@ -1,18 +1,17 @@
 -- Instances all of whose slots are booked: they take nothing of a job that asks for one slot, now and as bookings grow.
-use Rattle.std.proofs.Common.{◌≡◌, ℕ, ◌+◌, ◌≤◌, ◌<◌, ◌==◌, inl, inr, Bool, true, false, not, ◌&&◌, ◌||◌, cond, min, max, List, [], ◌∷◌, ◌++◌, filter, find, fold, Option, Some, None, option_map, refl, sym, subst, ap, ◌∙◌, arith}
+use Rattle.std.proofs.Common.{◌≡◌, ℕ, ◌+◌, ◌≤◌, ◌<◌, ◌==◌, inl, inr, Bool, true, false, not, ◌&&◌, cond, min, max, List, [], ◌∷◌, ◌++◌, filter, fold, Option, Some, None, refl, sym, subst, ap, ◌∙◌, arith}
 use Rattle.std.specs.List.{list_any}
 use Rattle.std.specs.Prelude.{nat_lt}
 use Rattle.std.proofs.lemmas.Bool.{cond_both, cond-true, cond-false, cases_Bool, and_parts, and_cases, or_from, leb-true, ltb-true, eqb-true, true≢false}
 use Rattle.ge_collections.specs.Keyed.{at_number}
 use Rattle.ge_model_rows.specs.ClusterRows.{Cluster}
 use Rattle.ge_model_rows.specs.HostRows.{Groups, InstanceId}
-use Rattle.ge_model_rows.specs.JobRows.{Job, PeRequest, Advance}
+use Rattle.ge_model_rows.specs.JobRows.{Job, Advance}
 use Rattle.ge_model_rows.specs.ScheduleRows.{LimitId, Booking}
 use Rattle.ge_model_rows.specs.ValueRows.{infinity}
 use Rattle.ge_model_bookings.specs.Bookings.{forever, same_instance, window_end, plain_sum, begins_inside, raised, peak}
 use Rattle.ge_model_place.specs.Limits.{capacity_of}
 use Rattle.ge_model_place.specs.Placement.{placement_of}
-use Rattle.ge_model_place.specs.Runs.{one_slot}
 use Rattle.ge_model_place.specs.Windows.{duration_of, advance_of, no_later_than, window_end_from, lasts_at, next_moment}
 use Rattle.ge_model_place.proofs.Admitted.{out_of_time}
 use Rattle.ge_model_place.proofs.First.{takes_one}

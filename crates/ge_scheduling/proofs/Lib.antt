@@ -12,4 +12,5 @@ pub mod LeftOut
 pub mod Remaining
 pub mod Singly
 pub mod Kept
+pub mod Waiting
 pub mod Sound

@@ -1,5 +1,5 @@
 -- What is left at instances: one that has too little takes no slot, now and as bookings grow.
-use Rattle.std.proofs.Common.{◌≡◌, ℕ, suc, ◌+◌, ◌-◌, ◌≤◌, ◌<◌, ◌==◌, inl, inr, Bool, true, false, ◌&&◌, ◌||◌, cond, min, All, List, [], ◌∷◌, ◌++◌, map, filter, length, get_or, position, slice_set, slice_index_or, Option, Some, None, refl, sym, subst, ap, ◌∙◌, is_some, arith, get_or-set_same, get_or-set_other, below_more}
+use Rattle.std.proofs.Common.{◌≡◌, ℕ, suc, ◌+◌, ◌-◌, ◌≤◌, ◌<◌, ◌==◌, inl, inr, Bool, true, false, ◌||◌, cond, min, All, List, [], ◌∷◌, ◌++◌, map, filter, length, get_or, position, slice_set, slice_index_or, Option, Some, None, refl, sym, subst, ap, ◌∙◌, is_some, arith, get_or-set_same, get_or-set_other, below_more}
 use Rattle.std.specs.List.{list_any}
 use Rattle.std.specs.BTreeMap.{is_at}
 use Rattle.std.specs.Prelude.{nat_lt}
@@ -70,8 +70,8 @@ module _ (c : Cluster) (groups : Groups) (job : Job) (at : InstanceId) where
       ∙ any_first test (first ++ second ++ third ++ fourth) fifth (any_first test (first ++ second ++ third) fourth (any_first test (first ++ second) third (any_second test first second e)))
 
 module _ (c : Cluster) (groups : Groups) (now : ℕ) (booked : List Booking) where
-  abbrev left_of : LimitId → Rest
-  left_of limit = rest_of c groups now booked limit
+  abbrev left_of : LimitId → ℕ → Rest
+  left_of limit least = rest_of c groups now booked limit least
 
   within_rest : (limit : LimitId) → capacity_of c groups limit ≤ plain_sum booked limit now + (capacity_of c groups limit - window_peak booked limit now (next_moment now))
   within_rest limit = let peak = peak_there booked limit now in omega (arith, peak)
@@ -80,15 +80,16 @@ module _ (c : Cluster) (groups : Groups) (now : ℕ) (booked : List Booking) whe
     values_left : (all names : List (List ℕ)) → ((job : Job) (name : List ℕ) → (job.advance == 0) ≡ true → list_any (λ other. same_limit other (Host at.host name)) (map (Host at.host) all) ≡ true
         → counts_here c groups job at (Host at.host name) ≡ true)
         → ((name : List ℕ) → list_any (λ other. same_limit other (Host at.host name)) (map (Host at.host) names) ≡ true → list_any (λ other. same_limit other (Host at.host name)) (map (Host at.host) all) ≡ true)
-        → All (IsLeft c groups now booked at) (map (λ name. left_of (Host at.host name)) names)
+        → All (IsLeft c groups now booked at) (map (λ name. left_of (Host at.host name) 0) names)
     values_left all [] counts up = All-nil (IsLeft c groups now booked at)
     values_left all (name ∷ names) counts up =
-        All-cons (IsLeft c groups now booked at) (left_of (Host at.host name)) (map (λ n. left_of (Host at.host n)) names)
+        All-cons (IsLeft c groups now booked at) (left_of (Host at.host name) 0) (map (λ n. left_of (Host at.host n) 0) names)
         (record {
           of_it = refl;
           whole = refl;
           counts = λ job opened free. counts job name free (up name (or_left (same_limit (Host at.host name) (Host at.host name)) (list_any (λ other. same_limit other (Host at.host name)) (map (Host at.host) names)) (limit_same (Host at.host name))));
           within = within_rest (Host at.host name);
+          least = λ job. omega arith;
         })
         (values_left all names counts (λ other e. up other (or_right (same_limit (Host at.host name) (Host at.host other)) (list_any (λ limit. same_limit limit (Host at.host other)) (map (Host at.host) names)) e)))
 
@@ -102,8 +103,8 @@ module _ (c : Cluster) (groups : Groups) (now : ℕ) (booked : List Booking) whe
 
     left_here : All (IsLeft c groups now booked at) (rests_at c groups now booked at)
     left_here =
-        All-cons (IsLeft c groups now booked at) (left_of (slots_of at)) (host_rests c groups now booked at.host (at_text c.hosts at.host))
-        (record { of_it = refl; whole = refl; counts = λ job opened free. slots_count c groups job at opened free; within = within_rest (slots_of at) })
+        All-cons (IsLeft c groups now booked at) (left_of (slots_of at) 1) (host_rests c groups now booked at.host (at_text c.hosts at.host))
+        (record { of_it = refl; whole = refl; counts = λ job opened free. slots_count c groups job at opened free; within = within_rest (slots_of at); least = λ job. omega arith })
         (host_left (at_text c.hosts at.host) refl)
 
   pub all_left : (order : List InstanceId) (rests : List (List Rest)) → rests ≡ map (rests_at c groups now booked) order → AreLeft c groups now booked order rests
@@ -173,6 +174,19 @@ module _ (c : Cluster) (groups : Groups) (now : ℕ) (booked : List Booking) whe
         let over = ltb-true most (min x.amount greatest_demand) parts.0 in
         absurd (omega (arith, same, room, peak, over, within)))
 
+    -- each task that counts for a limit takes more of it than is left
+    none_left : (limit : LimitId) (most least : ℕ) → (is_open c groups job at ≡ true → (job.advance == 0) ≡ true → counts_here c groups job at limit ≡ true)
+        → capacity_of c groups limit ≤ plain_sum booked limit now + most → least ≤ min (per_slot c job (resource_of limit)) greatest_demand → nat_lt most least ≡ true → takes ≡ false
+    none_left limit most least counts within takes_that e =
+        false_from_ne_true takes (λ does.
+        let are = admissible_is c groups job booked now (one_slot at) does in
+        let opened = (and_parts (is_open c groups job at) (are_open c groups job []) are.opened).0 in
+        let ever = lasts_on c job now on free in
+        let over = ltb-true most least e in
+        let room = has_room_for c groups job at booked now limit ever (counts opened free) (λ none. omega (arith, over, takes_that, none)) does in
+        let peak = within_peak booked limit now (window_end_from c job now) now (omega arith) ever in
+        absurd (omega (arith, room, peak, over, takes_that, within)))
+
     some_short : (limit : LimitId) (resource : List ℕ) (most : ℕ) (asked : List Counted) → resource_of limit ≡ resource
         → (is_open c groups job at ≡ true → (job.advance == 0) ≡ true → counts_here c groups job at limit ≡ true) → capacity_of c groups limit ≤ plain_sum booked limit now + most
         → All (IsAsked c groups job) asked → is_short asked resource most ≡ true → takes ≡ false
@@ -183,12 +197,22 @@ module _ (c : Cluster) (groups : Groups) (now : ℕ) (booked : List Booking) whe
           | inr there ↦ some_short limit resource most xs of_it counts within (All-tail (IsAsked c groups job) x xs is) there
         ]
 
+    -- by either
+    either_short : (rest : Rest) (most : ℕ) (asked : List Counted) → resource_of rest.limit ≡ rest.resource
+        → (is_open c groups job at ≡ true → (job.advance == 0) ≡ true → counts_here c groups job at rest.limit ≡ true) → capacity_of c groups rest.limit ≤ plain_sum booked rest.limit now + most
+        → rest.least ≤ min (per_slot c job (resource_of rest.limit)) greatest_demand → All (IsAsked c groups job) asked → (nat_lt most rest.least || is_short asked rest.resource most) ≡ true → takes ≡ false
+    either_short rest most asked of_it counts within least is e =
+        elim (or_cases (nat_lt most rest.least) (is_short asked rest.resource most) e) [
+          | inl none ↦ none_left rest.limit most rest.least counts within least none
+          | inr less ↦ some_short rest.limit rest.resource most asked of_it counts within is less
+        ]
+
     pub refused_short : (rests : List Rest) (asked : List Counted) → All (IsLeft c groups now booked at) rests → All (IsAsked c groups job) asked → are_short asked rests ≡ true → takes ≡ false
     refused_short [] asked left is e = absurd (true≢false (sym e))
     refused_short (rest ∷ rests) asked left is e =
         let first = All-head (IsLeft c groups now booked at) rest rests left in
         elim (or_cases (is_short_now asked rest) (are_short asked rests) e) [
-          | inl here ↦ some_short rest.limit rest.resource rest.most asked first.of_it (λ opened alone. first.counts job opened alone) first.within is here
+          | inl here ↦ either_short rest rest.most asked first.of_it (λ opened alone. first.counts job opened alone) first.within (first.least job) is here
           | inr there ↦ refused_short rests asked (All-tail (IsLeft c groups now booked at) rest rests left) is there
         ]
 
@@ -200,7 +224,7 @@ module _ (c : Cluster) (groups : Groups) (now : ℕ) (booked : List Booking) whe
         let whole = first.whole in
         let most = within_rest rest.limit in
         elim (or_cases (is_short_then booked now asked rest) (are_short_then booked now asked rests) e) [
-          | inl here ↦ some_short rest.limit rest.resource (left_then booked now rest) asked first.of_it (λ opened alone. first.counts job opened alone) (omega (arith, whole, most)) is here
+          | inl here ↦ either_short rest (left_then booked now rest) asked first.of_it (λ opened alone. first.counts job opened alone) (omega (arith, whole, most)) (first.least job) is here
           | inr there ↦ refused_then before old rests asked (All-tail (IsLeft c groups before old at) rest rests left) is there
         ]
 
@@ -220,7 +244,7 @@ module _ (c : Cluster) (groups : Groups) (now : ℕ) (booked more : List Booking
   left_later at rest is =
       let within = is.within in
       let grows = sum_grows rest.limit now booked more in
-      record { of_it = is.of_it; counts = is.counts; whole = is.whole; within = omega (arith, within, grows) }
+      record { of_it = is.of_it; counts = is.counts; whole = is.whole; within = omega (arith, within, grows); least = is.least }
 
   -- no more is left as bookings grow
   pub all_left_later : (order : List InstanceId) (rests : List (List Rest)) → AreLeft c groups now booked order rests → AreLeft c groups now (booked ++ more) order rests

@@ -1,6 +1,6 @@
 -- Hosts at which no instance takes one slot may be left out of a placement, whatever its rule.
-use Rattle.std.proofs.Common.{◌≡◌, ℕ, zero, suc, ◌+◌, ◌*◌, ◌≤◌, ◌==◌, inl, inr, Bool, true, false, ◌&&◌, cond, min, max, List, [], ◌∷◌, ◌++◌, map, filter, fold, sum_by, Option, Some, None, option_map, unwrap_or, refl, sym, subst, ap, ◌∙◌, arith}
-use Rattle.std.specs.List.{list_all, list_any, filter_map, cons_option}
+use Rattle.std.proofs.Common.{◌≡◌, ℕ, zero, suc, ◌+◌, ◌*◌, ◌==◌, inl, inr, Bool, true, false, ◌&&◌, cond, min, max, List, [], ◌∷◌, ◌++◌, map, filter, fold, sum_by, Option, Some, None, option_map, unwrap_or, refl, sym, subst, ap, ◌∙◌, arith}
+use Rattle.std.specs.List.{list_all, filter_map, cons_option}
 use Rattle.std.specs.Prelude.{nat_le, nat_lt}
 use Rattle.std.proofs.lemmas.Bool.{cond_both, cond-true, cond-false, cases_Bool, and_parts, and_from, and_right, or_from, true≢false, false_from_ne_true, leb-true, le-leb, ltb-true, eq-eqb}
 use Rattle.std.proofs.lemmas.List.{append-nil}
@@ -10,7 +10,7 @@ use Rattle.std.proofs.lemmas.Map.Views.{any-filter_same}
 use Rattle.ge_collections.specs.Keyed.{text_eq, at_text}
 use Rattle.ge_model_rows.specs.ClusterRows.{Cluster}
 use Rattle.ge_model_rows.specs.HostRows.{Groups, InstanceId}
-use Rattle.ge_model_rows.specs.JobRows.{Job, PeRequest, Grant}
+use Rattle.ge_model_rows.specs.JobRows.{Job, PeRequest}
 use Rattle.ge_model_rows.specs.PeRows.{PeRow, Allocation, Fixed, PeSlots, FillUp, RoundRobin}
 use Rattle.ge_model_rows.specs.ScheduleRows.{LimitId, Booking}
 use Rattle.ge_model_value.specs.Pieces.{is_one_of, with_text, each_once}

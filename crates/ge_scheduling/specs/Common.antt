@@ -1,5 +1,5 @@
 -- Limits that one slot of a job counts for at whatever instance.
-use Rattle.std.specs.Prelude.{◌≡◌, ℕ, ◌+◌, Bool, true, false, not, ◌&&◌, ◌||◌, is_some, nat_lt, nat_le, min, List, Option}
+use Rattle.std.specs.Prelude.{◌≡◌, ℕ, ◌+◌, Bool, true, false, not, ◌&&◌, ◌||◌, is_some, nat_lt, nat_le, min, List}
 use Rattle.std.specs.List.{list_any}
 use Rattle.ge_model_rows.specs.ClusterRows.{Cluster}
 use Rattle.ge_model_rows.specs.HostRows.{Groups, InstanceId}

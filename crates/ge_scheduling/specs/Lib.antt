@@ -2,6 +2,7 @@ pub mod Counts
 pub mod Verdicts
 pub mod KindNotes
 pub mod Vacant
+pub mod Bases
 pub mod Common
 pub mod Rests
 pub mod Passing

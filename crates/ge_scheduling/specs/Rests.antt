@@ -1,5 +1,5 @@
 -- What is left at the moment of a run of an instance's slots and of its host's values, at most.
-use Rattle.std.specs.Prelude.{◌≡◌, ℕ, ◌+◌, ◌-◌, ◌≤◌, ◌<◌, ◌==◌, Bool, true, false, ◌&&◌, is_some, nat_lt, cond, min, All, List, [], ◌∷◌, map, length, slice_index_or, Option, Some, None}
+use Rattle.std.specs.Prelude.{◌≡◌, ℕ, ◌+◌, ◌-◌, ◌≤◌, ◌<◌, ◌==◌, Bool, true, false, ◌&&◌, ◌||◌, is_some, nat_lt, cond, min, All, List, [], ◌∷◌, map, length, slice_index_or, Option, Some, None}
 use Rattle.std.specs.List.{list_any}
 use Rattle.ge_collections.specs.Keyed.{text_eq, at_text}
 use Rattle.ge_model_bookings.specs.Bookings.{plain_sum}
@@ -9,26 +9,26 @@ use Rattle.ge_model_rows.specs.JobRows.{Job}
 use Rattle.ge_model_rows.specs.ScheduleRows.{LimitId, Instance, Host, Global, Pe, Quota, Booking}
 use Rattle.ge_model_rows.specs.ScheduleRows.{Advance as Booked}
 use Rattle.ge_model_place.specs.Demands.{counts_for}
-use Rattle.ge_model_place.specs.Limits.{greatest_demand, capacity_of, consumables, resource_of}
+use Rattle.ge_model_place.specs.Limits.{greatest_demand, capacity_of, consumables, per_slot, resource_of}
 use Rattle.ge_model_place.specs.Opening.{is_open}
 use Rattle.ge_model_place.specs.Windows.{next_moment}
 use Rattle.ge_timeline.specs.Looks.{window_peak}
 use Rattle.ge_demands.specs.declared.counting.Counted.{Counted}
 use Rattle.ge_scheduling.specs.declared.rests.Rest.{Rest}
-use Rattle.ge_scheduling.specs.Vacant.{goes_on, slots_of}
+use Rattle.ge_scheduling.specs.Vacant.{slots_of}
 
--- what is left of a limit
-abbrev pub rest_of : Cluster → Groups → ℕ → List Booking → LimitId → Rest
-rest_of c groups now booked limit =
-    record { limit = limit; resource = resource_of limit; there = capacity_of c groups limit; most = capacity_of c groups limit - window_peak booked limit now (next_moment now) }
+-- what is left of a limit, of which no task takes less than the least
+abbrev pub rest_of : Cluster → Groups → ℕ → List Booking → LimitId → ℕ → Rest
+rest_of c groups now booked limit least =
+    record { limit = limit; resource = resource_of limit; there = capacity_of c groups limit; most = capacity_of c groups limit - window_peak booked limit now (next_moment now); least = least }
 
 abbrev pub host_rests : Cluster → Groups → ℕ → List Booking → List ℕ → Option HostRow → List Rest
 host_rests c groups now booked host None = []
-host_rests c groups now booked host (Some row) = map (λ name. rest_of c groups now booked (Host host name)) (consumables c row.values)
+host_rests c groups now booked host (Some row) = map (λ name. rest_of c groups now booked (Host host name) 0) (consumables c row.values)
 
--- of the slots of an instance and of the values of its host: host_conf, complex_values
+-- of the slots of an instance, of which each task takes one, and of the values of its host: host_conf, complex_values
 abbrev pub rests_at : Cluster → Groups → ℕ → List Booking → InstanceId → List Rest
-rests_at c groups now booked at = rest_of c groups now booked (slots_of at) ∷ host_rests c groups now booked at.host (at_text c.hosts at.host)
+rests_at c groups now booked at = rest_of c groups now booked (slots_of at) 1 ∷ host_rests c groups now booked at.host (at_text c.hosts at.host)
 
 -- whether a limit counts a resource by its name
 abbrev pub is_of : LimitId → List ℕ → Bool
@@ -47,7 +47,7 @@ abbrev pub is_short : List Counted → List ℕ → ℕ → Bool
 is_short asked resource most = list_any (asks_more resource most) asked
 
 abbrev pub is_short_now : List Counted → Rest → Bool
-is_short_now asked rest = is_short asked rest.resource rest.most
+is_short_now asked rest = nat_lt rest.most rest.least || is_short asked rest.resource rest.most
 
 -- whether it is of one of them
 abbrev pub are_short : List Counted → List Rest → Bool
@@ -58,7 +58,7 @@ abbrev pub left_then : List Booking → ℕ → Rest → ℕ
 left_then booked moment rest = rest.there - window_peak booked rest.limit moment (next_moment moment)
 
 abbrev pub is_short_then : List Booking → ℕ → List Counted → Rest → Bool
-is_short_then booked moment asked rest = is_short asked rest.resource (left_then booked moment rest)
+is_short_then booked moment asked rest = nat_lt (left_then booked moment rest) rest.least || is_short asked rest.resource (left_then booked moment rest)
 
 abbrev pub are_short_then : List Booking → ℕ → List Counted → List Rest → Bool
 are_short_then booked moment asked rests = list_any (is_short_then booked moment asked) rests
@@ -82,6 +82,7 @@ module _ (c : Cluster) (groups : Groups) (now : ℕ) (booked : List Booking) whe
     pub counts : (job : Job) → is_open c groups job at ≡ true → (job.advance == 0) ≡ true → counts_for c groups job rest.limit (record { at = at; slots = 1 }) ≡ true
     pub whole : rest.there ≡ capacity_of c groups rest.limit
     pub within : capacity_of c groups rest.limit ≤ plain_sum booked rest.limit now + rest.most
+    pub least : (job : Job) → rest.least ≤ min (per_slot c job (resource_of rest.limit)) greatest_demand
 
   -- for each instance what is left there
   pub record AreLeft (order : List InstanceId) (rests : List (List Rest)) : Type 0 where

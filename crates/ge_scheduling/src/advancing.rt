@@ -4,14 +4,15 @@ ghost use Rattle.ge_model_place.specs.Windows.{base_bookings};
 ghost use Rattle.ge_model_place.specs.Running.{decide as with_task};
 ghost use Rattle.ge_scheduling.specs.KindNotes.{TellKinds};
 ghost use Rattle.ge_scheduling.specs.Passing.{passed_by as job_passed, Waits, Follows};
+ghost use Rattle.ge_scheduling.specs.Vacant.{AreVacant};
 
-use crate::bookings::{book, first_booked};
+use crate::bookings::book;
 use crate::counting::{Tally, count, first_tally, may_reserve};
 use crate::deciding::decision;
 use crate::kinds::{is_noted, note};
 use crate::rests::{Rest, all_rests, renew_started};
 use crate::setting::Setting;
-use crate::vacancy::{leave_out_started, vacant_instances};
+use crate::vacancy::{leave_out_started, no_slot_is_left};
 use ge_rows::{Decision, InstanceId, List, TaskId};
 use ge_timeline::Timeline;
 use std::alloc::{AllocError, Global};
@@ -30,9 +31,17 @@ pub(crate) struct Progress {
     pub(crate) rests: List<List<Rest>>,
 }
 
-/// Before any task is decided.
-pub(crate) fn begin(alloc: Global, at: &Setting<'_>) -> Result<Progress, AllocError>
-    requires { TellKinds at.now.cluster.now.jobs at.now.kinds.now.entries }
+/// Before any task is decided: with what running tasks and advance reservations book, and the instances that have a slot left.
+pub(crate) fn begin(
+    alloc: Global,
+    at: &Setting<'_>,
+    booked: Timeline,
+    vacant: List<InstanceId>,
+) -> Result<Progress, AllocError>
+    requires told { TellKinds at.now.cluster.now.jobs at.now.kinds.now.entries }
+    requires taken { booked ≡ base_bookings at.now.cluster.now at.now.groups.now at.now.moment }
+    requires left { AreVacant at.now.cluster.now at.now.groups.now at.now.moment booked
+        at.now.order.now vacant }
     ensures booked { IfOk result (λ so_far. so_far.booked
         ≡ base_bookings at.now.cluster.now at.now.groups.now at.now.moment) }
     ensures decisions { IfOk result (λ so_far. so_far.decisions ≡ []) }
@@ -41,9 +50,7 @@ pub(crate) fn begin(alloc: Global, at: &Setting<'_>) -> Result<Progress, AllocEr
         so_far.tally so_far.passed so_far.full so_far.vacant
         so_far.rests) }
 {
-    let booked = first_booked(alloc, at)?;
     let tally = first_tally(alloc, at.cluster)?;
-    let vacant = vacant_instances(alloc, at, &booked)?;
     let rests = all_rests(alloc, at, &booked)?;
     Ok(Progress {
         booked,
@@ -65,14 +72,6 @@ fn is_passed(passed: Option<u32>, number: u32) -> bool
     }
 }
 
-// Whether no task can start any more: no instance has a slot left, and there is no reservation that a job may be sent into.
-fn no_slot_is_left(at: &Setting<'_>, so_far: &Progress) -> bool
-    ensures { IsTrue result
-        → (so_far.now.vacant ≡ []) × (at.now.cluster.now.advances ≡ []) }
-{
-    so_far.vacant.is_empty() && at.cluster.advances.is_empty()
-}
-
 // Whether no task of a job may have slots kept, and none can start: no slot is left, or the job's kind is noted.
 fn is_shut(at: &Setting<'_>, so_far: &Progress, number: u32) -> bool
     requires { Follows at.now.cluster.now at.now.groups.now at.now.order.now
@@ -88,7 +87,7 @@ fn is_shut(at: &Setting<'_>, so_far: &Progress, number: u32) -> bool
     if may_reserve(&at.cluster.sched, &so_far.tally, job) {
         return false;
     }
-    if no_slot_is_left(at, so_far) {
+    if no_slot_is_left(at.cluster, &so_far.vacant) {
         return true;
     }
     is_noted(at.kinds, &so_far.full, number)
@@ -99,7 +98,8 @@ fn nothing_is_left(at: &Setting<'_>, so_far: &Progress) -> bool
     ensures { IsTrue result → (so_far.now.vacant ≡ []) × (at.now.cluster.now.advances ≡ [])
         × (at.now.cluster.now.sched.max_reservation ≤ so_far.now.tally.reserved) }
 {
-    at.cluster.sched.max_reservation <= so_far.tally.reserved && no_slot_is_left(at, so_far)
+    at.cluster.sched.max_reservation <= so_far.tally.reserved
+        && no_slot_is_left(at.cluster, &so_far.vacant)
 }
 
 // Whether the tasks of a job are known to wait.

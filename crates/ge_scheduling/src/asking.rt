@@ -69,11 +69,22 @@ fn asked_at(
     Ok(List::from_vec(limits))
 }
 
+// The instance at which it is read first what a job asks of limits: one whose host has a value that the job asks for, if there is
+// one, so that few others are looked at for the rest.
+fn first_to_read<'a>(at: &Setting<'a>, job: &Job) -> Option<&'a InstanceId> {
+    for name in job.request.asked.keys() {
+        if let Some(holder) = at.holders.get(name) {
+            return Some(holder);
+        }
+    }
+    at.order.first()
+}
+
 fn first_asked(alloc: Global, at: &Setting<'_>, job: &Job) -> Result<List<Counted>, AllocError>
     ensures { IfOk result
         (λ limits. All (IsAsked at.now.cluster.now at.now.groups.now job.now) limits) }
 {
-    match at.order.first() {
+    match first_to_read(at, job) {
         Some(first) => asked_at(alloc, at, job, first),
         None => Ok(List::new(alloc)),
     }

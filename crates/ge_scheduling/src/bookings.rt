@@ -5,20 +5,10 @@ ghost use Rattle.ge_model_place.specs.Running.{booking_at, booked_by};
 ghost use Rattle.ge_model_place.specs.Windows.{base_bookings as base};
 
 use crate::setting::Setting;
-use ge_rows::{Booking, Decision, Grant, List, TaskId};
+use ge_rows::{Decision, Grant, List, TaskId};
 use ge_timeline::Timeline;
 use ge_windows::{base_bookings, booking};
 use std::alloc::{AllocError, Global};
-
-fn timeline_of(alloc: Global, bookings: &[Booking]) -> Result<Timeline, AllocError>
-    ensures { IfOk result (λ booked. booked ≡ bookings.now) }
-{
-    let mut booked = Timeline::new(alloc)?;
-    for b in bookings {
-        booked.add(b)?;
-    }
-    Ok(booked)
-}
 
 /// What running tasks and advance reservations book.
 pub(crate) fn first_booked(alloc: Global, at: &Setting<'_>) -> Result<Timeline, AllocError>
@@ -26,7 +16,7 @@ pub(crate) fn first_booked(alloc: Global, at: &Setting<'_>) -> Result<Timeline, 
         ≡ base at.now.cluster.now at.now.groups.now at.now.moment) }
 {
     let bookings = base_bookings(alloc, at.cluster, at.groups, at.moment)?;
-    let booked = timeline_of(alloc, bookings.items())?;
+    let booked = Timeline::from_bookings(alloc, bookings)?;
     Ok(booked)
 }
 
@@ -52,7 +42,7 @@ fn book_task(
                 grants.items(),
                 from,
             )?;
-            booked.add(&b)
+            booked.add(b)
         }
         None => Ok(()),
     }

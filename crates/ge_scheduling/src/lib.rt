@@ -12,11 +12,13 @@
 //!   placement over hosts alone at which something may be placed. `placing`: the placement of a task, now and later.
 //! - `reserving`: the first moment at which a task can be placed. `deciding`: the decision of one task.
 //! - `bookings`: what a decision books. `advancing`: one task after the other.
-//! - [`run`]: the decisions of a run.
+//! - [`basis_of`]: what a run stands on, as a [`Basis`]; [`all_wait`]: whether each task waits on it, in whatever order.
+//! - [`run`]: the decisions of a run; [`run_on`]: the same on its basis.
 #![tactic(auto)]
 
 mod advancing;
 mod asking;
+mod basis;
 mod bookings;
 mod counting;
 mod deciding;
@@ -32,4 +34,5 @@ mod single;
 mod thinning;
 mod vacancy;
 
-pub use running::run;
+pub use basis::{Basis, all_wait, basis_of};
+pub use running::{run, run_on};

@@ -26,6 +26,8 @@ pub(crate) struct Rest {
     pub(crate) there: u128,
     /// No more is left now.
     pub(crate) most: u128,
+    /// No task that counts for it takes less.
+    pub(crate) least: u128,
 }
 
 fn rest_of(
@@ -34,10 +36,11 @@ fn rest_of(
     booked: &Timeline,
     limit: LimitId,
     resource: Text,
+    least: u128,
 ) -> Result<Rest, AllocError>
     requires { resource ≡ resource_of limit }
     ensures { IfOk result (λ rest. rest
-        ≡ left_of at.now.cluster.now at.now.groups.now at.now.moment booked.now limit) }
+        ≡ left_of at.now.cluster.now at.now.groups.now at.now.moment booked.now limit least) }
 {
     let there = capacity(alloc, at.cluster, at.groups, &limit)?;
     let taken = booked.greatest(&limit, at.moment, at.moment.saturating_add(1));
@@ -46,6 +49,7 @@ fn rest_of(
         resource,
         there,
         most: there.saturating_sub(taken),
+        least,
     })
 }
 
@@ -56,11 +60,11 @@ fn slots_left(
     instance: &InstanceId,
 ) -> Result<Rest, AllocError>
     ensures { IfOk result (λ rest. rest ≡ left_of at.now.cluster.now at.now.groups.now
-        at.now.moment booked.now (slots_of instance.now)) }
+        at.now.moment booked.now (slots_of instance.now) 1) }
 {
     let limit = slots_at(alloc, instance)?;
     let resource = Text::from_bytes(alloc, b"slots")?;
-    let rest = rest_of(alloc, at, booked, limit, resource)?;
+    let rest = rest_of(alloc, at, booked, limit, resource, 1)?;
     Ok(rest)
 }
 
@@ -72,11 +76,11 @@ fn value_left(
     name: &Text,
 ) -> Result<Rest, AllocError>
     ensures { IfOk result (λ rest. rest ≡ left_of at.now.cluster.now at.now.groups.now
-        at.now.moment booked.now (Host host.now name.now)) }
+        at.now.moment booked.now (Host host.now name.now) 0) }
 {
     let (host, name, resource) = twins3(alloc, host, name, name)?;
     let limit = LimitId::Host(host, name);
-    let rest = rest_of(alloc, at, booked, limit, resource)?;
+    let rest = rest_of(alloc, at, booked, limit, resource, 0)?;
     Ok(rest)
 }
 
@@ -89,7 +93,7 @@ fn add_value(
     name: &Text,
 ) -> Result<(), AllocError>
     ensures { OnOk result (rests.new ≡ rests.old ++ map (λ name. left_of at.now.cluster.now
-        at.now.groups.now at.now.moment booked.now (Host host.now name))
+        at.now.groups.now at.now.moment booked.now (Host host.now name) 0)
         (filter (is_consumed at.now.cluster.now) (name.now ∷ []))) }
 {
     if !is_consumable(at.cluster, name) {
@@ -108,7 +112,7 @@ fn add_values(
     row: &HostRow,
 ) -> Result<(), AllocError>
     ensures { OnOk result (rests.new ≡ rests.old ++ map (λ name. left_of at.now.cluster.now
-        at.now.groups.now at.now.moment booked.now (Host host.now name))
+        at.now.groups.now at.now.moment booked.now (Host host.now name) 0)
         (consumables at.now.cluster.now row.now.values)) }
 {
     for name in row.values.keys() {
@@ -262,7 +266,7 @@ fn is_short(asked: &[Counted], resource: &Text, most: u128) -> bool
 fn is_short_now(asked: &[Counted], rest: &Rest) -> bool
     ensures { result ≡ short_now asked.now rest.now }
 {
-    is_short(asked, &rest.resource, rest.most)
+    rest.most < rest.least || is_short(asked, &rest.resource, rest.most)
 }
 
 /// Whether more is asked than is left of one of these now.
@@ -282,7 +286,8 @@ fn left_then(booked: &Timeline, moment: u64, rest: &Rest) -> u128
 fn is_short_then(booked: &Timeline, moment: u64, asked: &[Counted], rest: &Rest) -> bool
     ensures { result ≡ short_then booked.now moment asked.now rest.now }
 {
-    is_short(asked, &rest.resource, left_then(booked, moment, rest))
+    let left = left_then(booked, moment, rest);
+    left < rest.least || is_short(asked, &rest.resource, left)
 }
 
 // Whether more is asked than is left of one of these by what is booked at a moment.

@@ -1,5 +1,5 @@
 // Instances that have a slot left.
-ghost use Rattle.std.specs.Prelude.{◌≡◌, ◌++◌, ◌∷◌, [], IfOk, OnOk, filter, not};
+ghost use Rattle.std.specs.Prelude.{◌≡◌, ◌++◌, ◌∷◌, [], IfOk, IsTrue, OnOk, filter, not};
 ghost use Rattle.std.specs.Option.{option_copied};
 ghost use Rattle.ge_model_bookings.specs.Bookings.{forever, same_instance};
 ghost use Rattle.ge_model_place.specs.Windows.{no_later_than};
@@ -111,6 +111,13 @@ pub(crate) fn vacant_instances(
 {
     let vacant = vacant_among(alloc, at, booked)?;
     Ok(vacant)
+}
+
+/// Whether no task can start: none of these instances has a slot left, and there is no reservation that a job may be sent into.
+pub(crate) fn no_slot_is_left(cluster: &Cluster, vacant: &List<InstanceId>) -> bool
+    ensures { IsTrue result → (vacant.now ≡ []) × (cluster.now.advances ≡ []) }
+{
+    vacant.is_empty() && cluster.advances.is_empty()
 }
 
 /// Whether two instances are one.

@@ -12,7 +12,7 @@ use crate::index::number_of;
 use crate::matching::place_of;
 use crate::renewing::renew_all;
 use ge_points::{Point, Steps, peak};
-use ge_rows::{Booking, LimitId, List, Table, Twin};
+use ge_rows::{Booking, LimitId, List, Table};
 use slab::Slab;
 use std::alloc::{AllocError, Global};
 use std::collections::BTreeSet;
@@ -48,16 +48,15 @@ fn put_in(
     functions: &mut Slab<Vec<Point>>,
     ends: &mut BTreeSet<u64>,
     bookings: &mut List<Booking>,
-    b: &Booking,
+    b: Booking,
 ) -> Result<(), AllocError>
     requires { IsKept index.old functions.old ends.old bookings.old }
     ensures kept { OnOk result (IsKept index.new functions.new ends.new bookings.new) }
-    ensures more { OnOk result (bookings.new ≡ bookings.old ++ b.now ∷ []) }
+    ensures more { OnOk result (bookings.new ≡ bookings.old ++ b ∷ []) }
 {
-    let copy = b.twin(alloc)?;
-    add_booking(alloc, index, functions, bookings, b)?;
-    put_end(ends, b)?;
-    bookings.push(copy)
+    add_booking(alloc, index, functions, bookings, &b)?;
+    put_end(ends, &b)?;
+    bookings.push(b)
 }
 
 // Takes the booking at a place out of what is kept of the bookings.
@@ -127,9 +126,20 @@ impl Timeline {
         })
     }
 
+    /// What these bookings take of each limit.
+    pub fn from_bookings(alloc: Global, bookings: List<Booking>) -> Result<Timeline, AllocError>
+        ensures { IfOk result (λ t. t ≡ bookings) }
+    {
+        let mut timeline = Timeline::new(alloc)?;
+        for b in bookings.into_vec() {
+            timeline.add(b)?;
+        }
+        Ok(timeline)
+    }
+
     /// One booking more. After want of memory the Timeline is given up: nothing is booked any more.
-    pub fn add(&mut self, b: &Booking) -> Result<(), AllocError>
-        ensures more { OnOk result (self.new ≡ self.old ++ b.now ∷ []) }
+    pub fn add(&mut self, b: Booking) -> Result<(), AllocError>
+        ensures more { OnOk result (self.new ≡ self.old ++ b ∷ []) }
         ensures given_up { OnErr result (self.new ≡ []) }
     {
         let (index, functions) = (&mut self.index, &mut self.functions);

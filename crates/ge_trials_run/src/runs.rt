@@ -1,8 +1,9 @@
 // Runs on the opening cluster, whose queue has two slots on one host.
 use ge_rows::{
-    Cluster, Decision, Job, List, Request, Table, TaskId, TaskSet, TaskSpan, Text, opening,
+    Cluster, Decision, Job, List, Request, Running, Start, Table, TaskId, TaskSet, TaskSpan, Text,
+    Twin, opening,
 };
-use ge_scheduling::run;
+use ge_scheduling::{all_wait, basis_of, run, run_on};
 use std::alloc::{AllocError, Global};
 use std::test::Fail;
 
@@ -93,5 +94,49 @@ fn many_wait(rt: HostRuntime) -> Result<(), Fail> {
     let decisions = run(alloc, &cluster, in_order(alloc, 20000)?.items(), 20)?;
     assert_eq!(rt; decisions.len(), 20000);
     assert_eq!(rt; starts(alloc, &decisions)?.as_str(), "0=1 1=2 ");
+    Ok(())
+}
+
+// The job of a start, whose task runs.
+fn started_job(alloc: Global, start: &Start) -> Result<Job, AllocError> {
+    let mut job = waiting_job(alloc, start.task.job);
+    let running = Running {
+        serial: start.serial,
+        start: 20,
+        grants: start.grants.twin(alloc)?,
+        deleting: false,
+    };
+    job.running.insert(start.task.task, running)?;
+    Ok(job)
+}
+
+fn begin_all(
+    alloc: Global,
+    cluster: &mut Cluster,
+    decisions: &List<Decision>,
+) -> Result<(), AllocError> {
+    for decision in decisions.items() {
+        if let Decision::Start(start) = decision {
+            let job = started_job(alloc, start)?;
+            cluster.jobs.insert(start.task.job, job)?;
+        }
+    }
+    Ok(())
+}
+
+// Of three tasks two take both slots: then each waits, unless slots may be kept.
+#[test]
+fn all_wait_behind_full_slots(rt: HostRuntime) -> Result<(), Fail> {
+    let alloc = rt.alloc();
+    let mut cluster = with_jobs(alloc, 3)?;
+    let first = basis_of(alloc, &cluster, 20)?;
+    assert!(rt; !all_wait(&cluster, &first));
+    let order = in_order(alloc, 3)?;
+    let decisions = run_on(alloc, &cluster, first, order.items())?;
+    assert_eq!(rt; starts(alloc, &decisions)?.as_str(), "0=1 1=2 ");
+    begin_all(alloc, &mut cluster, &decisions)?;
+    assert!(rt; all_wait(&cluster, &basis_of(alloc, &cluster, 21)?));
+    cluster.sched.max_reservation = 1;
+    assert!(rt; !all_wait(&cluster, &basis_of(alloc, &cluster, 21)?));
     Ok(())
 }

@@ -3,7 +3,7 @@ ghost use Rattle.std.specs.Prelude.{◌<◌};
 
 use crate::making::{booking, slots_on};
 use ge_bookings::sum_at;
-use ge_rows::{Booking, LimitId, List};
+use ge_rows::{Booking, LimitId, List, Twin};
 use ge_timeline::Timeline;
 use std::alloc::{AllocError, Global};
 use std::test::Fail;
@@ -36,7 +36,7 @@ fn drawn_list(alloc: Global) -> Result<List<Booking>, AllocError> {
 fn timeline_of(alloc: Global, list: &List<Booking>) -> Result<Timeline, AllocError> {
     let mut timeline = Timeline::new(alloc)?;
     for one in list.items() {
-        timeline.add(one)?;
+        timeline.add(one.twin(alloc)?)?;
     }
     Ok(timeline)
 }

@@ -8,7 +8,7 @@ use std::test::Fail;
 fn many_bookings(alloc: Global) -> Result<Timeline, AllocError> {
     let mut timeline = Timeline::new(alloc)?;
     for k in 1..100_001u64 {
-        timeline.add(&booking(alloc, k as u32, 0, u128::from(k), 10 * k, 10 * k + 5)?)?;
+        timeline.add(booking(alloc, k as u32, 0, u128::from(k), 10 * k, 10 * k + 5)?)?;
     }
     Ok(timeline)
 }

@@ -7,10 +7,10 @@ use std::test::Fail;
 // Two of one host that overlap from 15 to 20, one of them twice, and one that never ends.
 fn four_bookings(alloc: Global) -> Result<Timeline, AllocError> {
     let mut timeline = Timeline::new(alloc)?;
-    timeline.add(&booking(alloc, 1, 0, 2, 10, 20)?)?;
-    timeline.add(&booking(alloc, 2, 0, 3, 15, 30)?)?;
-    timeline.add(&booking(alloc, 2, 0, 3, 15, 30)?)?;
-    timeline.add(&booking(alloc, 3, 1, 7, 0, 9223372036854775808)?)?;
+    timeline.add(booking(alloc, 1, 0, 2, 10, 20)?)?;
+    timeline.add(booking(alloc, 2, 0, 3, 15, 30)?)?;
+    timeline.add(booking(alloc, 2, 0, 3, 15, 30)?)?;
+    timeline.add(booking(alloc, 3, 1, 7, 0, 9223372036854775808)?)?;
     Ok(timeline)
 }
 

@@ -8,11 +8,14 @@ ghost use Rattle.ge_model_value.specs.Pieces.{is_empty};
 ghost use Rattle.ge_model_place.specs.Windows.{booked_until, job_bookings, runs_in_advance};
 ghost use Rattle.ge_model_place.specs.Windows as windows;
 ghost use Rattle.ge_windows.specs.InUse.{AreInUse};
+ghost use Rattle.ge_windows.specs.Running.{running_in, bookings_at};
 
 use crate::standing::stand_in;
 use crate::windows::window_end_from;
 use ge_demands::demands;
-use ge_rows::{Advance, Booking, Cluster, Grant, Groups, Job, List, Running, Table, TaskId};
+use ge_rows::{
+    Advance, Booking, Cluster, Grant, Groups, Job, JobMark, List, MarkSort, Running, Table, TaskId,
+};
 use std::alloc::{AllocError, Global};
 use std::collections::BTreeSet;
 
@@ -86,6 +89,49 @@ fn add_job(
     Ok(())
 }
 
+// The numbers of the jobs of which a task runs, which the table keeps.
+fn running_jobs(alloc: Global, jobs: &Table<u32, Job>) -> Result<Vec<u32>, AllocError>
+    ensures { IfOk result (λ numbers. numbers.items ≡ running_in jobs.now) }
+{
+    let runs = JobMark::new(alloc, MarkSort::Runs, b"", b"", 0)?;
+    jobs.bearers(alloc, &runs)
+}
+
+fn add_job_at(
+    alloc: Global,
+    cluster: &Cluster,
+    groups: &Groups,
+    now: u64,
+    bookings: &mut List<Booking>,
+    number: u32,
+) -> Result<(), AllocError>
+    ensures { OnOk result (bookings.new ≡ bookings.old
+        ++ bookings_at cluster.now groups.now now number) }
+{
+    match cluster.jobs.get(&number) {
+        Some(job) => add_job(alloc, cluster, groups, now, bookings, number, job),
+        None => Ok(()),
+    }
+}
+
+fn add_jobs_at(
+    alloc: Global,
+    cluster: &Cluster,
+    groups: &Groups,
+    now: u64,
+    bookings: &mut List<Booking>,
+    numbers: Vec<u32>,
+) -> Result<(), AllocError>
+    ensures { OnOk result (bookings.new ≡ bookings.old
+        ++ flat_map (bookings_at cluster.now groups.now now) numbers.items) }
+{
+    for number in numbers {
+        add_job_at(alloc, cluster, groups, now, bookings, number)?;
+    }
+    Ok(())
+}
+
+// What running tasks book, job by job. Jobs of which none runs aren't looked at.
 fn add_jobs(
     alloc: Global,
     cluster: &Cluster,
@@ -96,10 +142,9 @@ fn add_jobs(
     ensures { OnOk result (bookings.new ≡ bookings.old
         ++ flat_map (job_bookings cluster.now groups.now now) cluster.now.jobs) }
 {
-    for (number, job) in cluster.jobs.iter() {
-        add_job(alloc, cluster, groups, now, bookings, *number, job)?;
-    }
-    Ok(())
+    cluster.jobs.orderly();
+    let numbers = running_jobs(alloc, &cluster.jobs)?;
+    add_jobs_at(alloc, cluster, groups, now, bookings, numbers)
 }
 
 fn has_running(job: &Job) -> bool
@@ -182,8 +227,8 @@ fn add_advances(
 }
 
 /// One booking for each running task, by job and task, and one for each advance reservation, by number: its task has the job
-/// 0. What overran is booked up to one second past now. The jobs are walked once more where there is a reservation
-/// (qsub, qrsub).
+/// 0. What overran is booked up to one second past now. All jobs are walked only where there is a reservation, else those alone
+/// of which a task runs (qsub, qrsub).
 #[tactic(auto, unfolding(ge_model_place::specs::Windows::base_bookings))]
 pub fn base_bookings(
     alloc: Global,

@@ -1,5 +1,5 @@
-use Rattle.ge_order.proofs.Told.{all_found}
+use Rattle.ge_beside.proofs.Walked.{rising_found}
 use Rattle.ge_order.proofs.tasks.walk_jobs.Goals as goal
 
 pub returns : goal.returns
-returns c = all_found _ _ c.iter.ensures.rest c.iter.ensures.rising
+returns c = rising_found _ _ c.iter.ensures.rest c.iter.ensures.rising

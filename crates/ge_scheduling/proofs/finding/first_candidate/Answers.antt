@@ -1,4 +1,4 @@
-use Rattle.std.proofs.Common.{sym, ◌∙◌, arith}
+use Rattle.std.proofs.Common.{arith}
 use Rattle.ge_model_place.specs.Placement.{are_admissible}
 use Rattle.ge_model_place.specs.Runs.{one_slot}
 use Rattle.ge_scheduling.proofs.Remaining.{left_at, refused_more}

@@ -7,5 +7,5 @@ use Rattle.ge_scheduling.proofs.rests.add_values.Given as goal
 
 abbrev pub invariant-loop-name : goal.invariant-loop-name
 invariant-loop-name l =
-    l.rests ++ map (λ name. rest_of l.at.cluster.now l.at.groups.now l.at.moment l.booked (Host l.host name)) (filter (is_consumable l.at.cluster.now) l.name-iterator)
-    ≡ l.fn.rests ++ map (λ name. rest_of l.at.cluster.now l.at.groups.now l.at.moment l.booked (Host l.host name)) (consumables l.at.cluster.now l.row.values)
+    l.rests ++ map (λ name. rest_of l.at.cluster.now l.at.groups.now l.at.moment l.booked (Host l.host name) 0) (filter (is_consumable l.at.cluster.now) l.name-iterator)
+    ≡ l.fn.rests ++ map (λ name. rest_of l.at.cluster.now l.at.groups.now l.at.moment l.booked (Host l.host name) 0) (consumables l.at.cluster.now l.row.values)
