@@ -1,8 +1,8 @@
 -- A limit that counts at whatever instance and has no room for one slot: nothing is placed.
-use Rattle.std.proofs.Common.{◌≡◌, ℕ, ◌+◌, ◌≤◌, ◌<◌, ◌==◌, inl, inr, Bool, true, false, not, ◌&&◌, ◌||◌, cond, min, List, [], ◌∷◌, ◌++◌, length, map, flat_map, filter, is_some, All, slice_index_or, Option, Some, None, refl, sym, subst, ap, ◌∙◌, arith}
+use Rattle.std.proofs.Common.{◌≡◌, ℕ, ◌+◌, ◌≤◌, ◌<◌, ◌==◌, inl, inr, Bool, true, false, ◌&&◌, ◌||◌, cond, min, List, [], ◌∷◌, ◌++◌, length, map, flat_map, filter, is_some, All, slice_index_or, Option, Some, None, refl, sym, subst, ap, ◌∙◌, arith}
 use Rattle.std.specs.List.{list_any}
 use Rattle.std.specs.Prelude.{nat_le, nat_lt}
-use Rattle.std.proofs.lemmas.Bool.{cond-true, cond-false, cases_Bool, and_parts, or_parts, or_cases, or_from, true≢false, false_from_ne_true, cases_lt, leb-false, ltb-true, lt-ltb}
+use Rattle.std.proofs.lemmas.Bool.{cond-true, cond-false, cases_Bool, and_parts, or_parts, or_cases, or_from, true≢false, false_from_ne_true, cases_lt, leb-false, ltb-true, lt-ltb, not-true}
 use Rattle.std.proofs.lemmas.List.Elements.{All-nil, All-cons, All-head, All-tail}
 use Rattle.std.proofs.lemmas.List.Folds.{list_any-append}
 use Rattle.std.proofs.lemmas.List.Sums.{sum_by-cons, get_or-le-sum_by}
@@ -36,10 +36,6 @@ use Rattle.ge_scheduling.specs.Common.{names_places, set_names_places, counts_al
 use Rattle.ge_scheduling.specs.Vacant.{slots_of}
 use Rattle.ge_scheduling.proofs.Admitting.{any_first, any_second, grant_at, counts_here, has_room_for}
 use Rattle.ge_scheduling.proofs.Nowhere.{none_placed}
-
-unnegated : (b : Bool) → not b ≡ true → b ≡ false
-unnegated true e = absurd (true≢false (sym e))
-unnegated false e = refl
 
 abbrev among : LimitId → List LimitId → Bool
 among limit limits = list_any (λ other. same_limit other limit) limits
@@ -108,7 +104,7 @@ module _ (c : Cluster) (groups : Groups) (job : Job) (first at : InstanceId) whe
       let parts = or_parts (set_names_places set) (list_any set_names_places sets) plain in rw (set_alike set parts.0, sets_alike sets parts.1) refl
 
   quotas_alike : counts_alike c ≡ true → quota_keys c groups (who_at job first) ≡ quota_keys c groups (who_at job at)
-  quotas_alike plain = sets_alike c.quotas (unnegated (list_any set_names_places c.quotas) plain)
+  quotas_alike plain = sets_alike c.quotas (not-true (list_any set_names_places c.quotas) plain)
 
   -- a limit that is of no instance, no host and no reservation
   module _ (limit : LimitId) (no_instance : (a : InstanceId) (name : List ℕ) → same_limit (Instance a name) limit ≡ false) (no_host : (host name : List ℕ) → same_limit (Host host name) limit ≡ false)
@@ -258,7 +254,7 @@ module _ (c : Cluster) (groups : Groups) (job : Job) where
       false_from_ne_true (takes_one c groups job booked from at) (λ takes.
       let until = window_end_from c job from in
       let parts = and_parts (is_common (counts_alike c) x.limit) (lacks_room booked from until x) exhausted in
-      let over = leb-false (cond (nat_lt from until) (peak booked x.limit from until) 0 + min x.amount greatest_demand) x.capacity (unnegated (nat_le (cond (nat_lt from until) (peak booked x.limit from until) 0 + min x.amount greatest_demand) x.capacity) parts.1) in
+      let over = leb-false (cond (nat_lt from until) (peak booked x.limit from until) 0 + min x.amount greatest_demand) x.capacity (not-true (nat_le (cond (nat_lt from until) (peak booked x.limit from until) 0 + min x.amount greatest_demand) x.capacity) parts.1) in
       let whole : cond (nat_lt from until) (peak booked x.limit from until) 0 ≡ peak booked x.limit from until = cond-true _ _ _ (lt-ltb from until ever) in
       let asks = is.asks in
       let some = is.some in

@@ -136,14 +136,14 @@ module _ (c : Cluster) (groups : Groups) (order : List InstanceId) (now : ℕ) w
 
   -- where nothing can be placed now and no task may be reserved
   pub must_each_wait : (booked : List Booking) (decisions : List Decision) → ((job : Job) → placement_of c groups order booked job now ≡ None)
-      → ((job : Job) → may_reserve c decisions (Some job) ≡ false) → (task : TaskId) → decision_of c groups order now booked decisions task ≡ Skip task
+      → ((number : ℕ) (job : Job) → at_number c.jobs number ≡ Some job → may_reserve c decisions (Some job) ≡ false) → (task : TaskId) → decision_of c groups order now booked decisions task ≡ Skip task
   must_each_wait booked decisions nowhere unreserved task =
-      model_by_parts c groups order now booked decisions task ∙ here (at_number c.jobs task.job)
+      model_by_parts c groups order now booked decisions task ∙ here (at_number c.jobs task.job) refl
     where
-      here : (job : Option Job) → by_parts c groups order now booked decisions job task ≡ Skip task
-      here None = refl
-      here (Some job) =
-          ap (λ m. decision_by c groups order now booked (owner_is_full c decisions job.owner) m (serial_after c decisions) (Some job) task) (unreserved job)
+      here : (job : Option Job) → at_number c.jobs task.job ≡ job → by_parts c groups order now booked decisions job task ≡ Skip task
+      here None there = refl
+      here (Some job) there =
+          ap (λ m. decision_by c groups order now booked (owner_is_full c decisions job.owner) m (serial_after c decisions) (Some job) task) (unreserved task.job job there)
           ∙ must_wait c groups order now booked (owner_is_full c decisions job.owner) (serial_after c decisions) (Some job) task (placement_of c groups order booked job now)
           (ap (λ given. started_by (owner_is_full c decisions job.owner) (serial_after c decisions) task given) (nowhere job))
 
@@ -152,7 +152,7 @@ module _ (c : Cluster) (groups : Groups) (order : List InstanceId) (now : ℕ) w
       → c.sched.max_reservation ≤ tally.reserved → Waits c groups order now booked decisions number
   all_must_wait booked decisions tally number tallied nowhere enough task same =
       must_each_wait booked decisions nowhere
-      (λ job.
+      (λ n job there.
       sym (may_same c decisions tally tallied job)
       ∙ and_right (job.reserve && job.advance == 0) (nat_lt tally.reserved c.sched.max_reservation) (le-ltb tally.reserved c.sched.max_reservation enough)) task
 

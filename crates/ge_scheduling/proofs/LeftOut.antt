@@ -2,7 +2,7 @@
 use Rattle.std.proofs.Common.{◌≡◌, ℕ, ◌+◌, ◌≤◌, ◌<◌, ◌==◌, inl, inr, Bool, true, false, not, ◌&&◌, cond, min, max, List, [], ◌∷◌, ◌++◌, filter, fold, Option, Some, None, refl, sym, subst, ap, ◌∙◌, arith}
 use Rattle.std.specs.List.{list_any}
 use Rattle.std.specs.Prelude.{nat_lt}
-use Rattle.std.proofs.lemmas.Bool.{cond_both, cond-true, cond-false, cases_Bool, and_parts, and_cases, or_from, leb-true, ltb-true, eqb-true, true≢false}
+use Rattle.std.proofs.lemmas.Bool.{cond_both, cond-true, cond-false, cases_Bool, and_parts, and_cases, or_from, leb-true, ltb-true, eqb-true, not-false}
 use Rattle.ge_collections.specs.Keyed.{at_number}
 use Rattle.ge_model_rows.specs.ClusterRows.{Cluster}
 use Rattle.ge_model_rows.specs.HostRows.{Groups, InstanceId}
@@ -21,10 +21,6 @@ use Rattle.ge_scheduling.specs.Vacant.{goes_on, slots_of, is_used_up, is_occupie
 use Rattle.ge_scheduling.proofs.Admitting.{takes_none}
 use Rattle.ge_scheduling.proofs.Grown.{sum_grows}
 use Rattle.ge_scheduling.proofs.Nowhere.{none_placed}
-
-was_so : (b : Bool) → not b ≡ false → b ≡ true
-was_so true e = refl
-was_so false e = absurd (true≢false e)
 
 -- lists
 
@@ -102,7 +98,7 @@ module _ (c : Cluster) (groups : Groups) (now : ℕ) (booked : List Booking) whe
   module _ (order : List InstanceId) where
     pub vacant_first : (vacant : List InstanceId) → vacant ≡ filter (is_vacant c groups now booked) order → AreVacant c groups now booked order vacant
     vacant_first vacant are =
-        record { keeps = is_vacant c groups now booked; are = are; others = λ at gone. occupied_is at (was_so (is_occupied c groups now booked at) gone) }
+        record { keeps = is_vacant c groups now booked; are = are; others = λ at gone. occupied_is at (not-false (is_occupied c groups now booked at) gone) }
 
     -- one that is occupied is left out
     pub vacant_less : (vacant fewer : List InstanceId) (at : InstanceId) → AreVacant c groups now booked order vacant → is_occupied c groups now booked at ≡ true
@@ -113,7 +109,7 @@ module _ (c : Cluster) (groups : Groups) (now : ℕ) (booked : List Booking) whe
           are = less ∙ ap (λ xs. filter (λ other. not (same_instance other at)) xs) were.are ∙ filter_both were.keeps (λ other. not (same_instance other at)) order;
           others = λ other gone. elim (and_cases (were.keeps other) (not (same_instance other at)) gone) [
             | inl before ↦ were.others other before
-            | inr same ↦ subst (λ x. IsOccupied c groups now booked x) (sym (instances_equal other at (was_so (same_instance other at) same))) (occupied_is at occupied)
+            | inr same ↦ subst (λ x. IsOccupied c groups now booked x) (sym (instances_equal other at (not-false (same_instance other at) same))) (occupied_is at occupied)
           ];
         }
 

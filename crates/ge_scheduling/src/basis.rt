@@ -1,6 +1,7 @@
 // What a run stands on before its first decision, whatever the order of its tasks.
-ghost use Rattle.std.specs.Prelude.{◌≡◌, IfOk, IsTrue};
-ghost use Rattle.ge_scheduling.specs.Bases.{IsBasis, AllWait};
+ghost use Rattle.std.specs.Prelude.{◌≡◌, IfOk, IsTrue, not};
+ghost use Rattle.std.specs.List.{list_any};
+ghost use Rattle.ge_scheduling.specs.Bases.{IsBasis, AllWait, asks_to_keep, is_shut, may_keep};
 
 use crate::bookings::first_booked;
 use crate::kinds::kinds_of;
@@ -8,7 +9,7 @@ use crate::setting::Setting;
 use crate::vacancy::{no_slot_is_left, vacant_instances};
 use ge_hosts::expand;
 use ge_opening::instance_order;
-use ge_rows::{Cluster, Groups, InstanceId, List};
+use ge_rows::{Cluster, Groups, InstanceId, Job, List, Table};
 use ge_timeline::Timeline;
 use std::alloc::{AllocError, Global};
 use std::collections::BTreeMap;
@@ -55,15 +56,32 @@ pub fn basis_of(alloc: Global, cluster: &Cluster, now: u64) -> Result<Basis, All
     })
 }
 
+// Whether some job asks for slots to be kept for it.
+fn one_asks(jobs: &Table<u32, Job>) -> bool
+    ensures { result ≡ list_any asks_to_keep jobs.now }
+{
+    for (_number, job) in jobs.iter() {
+        if job.reserve {
+            return true;
+        }
+    }
+    false
+}
+
+// Whether no task may have slots kept, whatever was decided: none may at all, or no job asks for it.
+fn none_is_kept(cluster: &Cluster) -> bool
+    ensures { result ≡ not (may_keep cluster.now) }
+{
+    cluster.sched.max_reservation == 0 || !one_asks(&cluster.jobs)
+}
+
 /// Whether each task waits in a run on this basis, in whatever order the tasks are: no instance has a slot left, there is no
-/// reservation that a job may be sent into, and no task may have slots kept (sched_conf, `max_reservation` 0). A run that is
-/// known to be so needs no order.
+/// reservation that a job may be sent into, and no task may have slots kept (sched_conf, `max_reservation` 0; or no job was
+/// submitted with `-R y`, qsub). A run that is known to be so needs no order.
 pub fn all_wait(cluster: &Cluster, basis: &Basis) -> bool
     requires { IsBasis cluster.now basis.now }
-    ensures { IsTrue result → AllWait cluster.now basis.now.moment }
+    ensures shut { result ≡ is_shut cluster.now basis.now }
+    ensures waits { IsTrue result → AllWait cluster.now basis.now.moment }
 {
-    if cluster.sched.max_reservation != 0 {
-        return false;
-    }
-    no_slot_is_left(cluster, &basis.vacant)
+    no_slot_is_left(cluster, &basis.vacant) && none_is_kept(cluster)
 }

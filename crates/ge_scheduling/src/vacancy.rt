@@ -1,5 +1,6 @@
 // Instances that have a slot left.
-ghost use Rattle.std.specs.Prelude.{◌≡◌, ◌++◌, ◌∷◌, [], IfOk, IsTrue, OnOk, filter, not};
+ghost use Rattle.std.specs.Prelude.{◌≡◌, ◌++◌, ◌&&◌, ◌∷◌, [], IfOk, IsTrue, OnOk, filter, not};
+ghost use Rattle.ge_model_value.specs.Pieces.{is_empty};
 ghost use Rattle.std.specs.Option.{option_copied};
 ghost use Rattle.ge_model_bookings.specs.Bookings.{forever, same_instance};
 ghost use Rattle.ge_model_place.specs.Windows.{no_later_than};
@@ -84,7 +85,8 @@ fn add_vacant(
     vacant.push(instance)
 }
 
-fn vacant_among(
+/// The instances without those all of whose slots are booked now.
+pub(crate) fn vacant_instances(
     alloc: Global,
     at: &Setting<'_>,
     booked: &Timeline,
@@ -100,22 +102,10 @@ fn vacant_among(
     Ok(vacant)
 }
 
-/// The instances without those all of whose slots are booked now.
-pub(crate) fn vacant_instances(
-    alloc: Global,
-    at: &Setting<'_>,
-    booked: &Timeline,
-) -> Result<List<InstanceId>, AllocError>
-    ensures { IfOk result (λ vacant. AreVacant at.now.cluster.now at.now.groups.now at.now.moment
-        booked.now at.now.order.now vacant) }
-{
-    let vacant = vacant_among(alloc, at, booked)?;
-    Ok(vacant)
-}
-
 /// Whether no task can start: none of these instances has a slot left, and there is no reservation that a job may be sent into.
 pub(crate) fn no_slot_is_left(cluster: &Cluster, vacant: &List<InstanceId>) -> bool
-    ensures { IsTrue result → (vacant.now ≡ []) × (cluster.now.advances ≡ []) }
+    ensures value { result ≡ (is_empty vacant.now && is_empty cluster.now.advances) }
+    ensures none { IsTrue result → (vacant.now ≡ []) × (cluster.now.advances ≡ []) }
 {
     vacant.is_empty() && cluster.advances.is_empty()
 }

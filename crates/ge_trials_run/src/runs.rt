@@ -137,6 +137,10 @@ fn all_wait_behind_full_slots(rt: HostRuntime) -> Result<(), Fail> {
     begin_all(alloc, &mut cluster, &decisions)?;
     assert!(rt; all_wait(&cluster, &basis_of(alloc, &cluster, 21)?));
     cluster.sched.max_reservation = 1;
+    assert!(rt; all_wait(&cluster, &basis_of(alloc, &cluster, 21)?));
+    let mut asking = waiting_job(alloc, 3);
+    asking.reserve = true;
+    cluster.jobs.insert(3, asking)?;
     assert!(rt; !all_wait(&cluster, &basis_of(alloc, &cluster, 21)?));
     Ok(())
 }

@@ -14,7 +14,7 @@ returns-then-all_wait c =
     let tasks = order_of C (prios_at C e.moment) e.moment in
     ap (λ ds. decided e ds) c.new.ensures
     ∙ nothing_told e tasks
-    ∙ ap (λ ds. decided e ds) (sym (c.all_wait.ensures c.if-all_wait.true tasks))
+    ∙ ap (λ ds. decided e ds) (sym (c.all_wait.ensures.waits c.if-all_wait.true tasks))
     ∙ ap (λ now. decided e (run_of C tasks now)) c.in_ok-basis.ensures.moment
 
 pub returns : goal.returns

@@ -10,7 +10,7 @@ returns-then-no_slot_is_left c = λ _.
     let groups = c.args.at.now.groups.now in
     let order = c.args.at.now.order.now in
     let so_far = c.args.so_far.now in
-    let left = c.no_slot_is_left.ensures c.if-no_slot_is_left.true in
+    let left = c.no_slot_is_left.ensures.none c.if-no_slot_is_left.true in
     let are = subst (λ vacant. AreVacant C groups c.args.at.now.moment so_far.booked order vacant) left.0 c.requires.left in
     none_may_start C groups order c.args.at.now.moment so_far.booked so_far.decisions so_far.tally c.args.number c.in-Some.job.now c.requires.tallied (sym c.in-Some.ensures)
     (nothing_placed C groups c.args.at.now.moment so_far.booked order are left.1 c.in-Some.job.now) (sym c.if-may_reserve.ensures)
