@@ -1,7 +1,9 @@
 pub mod OneKind
 pub mod Rising
 pub mod Ordered
+pub mod InParts
 pub mod Slots
 pub mod Scaled
 pub mod Zipped
 pub mod Told
+pub mod Reworked

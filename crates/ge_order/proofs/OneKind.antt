@@ -16,7 +16,7 @@ use Rattle.ge_model_order.specs.Urgency.{resources_urgency, urgency_of}
 use Rattle.ge_rows.specs.JobShort.{job_facts, job_labels}
 use Rattle.ge_rows.specs.declared.labels.JobFacts.{JobFacts}
 use Rattle.ge_rows.specs.contracts.labels.JobLabelOrd.TheImpl.{cmp-value as by_label}
-use Rattle.ge_order.specs.Kinds.{kind_in, asked_of, SameAsked, AreAsked, TellJobs, urgent_by, told_standing}
+use Rattle.ge_order.specs.Kinds.{kind_in, asked_of, SameAsked, AreAsked, IsAsked, TellJobs, urgent_by, told_standing}
 use Rattle.ge_order.specs.Standings.{standing_of, urgent_of}
 use Rattle.ge_order.specs.declared.standing.Standing.{Standing}
 use Rattle.ge_order.specs.declared.standing.Urgent.{Urgent}
@@ -66,6 +66,15 @@ module _ (c : Cluster) (rows : List (ℕ × ShortRow JobFacts)) where
 
   pub none_asked : (kinds : List (ℕ × ℕ)) → kinds ≡ [] → AreAsked c rows kinds
   none_asked kinds none kind asked told number of_kind = absurd (let never : ◌≡◌ {A = Option ℕ} None (Some asked) = sym (ap (λ ks. at_number ks kind) none) ∙ told in cc)
+
+  pub none_last : (last : Option (ℕ × ℕ)) → last ≡ None → IsAsked c rows last
+  none_last last none kind asked told = absurd (let never : ◌≡◌ {A = Option (ℕ × ℕ)} None (Some (kind, asked)) = sym none ∙ told in cc)
+
+  -- what is known of the kind of a job is known of all jobs of that kind
+  pub last_more : (last : Option (ℕ × ℕ)) (kind asked number : ℕ) → SameAsked c rows → kind_in rows number ≡ Some kind → asked ≡ asked_of c number → last ≡ Some (kind, asked) → IsAsked c rows last
+  last_more last kind asked number alike here is kept other found told q of_kind =
+      let same_pair : ◌≡◌ {A = ℕ × ℕ} (kind, asked) (other, found) = ap (λ (o : Option (ℕ × ℕ)). elim o as (λ (o : Option (ℕ × ℕ)). ℕ × ℕ) [ None ↦ (kind, asked) | Some pair ↦ pair ]) (sym kept ∙ told) in
+      sym (ap (λ (p : ℕ × ℕ). p.1) same_pair) ∙ is ∙ alike number q kind here (of_kind ∙ ap (λ (p : ℕ × ℕ). Some p.0) (sym same_pair))
 
   pub kind_of_row : (number : ℕ) (row : ShortRow JobFacts) → at_number rows number ≡ Some row → kind_in rows number ≡ Some row.third
   kind_of_row number row there = ap (λ found. option_map (λ r. r.third) found) there

@@ -24,7 +24,7 @@ thens Less b e = absurd (true≢false (ap is_lt e))
 thens Equal b e = (refl, e)
 thens Greater b e = absurd (true≢false (ap is_eq (sym e)))
 
-rank_exact : CmpEqualImpliesEq rank_cmp
+pub rank_exact : CmpEqualImpliesEq rank_cmp
 rank_exact x y e =
     let both = thens (nat_cmp (y.0).0 (x.0).0) (nat_cmp x.1 y.1) e in
     λ i. (record { 0 = sym (exact_unsigned (y.0).0 (x.0).0 both.0) i }, exact_unsigned x.1 y.1 both.1 i)
@@ -74,7 +74,7 @@ both : (a b : Bool) → (a && b) ≡ true → (a ≡ true) × (b ≡ true)
 both true b e = (refl, e)
 both false b e = absurd (true≢false (sym e))
 
-less : (o : Ordering) → is_lt o ≡ true → o ≡ Less
+pub less : (o : Ordering) → is_lt o ≡ true → o ≡ Less
 less Less e = refl
 less Equal e = absurd (true≢false (sym e))
 less Greater e = absurd (true≢false (sym e))

@@ -27,6 +27,10 @@ SameAsked c rows = (first second kind : ℕ) → kind_in rows first ≡ Some kin
 abbrev pub AreAsked : Cluster → List (ℕ × ShortRow JobFacts) → List (ℕ × ℕ) → Type 0
 AreAsked c rows kinds = (kind asked : ℕ) → at_number kinds kind ≡ Some asked → (number : ℕ) → kind_in rows number ≡ Some kind → asked ≡ asked_of c number
 
+-- a kind has what the requests of its jobs add, if one is kept
+abbrev pub IsAsked : Cluster → List (ℕ × ShortRow JobFacts) → Option (ℕ × ℕ) → Type 0
+IsAsked c rows last = (kind asked : ℕ) → last ≡ Some (kind, asked) → (number : ℕ) → kind_in rows number ≡ Some kind → asked ≡ asked_of c number
+
 -- short rows are those of the jobs
 pub record TellJobs (c : Cluster) (rows : List (ℕ × ShortRow JobFacts)) : Type 0 where
   pub alike : SameAsked c rows

@@ -1,4 +1,6 @@
 pub mod Kinds
+pub mod Parted
 pub mod Ranked
 pub mod Standings
 pub mod Told
+pub mod Weighed

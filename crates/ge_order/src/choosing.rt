@@ -74,13 +74,13 @@ fn choose(
     ensures { IfOk result (λ numbers. numbers
         ≡ keys_of (filter (telling.has_task c.now now) rows.now.entries)) }
 {
-    let mut numbers = List::new(alloc);
+    let mut numbers = Vec::with_capacity(alloc, rows.len())?;
     for (number, row) in rows.iter() {
         if has_task(alloc, c, *number, row, now)? {
-            numbers.push(*number)?;
+            numbers.push_reserved(*number);
         }
     }
-    Ok(numbers)
+    Ok(List::from_vec(numbers))
 }
 
 // The same by the jobs themselves, for a table without short rows.

@@ -6,21 +6,25 @@
 //!
 //! - [`candidates`]: the jobs with a task that a run may start.
 //! - [`urgency`]: the urgency of a job, which takes no memory. [`prios`]: the priorities of jobs with their tickets.
-//! - [`order`]: the tasks by the priorities of their jobs.
+//! - [`order`]: the tasks by the priorities of their jobs. [`bound_for`], [`first_part`] and [`second_part`] part priorities, so that
+//!   the order of all is that of the first part and then that of the second.
 #![tactic(auto)]
 
 mod asked;
 mod choosing;
 mod kinds;
 mod ordering;
+mod parting;
 mod parts;
 mod priority;
 mod standing;
 mod tasks;
 mod telling;
 mod urging;
+mod weighing;
 
 pub use choosing::candidates;
 pub use ordering::order;
+pub use parting::{Bound, bound_for, first_part, second_part};
 pub use priority::prios;
 pub use urging::urgency;

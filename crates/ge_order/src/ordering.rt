@@ -11,10 +11,11 @@ use std::alloc::{AllocError, Global};
 use std::cmp::Reverse;
 use std::collections::BTreeMap;
 
-// What a job is ordered by: the total, the greater first, and then its number.
-type Rank = (Reverse<u128>, u32);
+/// What a job is ordered by: the total, the greater first, and then its number.
+pub(crate) type Rank = (Reverse<u128>, u32);
 
-fn rank(prio: &Prio) -> Rank
+/// The rank of a priority.
+pub(crate) fn rank(prio: &Prio) -> Rank
     ensures { result ≡ rank_of prio.now }
 {
     (Reverse(prio.total), prio.job)
@@ -30,7 +31,8 @@ fn ranks(alloc: Global, prios: &[Prio]) -> Result<Vec<Rank>, AllocError>
     Ok(ranks)
 }
 
-fn is_below(low: &Rank, rank: &Rank) -> bool
+/// Whether a rank is below another.
+pub(crate) fn is_below(low: &Rank, rank: &Rank) -> bool
     ensures { result ≡ is_lt (rank_cmp low.now rank.now) }
 {
     low.cmp(rank).is_lt()

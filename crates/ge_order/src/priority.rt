@@ -3,9 +3,10 @@ ghost use Rattle.std.specs.Prelude.{◌≡◌, IfOk, map, zip};
 ghost use Rattle.ge_model_order.specs.Amounts.{greatest as greatest_of};
 ghost use Rattle.ge_model_order.specs.Priority.{prios_of};
 ghost use Rattle.ge_order.specs.Standings.{prio_of};
+ghost use Rattle.ge_order.specs.Weighed.{IsWorked};
 
-use crate::parts::{priority_part, tickets_part, urgency_part, weighted_sum};
-use crate::standing::{Standing, highest, lowest, standings};
+use crate::standing::{Standing, Urgent, extremes, standings};
+use crate::weighing::{Worked, work_on, work_out};
 use ge_rows::{Cluster, List, Prio, Sched};
 use std::alloc::{AllocError, Global};
 
@@ -30,8 +31,16 @@ fn greatest(tickets: &[u64]) -> u64
     most
 }
 
-fn prio_at(sched: &Sched, scale: Scale, standing: &Standing, tickets: u64) -> Prio
-    ensures { result ≡ prio_of sched.now scale (standing.now, tickets) }
+fn prio_at(
+    sched: &Sched,
+    scale: Scale,
+    last: &mut Worked,
+    standing: &Standing,
+    tickets: u64,
+) -> Prio
+    ensures prio { IsWorked sched.now scale last.old
+        → result ≡ prio_of sched.now scale (standing.now, tickets) }
+    ensures kept { IsWorked sched.now scale last.old → IsWorked sched.now scale last.new }
 {
     let Some(urgent) = standing.urgent else {
         return Prio {
@@ -42,16 +51,25 @@ fn prio_at(sched: &Sched, scale: Scale, standing: &Standing, tickets: u64) -> Pr
             total: 0,
         };
     };
-    let np = priority_part(urgent.priority);
-    let nu = urgency_part(scale.low, scale.high, urgent.urgency);
-    let nt = tickets_part(scale.most, tickets);
+    work_on(sched, scale, last, urgent, tickets);
     Prio {
         job: standing.job,
-        np,
-        nu,
-        nt,
-        total: weighted_sum(sched, np, nu, nt),
+        np: last.np,
+        nu: last.nu,
+        nt: last.nt,
+        total: last.total,
     }
+}
+
+// What is worked out for a job that has nothing, to begin with.
+fn first_worked(sched: &Sched, scale: Scale) -> Worked
+    ensures { IsWorked sched.now scale result }
+{
+    let nothing = Urgent {
+        priority: 0,
+        urgency: 0,
+    };
+    work_out(sched, scale, nothing, 0)
 }
 
 fn prios_on(
@@ -64,11 +82,12 @@ fn prios_on(
     ensures { IfOk result (λ prios. prios ≡ map (prio_of sched.now scale)
         (zip standings.now tickets.now)) }
 {
-    let mut prios = List::from_vec(Vec::with_capacity(alloc, standings.len())?);
+    let mut prios = Vec::with_capacity(alloc, standings.len())?;
+    let mut last = first_worked(sched, scale);
     for (standing, tickets) in standings.iter().zip(tickets) {
-        prios.push(prio_at(sched, scale, standing, *tickets))?;
+        prios.push_reserved(prio_at(sched, scale, &mut last, standing, *tickets));
     }
-    Ok(prios)
+    Ok(List::from_vec(prios))
 }
 
 /// The priorities of jobs at a moment, in their order; the second list has the tickets of each. Urgency and tickets count by what
@@ -84,9 +103,10 @@ pub fn prios(
     ensures { IfOk result (λ prios. prios ≡ prios_of c.now jobs.now tickets.now now) }
 {
     let standings = standings(alloc, c, jobs.items(), now)?;
+    let (low, high) = extremes(standings.as_slice());
     let scale = Scale {
-        low: lowest(standings.as_slice()),
-        high: highest(standings.as_slice()),
+        low,
+        high,
         most: greatest(tickets.items()),
     };
     let prios = prios_on(

@@ -94,24 +94,6 @@ fn lesser(low: Option<u128>, standing: &Standing) -> Option<u128>
     }
 }
 
-fn least_of(standings: &[Standing]) -> Option<u128>
-    ensures { result ≡ fold with_lesser None standings.now }
-{
-    let mut low = None;
-    for standing in standings {
-        low = lesser(low, standing);
-    }
-    low
-}
-
-/// The least urgency, 0 where there is none.
-#[tactic(auto, using(crate::proofs::Scaled::lowest_is))]
-pub(crate) fn lowest(standings: &[Standing]) -> u128
-    ensures { result ≡ least (urgencies_of standings.now) }
-{
-    least_of(standings).unwrap_or(0)
-}
-
 fn greater(high: u128, standing: &Standing) -> u128
     ensures { result ≡ with_greater high standing.now }
 {
@@ -121,20 +103,26 @@ fn greater(high: u128, standing: &Standing) -> u128
     }
 }
 
-fn greatest_of(standings: &[Standing]) -> u128
-    ensures { result ≡ fold with_greater 0 standings.now }
+// The least urgency, if there is one, and the greatest, 0 where there is none.
+fn extremes_found(standings: &[Standing]) -> (Option<u128>, u128)
+    ensures low { result.0 ≡ fold with_lesser None standings.now }
+    ensures high { result.1 ≡ fold with_greater 0 standings.now }
 {
+    let mut low = None;
     let mut high = 0;
     for standing in standings {
+        low = lesser(low, standing);
         high = greater(high, standing);
     }
-    high
+    (low, high)
 }
 
-/// The greatest urgency, 0 where there is none.
-#[tactic(auto, using(crate::proofs::Scaled::highest_is))]
-pub(crate) fn highest(standings: &[Standing]) -> u128
-    ensures { result ≡ greatest (urgencies_of standings.now) }
+/// The least and the greatest urgency, 0 where there is none.
+#[tactic(auto, using(crate::proofs::Scaled::lowest_is, crate::proofs::Scaled::highest_is))]
+pub(crate) fn extremes(standings: &[Standing]) -> (u128, u128)
+    ensures low { result.0 ≡ least (urgencies_of standings.now) }
+    ensures high { result.1 ≡ greatest (urgencies_of standings.now) }
 {
-    greatest_of(standings)
+    let (low, high) = extremes_found(standings);
+    (low.unwrap_or(0), high)
 }

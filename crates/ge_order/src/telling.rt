@@ -6,7 +6,7 @@ ghost use Rattle.ge_model_value.specs.Complexes.{complex_at};
 ghost use Rattle.ge_order.specs.Kinds as kind;
 
 use crate::asked::slots_complex;
-use crate::kinds::kind_urgency;
+use crate::kinds::asked_again;
 use crate::standing::{Standing, Urgent};
 use crate::urging::urgency_by;
 use ge_beside::{row_at, walk};
@@ -31,18 +31,25 @@ fn standing_told<'a>(
     rows: &'a BTreeMap<u32, ShortRow<JobFacts>>,
     left: &mut Iter<'a, u32, ShortRow<JobFacts>>,
     kinds: &mut Table<u32, u128>,
+    last: &mut Option<(u32, u128)>,
     number: u32,
     now: u64,
 ) -> Result<Standing, AllocError>
     ensures standing { option_copied unit.entry ≡ complex_at c.now (codes "slots")
         → AreFound rows.now.entries left.old → kind.AreAsked c.now rows.now.entries kinds.old
-        → IfOk result (λ standing. standing
+        → kind.IsAsked c.now rows.now.entries last.old → IfOk result (λ standing. standing
         ≡ kind.told_standing c.now rows.now.entries now number) }
     ensures others { AreFound rows.now.entries left.old → AreFound rows.now.entries left.new }
     ensures asked { option_copied unit.entry ≡ complex_at c.now (codes "slots")
         → AreFound rows.now.entries left.old → kind.SameAsked c.now rows.now.entries
         → kind.AreAsked c.now rows.now.entries kinds.old
+        → kind.IsAsked c.now rows.now.entries last.old
         → OnOk result (kind.AreAsked c.now rows.now.entries kinds.new) }
+    ensures last { option_copied unit.entry ≡ complex_at c.now (codes "slots")
+        → AreFound rows.now.entries left.old → kind.SameAsked c.now rows.now.entries
+        → kind.AreAsked c.now rows.now.entries kinds.old
+        → kind.IsAsked c.now rows.now.entries last.old
+        → OnOk result (kind.IsAsked c.now rows.now.entries last.new) }
 {
     match row_at(rows, left, number) {
         None => Ok(Standing {
@@ -50,7 +57,7 @@ fn standing_told<'a>(
             urgent: None,
         }),
         Some(row) => {
-            let asked = kind_urgency(c, unit, kinds, row.third, number)?;
+            let asked = asked_again(c, unit, kinds, last, row.third, number)?;
             Ok(Standing {
                 job: number,
                 urgent: Some(urgent_by(c, now, asked, &row.facts)),
@@ -72,11 +79,14 @@ pub(crate) fn standings_told(
 {
     let unit = slots_complex(c);
     let mut kinds = Table::new(alloc);
+    let mut last = None;
     let mut left = walk(rows);
     let mut standings = Vec::with_capacity(alloc, jobs.len())?;
     for number in jobs {
-        let standing = standing_told(c, unit, rows, &mut left, &mut kinds, *number, now)?;
-        standings.push(standing)?;
+        let standing = standing_told(
+            c, unit, rows, &mut left, &mut kinds, &mut last, *number, now,
+        )?;
+        standings.push_reserved(standing);
     }
     Ok(standings)
 }

@@ -1,6 +1,0 @@
-use Rattle.std.proofs.Common.{◌≡◌, fold, drop, None}
-use Rattle.ge_order.specs.Standings.{with_lesser}
-use Rattle.ge_order.proofs.standing.least_of.Given as goal
-
-abbrev pub invariant-loop-standing : goal.invariant-loop-standing
-invariant-loop-standing l = fold with_lesser l.low (drop l.standing-index l.standings) ≡ fold with_lesser None l.standings
