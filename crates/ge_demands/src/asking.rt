@@ -16,6 +16,12 @@ pub(crate) struct Asked {
     pub(crate) once: bool,
 }
 
+/// What each slot asks of what counts slots.
+pub(crate) const ONE_SLOT: Asked = Asked {
+    amount: 1,
+    once: false,
+};
+
 fn is_asked_once(consumable: Consumable) -> bool
     ensures { result ≡ is_job consumable }
 {
@@ -43,10 +49,7 @@ pub(crate) fn asked_of(cluster: &Cluster, job: &Job, name: &Text) -> Asked
     ensures once { result.once ≡ is_per_job cluster.now name.now }
 {
     if is_slots(name) {
-        return Asked {
-            amount: 1,
-            once: false,
-        };
+        return ONE_SLOT;
     }
     match complex_at(cluster, name) {
         Some(complex) => {

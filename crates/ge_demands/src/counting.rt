@@ -8,16 +8,16 @@ ghost use Rattle.ge_collections.specs.Keyed.{at_text};
 ghost use Rattle.ge_model_bookings.specs.Bookings.{same_limit};
 ghost use Rattle.ge_model_rows.specs.ScheduleRows.{Global as Everywhere, Host, Instance, Pe, Quota};
 ghost use Rattle.ge_model_site.specs.Queues.{attr_at};
-ghost use Rattle.ge_model_place.specs.Opening.{global_name};
+ghost use Rattle.ge_model_place.specs.Opening.{global_name, slots_name};
 ghost use Rattle.ge_model_place.specs.Limits.{configured_limits, counted_at, host_limits, instance_limits, limits_at, pe_limits, who_at};
 ghost use Rattle.ge_model_place.specs.Quotas.{quota_keys};
 ghost use Rattle.ge_demands.specs.Counts.{all_counted, counted_as};
 ghost use Rattle.ge_demands.specs.Found.{found_with, with_host_value, with_instance_value, with_limit};
 
-use crate::asking::{Asked, asked_of};
+use crate::asking::{Asked, ONE_SLOT, asked_of};
 use crate::capacities::{in_advance, in_environment, in_queue, in_quota, is_slots, on_host};
 use ge_bookings::is_same_limit;
-use ge_queues::{at_host, global_host};
+use ge_queues::{at_host, global_host, slots_at};
 use ge_quota::{Who, keys};
 use ge_rows::{
     Cluster, Groups, HostRow, InstanceId, Job, LimitId, List, QueueRow, QuotaKey, Text, Twin,
@@ -44,19 +44,8 @@ fn is_there(found: &[Counted], limit: &LimitId) -> bool
     found.iter().any(|more| is_same_limit(limit, &more.limit))
 }
 
-// What counts, behind what was found, unless its limit was.
+// What counts of a limit, behind what was found, unless the limit was.
 #[tactic(auto, using(crate::proofs::Gathered::found_anywhere))]
-fn add_once(found: &mut Vec<Counted>, more: Counted) -> Result<(), AllocError>
-    ensures { OnOk result (all_counted found.new.items
-        ≡ found_with (all_counted found.old.items) (counted_as more ∷ [])) }
-{
-    if is_there(found.as_slice(), &more.limit) {
-        return Ok(());
-    }
-    found.push(more)?;
-    Ok(())
-}
-
 fn add(
     found: &mut Vec<Counted>,
     limit: LimitId,
@@ -67,15 +56,16 @@ fn add(
         ≡ found_with (all_counted found.old.items)
         (record { limit = limit; capacity = capacity; amount = asked.amount; once = asked.once } ∷ [])) }
 {
-    add_once(
-        found,
-        Counted {
-            limit,
-            capacity,
-            amount: asked.amount,
-            once: asked.once,
-        },
-    )
+    if is_there(found.as_slice(), &limit) {
+        return Ok(());
+    }
+    found.push(Counted {
+        limit,
+        capacity,
+        amount: asked.amount,
+        once: asked.once,
+    })?;
+    Ok(())
 }
 
 // A limit of an instance, which is only made where something is asked of it.
@@ -124,6 +114,27 @@ fn add_values_of_instance(
     Ok(())
 }
 
+// The slots of an instance, of which each slot asks one.
+fn add_slots(
+    alloc: Global,
+    cluster: &Cluster,
+    groups: &Groups,
+    job: &Job,
+    at: &InstanceId,
+    queue: &QueueRow,
+    found: &mut Vec<Counted>,
+) -> Result<(), AllocError>
+    requires { at_text cluster.now.queues at.now.queue ≡ Some queue.now }
+    ensures { OnOk result (all_counted found.new.items
+        ≡ with_limit cluster.now groups.now job.now (all_counted found.old.items)
+        (Instance at.now slots_name)) }
+{
+    let capacity = u128::from(slots_at(queue, groups, &at.host));
+    let slots = Text::from_bytes(alloc, b"slots")?;
+    let at = at.twin(alloc)?;
+    add(found, LimitId::Instance(at, slots), capacity, ONE_SLOT)
+}
+
 // The limits of an instance: those of its values, and its slots.
 #[tactic(auto, using(crate::proofs::Gathered::of_instance))]
 fn add_instance(
@@ -141,8 +152,7 @@ fn add_instance(
     match cluster.queues.get(&at.queue) {
         Some(queue) => {
             add_values_of_instance(alloc, cluster, groups, job, at, queue, found)?;
-            let slots = Text::from_bytes(alloc, b"slots")?;
-            add_of_instance(alloc, cluster, groups, job, at, queue, found, &slots)
+            add_slots(alloc, cluster, groups, job, at, queue, found)
         }
         None => Ok(()),
     }
@@ -285,16 +295,8 @@ fn add_environment(
     match &job.request.pe {
         Some(request) => {
             let capacity = u128::from(in_environment(cluster.pes.get(&request.name)));
-            let asked = Asked {
-                amount: 1,
-                once: false,
-            };
-            add(
-                found,
-                LimitId::Pe(request.name.twin(alloc)?),
-                capacity,
-                asked,
-            )
+            let name = request.name.twin(alloc)?;
+            add(found, LimitId::Pe(name), capacity, ONE_SLOT)
         }
         None => Ok(()),
     }
@@ -397,16 +399,8 @@ fn add_limits(
         return add_configured(alloc, cluster, groups, job, at, found);
     }
     let capacity = in_advance(at, cluster.advances.get(&job.advance));
-    let asked = Asked {
-        amount: 1,
-        once: false,
-    };
-    add(
-        found,
-        LimitId::Advance(job.advance, at.twin(alloc)?),
-        capacity,
-        asked,
-    )
+    let at = at.twin(alloc)?;
+    add(found, LimitId::Advance(job.advance, at), capacity, ONE_SLOT)
 }
 
 /// The limits that a grant of a job at an instance counts for, each once, with what is asked of it for one slot, which is

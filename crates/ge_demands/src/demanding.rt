@@ -15,7 +15,7 @@ use std::alloc::{AllocError, Global};
 const GREATEST: u128 = 18_446_744_073_709_551_615;
 
 // Up to so many grants, a look through their demands takes less than an index.
-const FEW_GRANTS: usize = 4;
+const FEW_GRANTS: usize = 12;
 
 // What slots ask of a limit, cut at the greatest demand.
 fn amount_for(slots: u32, counted: &Counted) -> u128

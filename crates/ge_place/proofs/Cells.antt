@@ -13,8 +13,8 @@ use Rattle.ge_model_rows.specs.JobRows.{Grant}
 use Rattle.ge_model_rows.specs.ScheduleRows.{LimitId}
 use Rattle.ge_model_place.specs.Placement.{Cell, slot_asks, cell_asks, asked_so_far, takes_one_more, with_slot, slots_given, hosts_in, grant_of}
 use Rattle.ge_model_place.proofs.Filled.{times_slots}
-use Rattle.ge_place.specs.declared.spots.Spot.{Spot}
-use Rattle.ge_place.specs.Spots.{rooms_as, cell_with, empty_cell, cells_with, no_slots_at, one_more_at, host_of, hosts_among}
+use Rattle.ge_place.specs.declared.spots.Search.{Search}
+use Rattle.ge_place.specs.Spots.{cell_with, cells_with, no_slots_at, one_more_at, host_of, hosts_among, cell_in}
 
 -- first places
 
@@ -40,19 +40,19 @@ later_is test x xs e =
 
 -- one more slot, at the first instance that takes it
 
-module _ (here : InstanceId → Bool) (cells : List Cell) (test : Spot → Bool) (same : (spot : Spot) (n : ℕ) → (here spot.instance.now && takes_one_more cells (cell_with spot n)) ≡ test spot) where
-  slot_here : (spot : Spot) (n : ℕ) (rest : List Cell) → test spot ≡ true → with_slot here cells (cell_with spot n ∷ rest) ≡ Some (cell_with spot (n + 1) ∷ rest)
+module _ (here : InstanceId → Bool) (cells : List Cell) (test : Cell → Bool) (same : (spot : Cell) (n : ℕ) → (here spot.at && takes_one_more cells (cell_with spot n)) ≡ test spot) where
+  slot_here : (spot : Cell) (n : ℕ) (rest : List Cell) → test spot ≡ true → with_slot here cells (cell_with spot n ∷ rest) ≡ Some (cell_with spot (n + 1) ∷ rest)
   slot_here spot n rest does = rw (same spot n ∙ does, with_slot) refl
 
-  slot_later : (spot : Spot) (n : ℕ) (rest : List Cell) → test spot ≡ false → with_slot here cells (cell_with spot n ∷ rest) ≡ option_map (λ more. cell_with spot n ∷ more) (with_slot here cells rest)
+  slot_later : (spot : Cell) (n : ℕ) (rest : List Cell) → test spot ≡ false → with_slot here cells (cell_with spot n ∷ rest) ≡ option_map (λ more. cell_with spot n ∷ more) (with_slot here cells rest)
   slot_later spot n rest fails = rw (same spot n ∙ fails, with_slot) refl
 
-  given_behind : (spot : Spot) (n : ℕ) (spots : List Spot) (slots : List ℕ) (found : Option ℕ) → option_map (λ more. cell_with spot n ∷ more) (option_map (λ k. cells_with spots (one_more_at slots k)) found)
+  given_behind : (spot : Cell) (n : ℕ) (spots : List Cell) (slots : List ℕ) (found : Option ℕ) → option_map (λ more. cell_with spot n ∷ more) (option_map (λ k. cells_with spots (one_more_at slots k)) found)
       ≡ option_map (λ k. cells_with (spot ∷ spots) (one_more_at (n ∷ slots) k)) (option_map (λ k. suc k) found)
   given_behind spot n spots slots None = refl
   given_behind spot n spots slots (Some k) = refl
 
-  pub slot_is : (spots : List Spot) (slots : List ℕ) → length slots ≡ length spots → with_slot here cells (cells_with spots slots) ≡ option_map (λ k. cells_with spots (one_more_at slots k)) (position test spots)
+  pub slot_is : (spots : List Cell) (slots : List ℕ) → length slots ≡ length spots → with_slot here cells (cells_with spots slots) ≡ option_map (λ k. cells_with spots (one_more_at slots k)) (position test spots)
   slot_is [] slots long = refl
   slot_is (spot ∷ spots) [] long = absurd (omega (arith, long))
   slot_is (spot ∷ spots) (n ∷ slots) long =
@@ -67,7 +67,7 @@ module _ (here : InstanceId → Bool) (cells : List Cell) (test : Spot → Bool)
 
 -- what is given and asked with one more slot
 
-pub given_more : (spots : List Spot) (slots : List ℕ) (k : ℕ) → length slots ≡ length spots → k < length spots → slots_given (cells_with spots (one_more_at slots k)) ≡ slots_given (cells_with spots slots) + 1
+pub given_more : (spots : List Cell) (slots : List ℕ) (k : ℕ) → length slots ≡ length spots → k < length spots → slots_given (cells_with spots (one_more_at slots k)) ≡ slots_given (cells_with spots slots) + 1
 given_more [] slots k long less = absurd (omega (arith, less))
 given_more (spot ∷ spots) [] k long less = absurd (omega (arith, long))
 given_more (spot ∷ spots) (n ∷ slots) zero long less =
@@ -80,22 +80,22 @@ given_more (spot ∷ spots) (n ∷ slots) (suc k) long less =
     let before = sum_by-cons (λ (x : Cell). x.slots) (cell_with spot n) (cells_with spots slots) in
     omega (arith, rest, after, before)
 
-one_asks_more : (spot : Spot) (n : ℕ) (limit : LimitId) → cell_asks limit (cell_with spot (n + 1)) ≡ cell_asks limit (cell_with spot n) + sum_by (slot_asks limit) (rooms_as spot.bounds.items)
+one_asks_more : (spot : Cell) (n : ℕ) (limit : LimitId) → cell_asks limit (cell_with spot (n + 1)) ≡ cell_asks limit (cell_with spot n) + sum_by (slot_asks limit) spot.rooms
 one_asks_more spot n limit =
-    let s : ℕ = sum_by (slot_asks limit) (rooms_as spot.bounds.items) in
+    let s : ℕ = sum_by (slot_asks limit) spot.rooms in
     let more = times_slots (n + 1) s in
     let before = times_slots n s in
     omega (arith, more, before)
 
-pub asked_more : (limit : LimitId) (spots : List Spot) (slots : List ℕ) (k : ℕ) (spot : Spot) → length slots ≡ length spots → k < length spots → spot ≡ get_or spots k spot
-    → asked_so_far (cells_with spots (one_more_at slots k)) limit ≡ asked_so_far (cells_with spots slots) limit + sum_by (slot_asks limit) (rooms_as spot.bounds.items)
+pub asked_more : (limit : LimitId) (spots : List Cell) (slots : List ℕ) (k : ℕ) (spot : Cell) → length slots ≡ length spots → k < length spots → spot ≡ get_or spots k spot
+    → asked_so_far (cells_with spots (one_more_at slots k)) limit ≡ asked_so_far (cells_with spots slots) limit + sum_by (slot_asks limit) spot.rooms
 asked_more limit [] slots k spot long less is = absurd (omega (arith, less))
 asked_more limit (x ∷ spots) [] k spot long less is = absurd (omega (arith, long))
 asked_more limit (x ∷ spots) (n ∷ slots) zero spot long less is =
     let after = sum_by-cons (cell_asks limit) (cell_with x (n + 1)) (cells_with spots slots) in
     let before = sum_by-cons (cell_asks limit) (cell_with x n) (cells_with spots slots) in
     let one = one_asks_more x n limit in
-    let same : sum_by (slot_asks limit) (rooms_as spot.bounds.items) ≡ sum_by (slot_asks limit) (rooms_as x.bounds.items) = ap (λ (y : Spot). sum_by (slot_asks limit) (rooms_as y.bounds.items)) is in
+    let same : sum_by (slot_asks limit) spot.rooms ≡ sum_by (slot_asks limit) x.rooms = ap (λ (y : Cell). sum_by (slot_asks limit) y.rooms) is in
     omega (arith, after, before, one, same)
 asked_more limit (x ∷ spots) (n ∷ slots) (suc k) spot long less is =
     let rest = asked_more limit spots slots k spot (omega (arith, long)) (omega (arith, less)) is in
@@ -105,21 +105,21 @@ asked_more limit (x ∷ spots) (n ∷ slots) (suc k) spot long less is =
 
 -- before any slot is given
 
-pub empty_cells : (spots : List Spot) → map empty_cell spots ≡ cells_with spots (no_slots_at spots)
-empty_cells [] = refl
-empty_cells (spot ∷ spots) = ap (λ xs. cell_with spot 0 ∷ xs) (empty_cells spots)
+pub empty_cells : (search : Search) (order : List InstanceId) → cells_with (map (cell_in search) order) (no_slots_at (map (cell_in search) order)) ≡ map (cell_in search) order
+empty_cells search [] = refl
+empty_cells search (at ∷ order) = ap (λ xs. cell_in search at ∷ xs) (empty_cells search order)
 
-pub none_long : (spots : List Spot) → length (no_slots_at spots) ≡ length spots
+pub none_long : (spots : List Cell) → length (no_slots_at spots) ≡ length spots
 none_long spots = length-replicate (length spots) 0
 
-pub none_asked : (spots : List Spot) (limit : LimitId) → asked_so_far (cells_with spots (no_slots_at spots)) limit ≡ 0
+pub none_asked : (spots : List Cell) (limit : LimitId) → asked_so_far (cells_with spots (no_slots_at spots)) limit ≡ 0
 none_asked [] limit = refl
 none_asked (spot ∷ spots) limit =
     let all = sum_by-cons (cell_asks limit) (cell_with spot 0) (cells_with spots (no_slots_at spots)) in
     let rest = none_asked spots limit in
     all ∙ omega (arith, rest)
 
-pub none_given : (spots : List Spot) → slots_given (cells_with spots (no_slots_at spots)) ≡ 0
+pub none_given : (spots : List Cell) → slots_given (cells_with spots (no_slots_at spots)) ≡ 0
 none_given [] = refl
 none_given (spot ∷ spots) =
     let all = sum_by-cons (λ (x : Cell). x.slots) (cell_with spot 0) (cells_with spots (no_slots_at spots)) in
@@ -128,17 +128,17 @@ none_given (spot ∷ spots) =
 
 -- hosts
 
-same_hosts : (spots : List Spot) (slots : List ℕ) → length slots ≡ length spots → map (λ (cell : Cell). cell.at.host) (cells_with spots slots) ≡ map host_of spots
+same_hosts : (spots : List Cell) (slots : List ℕ) → length slots ≡ length spots → map (λ (cell : Cell). cell.at.host) (cells_with spots slots) ≡ map host_of spots
 same_hosts [] slots long = refl
 same_hosts (spot ∷ spots) [] long = absurd (omega (arith, long))
 same_hosts (spot ∷ spots) (n ∷ slots) long = ap (λ xs. host_of spot ∷ xs) (same_hosts spots slots (omega (arith, long)))
 
-pub hosts_are : (spots : List Spot) → hosts_in (cells_with spots (no_slots_at spots)) ≡ hosts_among spots
+pub hosts_are : (spots : List Cell) → hosts_in (cells_with spots (no_slots_at spots)) ≡ hosts_among spots
 hosts_are spots = ap each_once (same_hosts spots (no_slots_at spots) (none_long spots))
 
 -- grants
 
-pub cells_from : (spots : List Spot) (slots : List ℕ) (k : ℕ) (spot : Spot) → k < length spots → k < length slots → spot ≡ get_or spots k spot
+pub cells_from : (spots : List Cell) (slots : List ℕ) (k : ℕ) (spot : Cell) → k < length spots → k < length slots → spot ≡ get_or spots k spot
     → cells_with (drop k spots) (drop k slots) ≡ cell_with spot (get_or slots k 0) ∷ cells_with (drop (k + 1) spots) (drop (k + 1) slots)
 cells_from spots slots k spot less within is =
     let first : drop k spots ≡ spot ∷ drop (k + 1) spots = rw (add-one) (drop-cons spots k spot less ∙ ap (λ x. x ∷ drop (suc k) spots) (sym is)) in

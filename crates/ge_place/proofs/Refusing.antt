@@ -5,18 +5,15 @@ use Rattle.std.proofs.lemmas.Bool.{cases_Bool, cases_eq, and_parts, and_from, le
 use Rattle.ge_model_rows.specs.HostRows.{InstanceId}
 use Rattle.ge_model_rows.specs.ScheduleRows.{LimitId}
 use Rattle.ge_model_place.specs.Limits.{greatest_demand}
-use Rattle.ge_model_place.specs.Placement.{Room}
-use Rattle.ge_place.specs.declared.spots.Bound.{Bound}
-use Rattle.ge_place.specs.declared.spots.Spot.{Spot}
-use Rattle.ge_place.specs.Spots.{room_as}
+use Rattle.ge_model_place.specs.Placement.{Room, Cell}
 use Rattle.ge_place.specs.Sums.{sum_of_both, asked_with, has_room_for, takes_by, AsksMore}
 use Rattle.ge_place.proofs.Cells.{first_is, later_is}
 
 -- the instances before a place take no slot
-abbrev pub AreRefused : (InstanceId → Bool) → List (LimitId × ℕ) → List (LimitId × ℕ) → List Spot → ℕ → Type 0
-AreRefused here before since spots place = (k : ℕ) (d : Spot) → k < place → takes_by here before since (get_or spots k d) ≡ false
+abbrev pub AreRefused : (InstanceId → Bool) → List (LimitId × ℕ) → List (LimitId × ℕ) → List Cell → ℕ → Type 0
+AreRefused here before since spots place = (k : ℕ) (d : Cell) → k < place → takes_by here before since (get_or spots k d) ≡ false
 
-module _ (before since more : List (LimitId × ℕ)) (bounds : List Bound) (asks : AsksMore bounds since more) where
+module _ (before since more : List (LimitId × ℕ)) (asked : List Room) (asks : AsksMore asked since more) where
   room_less : (room : Room) → has_room_for before more room ≡ true → has_room_for before since room ≡ true
   room_less room e =
       elim (cases_Bool room.counted.once) [
@@ -32,48 +29,48 @@ module _ (before since more : List (LimitId × ℕ)) (bounds : List Bound) (asks
             le-leb (room.booked + min (asked_with before since room.counted) greatest_demand) room.counted.capacity (omega (arith, fits, first, second, sums))
       ]
 
-  all_less : (rooms : List Bound) → list_all (λ (bound : Bound). has_room_for before more (room_as bound)) rooms ≡ true → list_all (λ (bound : Bound). has_room_for before since (room_as bound)) rooms ≡ true
+  all_less : (rooms : List Room) → list_all (has_room_for before more) rooms ≡ true → list_all (has_room_for before since) rooms ≡ true
   all_less [] e = refl
-  all_less (bound ∷ rooms) e =
-      let parts = and_parts (has_room_for before more (room_as bound)) (list_all (λ (bound : Bound). has_room_for before more (room_as bound)) rooms) e in
-      and_from (has_room_for before since (room_as bound)) (list_all (λ (bound : Bound). has_room_for before since (room_as bound)) rooms) (room_less (room_as bound) parts.0) (all_less rooms parts.1)
+  all_less (room ∷ rooms) e =
+      let parts = and_parts (has_room_for before more room) (list_all (has_room_for before more) rooms) e in
+      and_from (has_room_for before since room) (list_all (has_room_for before since) rooms) (room_less room parts.0) (all_less rooms parts.1)
 
-  still_refused : (here : InstanceId → Bool) (spot : Spot) → takes_by here before since spot ≡ false → takes_by here before more spot ≡ false
+  still_refused : (here : InstanceId → Bool) (spot : Cell) → takes_by here before since spot ≡ false → takes_by here before more spot ≡ false
   still_refused here spot refused =
       false_from_ne_true (takes_by here before more spot) (λ does.
-      let rest : Bool = list_all (λ (bound : Bound). has_room_for before more (room_as bound)) spot.bounds.items in
-      let parts = and_parts (here spot.instance.now) (spot.free && rest) does in
-      let both = and_parts spot.free rest parts.1 in
-      let less = all_less spot.bounds.items both.1 in
-      true≢false (sym (and_from (here spot.instance.now) (spot.free && list_all (λ (bound : Bound). has_room_for before since (room_as bound)) spot.bounds.items) parts.0
-      (and_from spot.free (list_all (λ (bound : Bound). has_room_for before since (room_as bound)) spot.bounds.items) both.0 less)) ∙ refused))
+      let rest : Bool = list_all (has_room_for before more) spot.rooms in
+      let parts = and_parts (here spot.at) (spot.opened && rest) does in
+      let both = and_parts spot.opened rest parts.1 in
+      let less = all_less spot.rooms both.1 in
+      true≢false (sym (and_from (here spot.at) (spot.opened && list_all (has_room_for before since) spot.rooms) parts.0
+      (and_from spot.opened (list_all (has_room_for before since) spot.rooms) both.0 less)) ∙ refused))
 
-  pub refused_more : (here : InstanceId → Bool) (spots : List Spot) (place : ℕ) → AreRefused here before since spots place → AreRefused here before more spots place
+  pub refused_more : (here : InstanceId → Bool) (spots : List Cell) (place : ℕ) → AreRefused here before since spots place → AreRefused here before more spots place
   refused_more here spots place refused k d less = still_refused here (get_or spots k d) (refused k d less)
 
-pub refused_next : (here : InstanceId → Bool) (before since : List (LimitId × ℕ)) (spots : List Spot) (place : ℕ) (spot : Spot) → place < length spots → spot ≡ get_or spots place spot → takes_by here before since spot ≡ false
+pub refused_next : (here : InstanceId → Bool) (before since : List (LimitId × ℕ)) (spots : List Cell) (place : ℕ) (spot : Cell) → place < length spots → spot ≡ get_or spots place spot → takes_by here before since spot ≡ false
     → AreRefused here before since spots place → AreRefused here before since spots (place + 1)
 refused_next here before since spots place spot inside is fails refused k d less =
     elim (cases_eq k place) [
-      | inl same ↦ subst (λ n. takes_by here before since (get_or spots n d) ≡ false) (sym same) (subst (λ (x : Spot). takes_by here before since x ≡ false) (is ∙ any_default spots place spot d inside) fails)
+      | inl same ↦ subst (λ n. takes_by here before since (get_or spots n d) ≡ false) (sym same) (subst (λ (x : Cell). takes_by here before since x ≡ false) (is ∙ any_default spots place spot d inside) fails)
       | inr other ↦ refused k d (omega (arith, less, other))
     ]
   where
-    any_default : (xs : List Spot) (n : ℕ) (a b : Spot) → n < length xs → get_or xs n a ≡ get_or xs n b
+    any_default : (xs : List Cell) (n : ℕ) (a b : Cell) → n < length xs → get_or xs n a ≡ get_or xs n b
     any_default [] n a b h = absurd (omega (arith, h))
     any_default (x ∷ xs) zero a b h = refl
     any_default (x ∷ xs) (suc n) a b h = any_default xs n a b (omega (arith, h))
 
 -- the first instance that takes a slot is the one at a place before which none does
 
-pub first_at : (test : Spot → Bool) (spots : List Spot) (place : ℕ) (spot : Spot) → place < length spots → spot ≡ get_or spots place spot → ((k : ℕ) (d : Spot) → k < place → test (get_or spots k d) ≡ false) → test spot ≡ true
+pub first_at : (test : Cell → Bool) (spots : List Cell) (place : ℕ) (spot : Cell) → place < length spots → spot ≡ get_or spots place spot → ((k : ℕ) (d : Cell) → k < place → test (get_or spots k d) ≡ false) → test spot ≡ true
     → position test spots ≡ Some place
 first_at test [] place spot inside is refused does = absurd (omega (arith, inside))
-first_at test (x ∷ spots) zero spot inside is refused does = first_is test x spots (subst (λ (y : Spot). test y ≡ true) is does)
+first_at test (x ∷ spots) zero spot inside is refused does = first_is test x spots (subst (λ (y : Cell). test y ≡ true) is does)
 first_at test (x ∷ spots) (suc place) spot inside is refused does =
     later_is test x spots (refused 0 x (omega arith))
     ∙ ap (λ o. option_map (λ k. suc k) o) (first_at test spots place spot (omega (arith, inside)) is (λ k d less. refused (suc k) d (omega (arith, less))) does)
 
-pub none_at : (test : Spot → Bool) (spots : List Spot) → ((k : ℕ) (d : Spot) → k < length spots → test (get_or spots k d) ≡ false) → position test spots ≡ None
+pub none_at : (test : Cell → Bool) (spots : List Cell) → ((k : ℕ) (d : Cell) → k < length spots → test (get_or spots k d) ≡ false) → position test spots ≡ None
 none_at test [] refused = refl
 none_at test (x ∷ spots) refused = later_is test x spots (refused 0 x (omega arith)) ∙ ap (λ o. option_map (λ k. suc k) o) (none_at test spots (λ k d less. refused (suc k) d (omega (arith, less))))

@@ -1,16 +1,16 @@
 -- Slots that are given one after the other, and by the rules of PEs.
-use Rattle.std.proofs.Common.{◌≡◌, ℕ, zero, suc, ◌+◌, ◌-◌, ◌≤◌, ◌<◌, ◌==◌, inl, inr, Bool, true, false, List, [], ◌∷◌, ◌++◌, fold, take, length, get_or, Option, Some, None, option_map, refl, sym, ap, ◌∙◌, arith}
+use Rattle.std.proofs.Common.{◌≡◌, ℕ, zero, suc, ◌+◌, ◌-◌, ◌≤◌, ◌<◌, ◌==◌, inl, inr, Bool, true, false, List, [], ◌∷◌, ◌++◌, fold, take, drop, length, get_or, Option, Some, None, option_map, refl, sym, ap, ◌∙◌, arith}
 use Rattle.std.specs.Borrow.{Bor}
 use Rattle.std.specs.List.{position}
 use Rattle.std.specs.Prelude.{nat_le, unwrap_or}
 use Rattle.std.proofs.lemmas.Bool.{cond-true, cond-false, cases_eq, lt-ltb, le-ltb, le-leb, lt-leb, eq-eqb, ne_eqb, and_left, and_right, and_from}
-use Rattle.std.proofs.lemmas.List.{take_more, map-append}
+use Rattle.std.proofs.lemmas.List.{take_more, take-append-drop, map-append}
 use Rattle.std.proofs.lemmas.List.Quantifiers.{position-Some}
 use Rattle.std.proofs.lemmas.List.Sums.{fold-append}
 use Rattle.ge_model_rows.specs.HostRows.{InstanceId}
 use Rattle.ge_model_rows.specs.ScheduleRows.{LimitId}
 use Rattle.ge_model_place.specs.Placement.{Cell, next_slot, filled, slots_given, is_on, fuller, with_block, with_turn, with_round, with_rounds}
-use Rattle.ge_place.specs.declared.spots.Spot.{Spot}
+use Rattle.ge_model_place.proofs.Greatest.{gives_one}
 use Rattle.ge_place.specs.Spots.{cells_with, one_more_at, lent}
 use Rattle.ge_place.specs.Sums.{AreTold, takes_by}
 use Rattle.ge_place.proofs.Cells.{slot_is, given_more}
@@ -26,14 +26,14 @@ filled_stop here zero cells e = refl
 filled_stop here (suc left) cells e = rw (e, filled) refl
 
 -- so many of the slots were given
-pub record Fills (here : InstanceId → Bool) (most given : ℕ) (spots : List Spot) (old slots : List ℕ) : Type 0 where
+pub record Fills (here : InstanceId → Bool) (most given : ℕ) (spots : List Cell) (old slots : List ℕ) : Type 0 where
   pub goes : filled here (most - given) (cells_with spots slots) ≡ filled here most (cells_with spots old)
   pub counts : slots_given (cells_with spots slots) ≡ slots_given (cells_with spots old) + given
   pub within : given ≤ most
   pub same : given ≡ 0 → slots ≡ old
   pub long : length slots ≡ length spots
 
-pub fills_none : (here : InstanceId → Bool) (most : ℕ) (spots : List Spot) (slots : List ℕ) → length slots ≡ length spots → Fills here most 0 spots slots slots
+pub fills_none : (here : InstanceId → Bool) (most : ℕ) (spots : List Cell) (slots : List ℕ) → length slots ≡ length spots → Fills here most 0 spots slots slots
 fills_none here most spots slots long = record {
   goes = let e : most - 0 ≡ most = omega arith in ap (λ n. filled here n (cells_with spots slots)) e;
   counts = omega arith;
@@ -42,10 +42,10 @@ fills_none here most spots slots long = record {
   long = long;
 }
 
-pub place_within : (test : Spot → Bool) (spots : List Spot) (k : ℕ) (spot : Spot) → position test spots ≡ Some k → k < length spots
+pub place_within : (test : Cell → Bool) (spots : List Cell) (k : ℕ) (spot : Cell) → position test spots ≡ Some k → k < length spots
 place_within test spots k spot e = (position-Some test spots k spot e).0
 
-module _ (here : InstanceId → Bool) (most given : ℕ) (spots : List Spot) (old slots : List ℕ) (before since : List (LimitId × ℕ)) (told : AreTold before since (cells_with spots slots)) (so_far : Fills here most given spots old slots) where
+module _ (here : InstanceId → Bool) (most given : ℕ) (spots : List Cell) (old slots : List ℕ) (before since : List (LimitId × ℕ)) (told : AreTold before since (cells_with spots slots)) (so_far : Fills here most given spots old slots) where
   next_is : next_slot here (cells_with spots slots) ≡ option_map (λ k. cells_with spots (one_more_at slots k)) (position (takes_by here before since) spots)
   next_is = slot_is here (cells_with spots slots) (takes_by here before since) (takes_is before since (cells_with spots slots) told here) spots slots so_far.long
 
@@ -88,6 +88,48 @@ fuller_is best other n m first second less = cond-true _ _ _ (lt-ltb (slots_give
 
 pub fuller_not : (best other : List Cell) (n m : ℕ) → slots_given best ≡ n → slots_given other ≡ m → m ≤ n → fuller best other ≡ best
 fuller_not best other n m first second more = cond-false _ _ _ (le-ltb (slots_given best) (slots_given other) (omega (arith, first, second, more)))
+
+-- no host takes more than all
+
+filled_most : (here : InstanceId → Bool) (n : ℕ) (cells : List Cell) → slots_given (filled here n cells) ≤ slots_given cells + n
+filled_most here zero cells = omega arith
+filled_most here (suc n) cells = most (next_slot here cells) refl (λ more. filled_most here n more)
+  where
+    most : (found : Option (List Cell)) → next_slot here cells ≡ found → ((more : List Cell) → slots_given (filled here n more) ≤ slots_given more + n) → slots_given (filled here (suc n) cells) ≤ slots_given cells + suc n
+    most None e rest = let same = ap slots_given (filled_stop here (suc n) cells e) in omega (arith, same)
+    most (Some more) e rest =
+        let one = gives_one here cells more e in
+        let less = rest more in
+        let same = ap slots_given (filled_next here n cells more e) in
+        omega (arith, one, less, same)
+
+-- a host that takes all is kept, whatever hosts come
+full_stays : (high n : ℕ) (start best : List Cell) (hosts : List (List ℕ)) → slots_given start ≡ 0 → slots_given best ≡ n → high ≤ n
+    → fold (λ best host. fuller best (filled (is_on host) high start)) best hosts ≡ best
+full_stays high n start best [] none count full = refl
+full_stays high n start best (host ∷ hosts) none count full =
+    let most = filled_most (is_on host) high start in
+    let stays : fuller best (filled (is_on host) high start) ≡ best = cond-false _ _ _ (le-ltb (slots_given best) (slots_given (filled (is_on host) high start)) (omega (arith, most, none, count, full))) in
+    ap (λ b. fold (λ best host. fuller best (filled (is_on host) high start)) b hosts) stays ∙ full_stays high n start best hosts none count full
+
+pub best_full : (high n : ℕ) (start best : List Cell) (hosts : List (Bor (List ℕ))) (i : ℕ) → slots_given start ≡ 0 → slots_given best ≡ n → high ≤ n
+    → best ≡ fold (λ best host. fuller best (filled (is_on host) high start)) start (lent (take i hosts))
+    → best ≡ fold (λ best host. fuller best (filled (is_on host) high start)) start (lent hosts)
+best_full high n start best hosts i none count full so_far =
+    let step : List Cell → List ℕ → List Cell = λ best host. fuller best (filled (is_on host) high start) in
+    let both : lent hosts ≡ lent (take i hosts) ++ lent (drop i hosts) = ap lent (sym (take-append-drop i hosts)) ∙ map-append (λ (x : Bor (List ℕ)). x.now) (take i hosts) (drop i hosts) in
+    sym (ap (λ hs. fold step start hs) both
+    ∙ fold-append step start (lent (take i hosts)) (lent (drop i hosts))
+    ∙ ap (λ b. fold step b (lent (drop i hosts))) (sym so_far)
+    ∙ full_stays high n start best (lent (drop i hosts)) none count full)
+
+-- the best of the hosts so far and one more
+pub best_next : (high : ℕ) (start best : List Cell) (hosts : List (Bor (List ℕ))) (i : ℕ) (host : Bor (List ℕ)) → i < length hosts → host ≡ get_or hosts i host
+    → best ≡ fold (λ best host. fuller best (filled (is_on host) high start)) start (lent (take i hosts))
+    → fold (λ best host. fuller best (filled (is_on host) high start)) start (lent (take (i + 1) hosts)) ≡ fuller best (filled (is_on host.now) high start)
+best_next high start best hosts i host less is so_far =
+    let step : List Cell → List ℕ → List Cell = λ best host. fuller best (filled (is_on host) high start) in
+    fold_lent step start hosts i host less is ∙ ap (λ b. step b host.now) (sym so_far)
 
 -- a number
 

@@ -1,11 +1,12 @@
 -- What is asked of limits, by sums that are kept.
-use Rattle.std.proofs.Common.{◌≡◌, ℕ, ◌+◌, ◌<◌, inl, inr, Bool, ◌&&◌, cond, min, List, [], ◌∷◌, ◌++◌, length, get_or, sum_by, Some, refl, sym, ap, ◌∙◌, arith}
+use Rattle.std.proofs.Common.{◌≡◌, ℕ, ◌+◌, ◌<◌, inl, inr, Bool, true, ◌&&◌, cond, min, List, [], ◌∷◌, ◌++◌, length, get_or, sum_by, Some, refl, sym, subst, ap, ◌∙◌, arith}
 use Rattle.std.specs.List.{list_all}
 use Rattle.std.specs.Map.{lookup}
 use Rattle.std.specs.BTreeMap.{is_at}
 use Rattle.std.specs.Prelude.{nat_le, unwrap_or}
-use Rattle.std.proofs.lemmas.Bool.{cond-true, cond-false, cases_Bool}
+use Rattle.std.proofs.lemmas.Bool.{cond-true, cond-false, cases_Bool, false≢true}
 use Rattle.std.proofs.lemmas.List.{map-append}
+use Rattle.std.proofs.lemmas.List.Folds.{list_all-map}
 use Rattle.std.proofs.lemmas.List.Sums.{sum_by-cons, sum_by-append}
 use Rattle.ge_collections.specs.Changed.{ChangesAt}
 use Rattle.ge_rows.specs.contracts.scheduling.LimitIdOrd.TheImpl.{cmp-value}
@@ -17,9 +18,10 @@ use Rattle.ge_model_place.specs.Limits.{greatest_demand}
 use Rattle.ge_model_place.specs.Placement.{Room, Cell, slot_asks, asked_so_far, fits_one_more, takes_one_more}
 use Rattle.ge_model_place.proofs.Same.{limits_equal}
 use Rattle.ge_place.specs.declared.spots.Bound.{Bound}
-use Rattle.ge_place.specs.declared.spots.Spot.{Spot}
-use Rattle.ge_place.specs.Spots.{room_as, rooms_as, cell_with, cells_with, one_more_at, no_slots_at}
-use Rattle.ge_place.specs.Sums.{sum_in, sum_of_both, AreTold, has_room_for, takes_by, AsksMore}
+use Rattle.ge_place.specs.declared.spots.Sight.{Sight}
+use Rattle.ge_place.specs.declared.spots.Sight.TheVariants.{Closed, Open}
+use Rattle.ge_place.specs.Spots.{room_as, rooms_as, cell_with, cells_with, one_more_at, no_slots_at, IsSeen}
+use Rattle.ge_place.specs.Sums.{sum_in, sum_of_both, AreTold, has_room_for, takes_by, takes_seen, rooms_seen, AsksMore}
 use Rattle.ge_place.proofs.Cells.{asked_more, none_asked}
 
 -- a sum put in
@@ -40,9 +42,9 @@ sum_put limit sum old new changes other =
     ]
 
 -- what one more limit of an instance is asked
-pub asks_next : (bounds : List Bound) (bound : Bound) (old middle new : List (LimitId × ℕ)) → AsksMore bounds old middle
+pub asks_next : (bounds : List Bound) (bound : Bound) (old middle new : List (LimitId × ℕ)) → AsksMore (rooms_as bounds) old middle
     → ((limit : LimitId) → sum_in new limit ≡ cond (same_limit bound.counts.limit limit) (min (sum_in middle bound.counts.limit + bound.counts.amount) greatest_demand) (sum_in middle limit))
-    → AsksMore (bounds ++ bound ∷ []) old new
+    → AsksMore (rooms_as (bounds ++ bound ∷ [])) old new
 asks_next bounds bound old middle new asks put limit =
     let parts = ap (λ rooms. sum_by (slot_asks limit) rooms) (map-append room_as bounds (bound ∷ [])) in
     let both = sum_by-append (slot_asks limit) (rooms_as bounds) (room_as bound ∷ []) in
@@ -60,6 +62,23 @@ asks_next bounds bound old middle new asks put limit =
           omega (arith, parts, both, one, so_far, amount, here)
     ]
 
+-- the test of limits that were seen is that of their rooms
+all_rooms : (before since : List (LimitId × ℕ)) (bounds : List Bound) → list_all (λ (bound : Bound). has_room_for before since (room_as bound)) bounds ≡ list_all (has_room_for before since) (rooms_as bounds)
+all_rooms before since bounds = sym (list_all-map (has_room_for before since) room_as bounds)
+
+-- what was seen of an instance decides whether it takes a slot
+
+pub open_takes : (here : InstanceId → Bool) (before since : List (LimitId × ℕ)) (spot : Cell) (sight : Sight) → here spot.at ≡ true → IsSeen spot sight → takes_seen before since sight ≡ takes_by here before since spot
+open_takes here before since spot Closed there seen = sym (ap (λ b. b && (spot.opened && list_all (has_room_for before since) spot.rooms)) there ∙ ap (λ b. b && list_all (has_room_for before since) spot.rooms) seen)
+open_takes here before since spot (Open bounds) there seen =
+    all_rooms before since bounds.items
+    ∙ ap (λ rooms. list_all (has_room_for before since) rooms) seen.1
+    ∙ sym (ap (λ b. b && (spot.opened && list_all (has_room_for before since) spot.rooms)) there ∙ ap (λ b. b && list_all (has_room_for before since) spot.rooms) seen.0)
+
+pub open_asks : (before since more : List (LimitId × ℕ)) (spot : Cell) (sight : Sight) → IsSeen spot sight → takes_seen before since sight ≡ true → AsksMore (rooms_seen sight) since more → AsksMore spot.rooms since more
+open_asks before since more spot Closed seen takes asks = absurd (false≢true takes)
+open_asks before since more spot (Open bounds) seen takes asks = subst (λ rooms. AsksMore rooms since more) seen.1 asks
+
 -- the test of an instance is that of its cell
 
 module _ (before since : List (LimitId × ℕ)) (cells : List Cell) (told : AreTold before since cells) where
@@ -73,26 +92,26 @@ module _ (before since : List (LimitId × ℕ)) (cells : List Cell) (told : AreT
             rw each (ap (λ n. nat_le (room.booked + n) room.counted.capacity) asked)
       ]
 
-  all_fit : (bounds : List Bound) → list_all (fits_one_more cells) (rooms_as bounds) ≡ list_all (λ (bound : Bound). has_room_for before since (room_as bound)) bounds
+  all_fit : (rooms : List Room) → list_all (fits_one_more cells) rooms ≡ list_all (has_room_for before since) rooms
   all_fit [] = refl
-  all_fit (bound ∷ bounds) =
-      ap (λ b. b && list_all (fits_one_more cells) (rooms_as bounds)) (sym (fits_is (room_as bound)))
-      ∙ ap (λ b. has_room_for before since (room_as bound) && b) (all_fit bounds)
+  all_fit (room ∷ rooms) =
+      ap (λ b. b && list_all (fits_one_more cells) rooms) (sym (fits_is room))
+      ∙ ap (λ b. has_room_for before since room && b) (all_fit rooms)
 
-  pub takes_is : (here : InstanceId → Bool) (spot : Spot) (n : ℕ) → (here spot.instance.now && takes_one_more cells (cell_with spot n)) ≡ takes_by here before since spot
-  takes_is here spot n = ap (λ b. here spot.instance.now && (spot.free && b)) (all_fit spot.bounds.items)
+  pub takes_is : (here : InstanceId → Bool) (spot : Cell) (n : ℕ) → (here spot.at && takes_one_more cells (cell_with spot n)) ≡ takes_by here before since spot
+  takes_is here spot n = ap (λ b. here spot.at && (spot.opened && b)) (all_fit spot.rooms)
 
 -- the sums after one more slot are those of the cells
 
-pub told_more : (before old new : List (LimitId × ℕ)) (spots : List Spot) (slots : List ℕ) (k : ℕ) (spot : Spot) → length slots ≡ length spots → k < length spots → spot ≡ get_or spots k spot
-    → AsksMore spot.bounds.items old new → AreTold before old (cells_with spots slots) → AreTold before new (cells_with spots (one_more_at slots k))
+pub told_more : (before old new : List (LimitId × ℕ)) (spots : List Cell) (slots : List ℕ) (k : ℕ) (spot : Cell) → length slots ≡ length spots → k < length spots → spot ≡ get_or spots k spot
+    → AsksMore spot.rooms old new → AreTold before old (cells_with spots slots) → AreTold before new (cells_with spots (one_more_at slots k))
 told_more before old new spots slots k spot long less is asks told limit =
     let more = asked_more limit spots slots k spot long less is in
     let one = asks limit in
     let so_far = told limit in
     omega (arith, more, one, so_far)
 
-pub told_none : (spots : List Spot) → AreTold [] [] (cells_with spots (no_slots_at spots))
+pub told_none : (spots : List Cell) → AreTold [] [] (cells_with spots (no_slots_at spots))
 told_none spots limit = let none = none_asked spots limit in omega (arith, none)
 
 -- what was given before may stand in the first sum as well

@@ -1,5 +1,5 @@
 -- What the slots given so far ask of each limit, as it is kept beside them.
-use Rattle.std.specs.Prelude.{◌≡◌, ℕ, ◌+◌, Bool, ◌&&◌, if◌then◌else◌, nat_le, min, List, sum_by, unwrap_or}
+use Rattle.std.specs.Prelude.{◌≡◌, ℕ, ◌+◌, Bool, false, ◌&&◌, if◌then◌else◌, nat_le, min, List, [], sum_by, unwrap_or}
 use Rattle.std.specs.List.{list_all}
 use Rattle.std.specs.Map.{lookup}
 use Rattle.ge_model_rows.specs.HostRows.{InstanceId}
@@ -8,7 +8,8 @@ use Rattle.ge_model_bookings.specs.Bookings.{same_limit}
 use Rattle.ge_model_place.specs.Limits.{Counted, greatest_demand}
 use Rattle.ge_model_place.specs.Placement.{Room, Cell, slot_asks, asked_so_far}
 use Rattle.ge_place.specs.declared.spots.Bound.{Bound}
-use Rattle.ge_place.specs.declared.spots.Spot.{Spot}
+use Rattle.ge_place.specs.declared.spots.Sight.{Sight}
+use Rattle.ge_place.specs.declared.spots.Sight.TheVariants.{Closed, Open}
 use Rattle.ge_place.specs.Spots.{room_as, rooms_as}
 
 -- the sum of a limit; none is 0
@@ -31,9 +32,19 @@ abbrev pub has_room_for : List (LimitId × ℕ) → List (LimitId × ℕ) → Ro
 has_room_for before since room = nat_le (room.booked + min (asked_with before since room.counted) greatest_demand) room.counted.capacity
 
 -- whether an instance takes one more slot, by the sums
-abbrev pub takes_by : (InstanceId → Bool) → List (LimitId × ℕ) → List (LimitId × ℕ) → Spot → Bool
-takes_by here before since spot = here spot.instance.now && (spot.free && list_all (λ (bound : Bound). has_room_for before since (room_as bound)) spot.bounds.items)
+abbrev pub takes_by : (InstanceId → Bool) → List (LimitId × ℕ) → List (LimitId × ℕ) → Cell → Bool
+takes_by here before since spot = here spot.at && (spot.opened && list_all (has_room_for before since) spot.rooms)
+
+-- the limits that were seen at an instance
+abbrev pub rooms_seen : Sight → List Room
+rooms_seen Closed = []
+rooms_seen (Open bounds) = rooms_as bounds.items
+
+-- whether an instance takes one more slot, by what was seen there
+abbrev pub takes_seen : List (LimitId × ℕ) → List (LimitId × ℕ) → Sight → Bool
+takes_seen before since Closed = false
+takes_seen before since (Open bounds) = list_all (λ (bound : Bound). has_room_for before since (room_as bound)) bounds.items
 
 -- one slot more at an instance with these limits
-abbrev pub AsksMore : List Bound → List (LimitId × ℕ) → List (LimitId × ℕ) → Type 0
-AsksMore bounds old new = (limit : LimitId) → min (sum_in new limit) greatest_demand ≡ min (sum_in old limit + sum_by (slot_asks limit) (rooms_as bounds)) greatest_demand
+abbrev pub AsksMore : List Room → List (LimitId × ℕ) → List (LimitId × ℕ) → Type 0
+AsksMore rooms old new = (limit : LimitId) → min (sum_in new limit) greatest_demand ≡ min (sum_in old limit + sum_by (slot_asks limit) rooms) greatest_demand

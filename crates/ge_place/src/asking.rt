@@ -1,13 +1,14 @@
 //! What the slots given so far ask of each limit.
-ghost use Rattle.std.specs.Prelude.{◌≡◌, ◌+◌, cond, min, nat_le, OnOk};
+ghost use Rattle.std.specs.Prelude.{◌≡◌, ◌+◌, cond, min, nat_le, true, false, IfOk, OnOk};
 ghost use Rattle.std.specs.List.{list_all};
 ghost use Rattle.ge_model_bookings.specs.Bookings.{same_limit};
 ghost use Rattle.ge_model_place.specs.Limits.{greatest_demand};
 ghost use Rattle.ge_model_rows.specs.ScheduleRows.{LimitId as Limit};
-ghost use Rattle.ge_place.specs.Spots.{room_as, is_in};
-ghost use Rattle.ge_place.specs.Sums.{sum_in, sum_of_both, asked_with as asked_with_one, has_room_for, takes_by, AsksMore};
+ghost use Rattle.ge_place.specs.Spots.{room_as, rooms_as, is_in};
+ghost use Rattle.ge_place.specs.Sums.{sum_in, sum_of_both, asked_with as asked_with_one, has_room_for, takes_by, takes_seen, rooms_seen, AsksMore};
 
-use crate::spots::{Bound, Site, Spot, has_instance};
+use crate::seeing::Spot;
+use crate::spots::{Bound, Sight, Site, has_instance};
 use ge_rows::{LimitId, Table, Twin};
 use std::alloc::{AllocError, Global};
 
@@ -62,13 +63,6 @@ fn all_fit(before: &Sums, since: &Sums, bounds: &[Bound]) -> bool
     bounds.iter().all(|bound| fits(before, since, bound))
 }
 
-/// Whether an instance is one of a site's and takes one more slot.
-pub(crate) fn takes(site: Site<'_>, before: &Sums, since: &Sums, spot: &Spot<'_>) -> bool
-    ensures { result ≡ takes_by (is_in site.entry) before.now since.now spot.now }
-{
-    has_instance(site, spot.instance) && spot.free && all_fit(before, since, spot.bounds.as_slice())
-}
-
 // What a slot asks of a limit is added.
 fn ask(alloc: Global, sums: &mut Sums, bound: &Bound) -> Result<(), AllocError>
     ensures { OnOk result ((limit : Limit) → sum_in sums.new limit
@@ -82,12 +76,59 @@ fn ask(alloc: Global, sums: &mut Sums, bound: &Bound) -> Result<(), AllocError>
     Ok(())
 }
 
-/// What a slot asks of each limit of an instance is added.
-pub(crate) fn ask_all(alloc: Global, sums: &mut Sums, bounds: &[Bound]) -> Result<(), AllocError>
-    ensures { OnOk result (AsksMore bounds.now sums.old sums.new) }
+// What a slot asks of each limit of an instance is added.
+fn ask_all(alloc: Global, sums: &mut Sums, bounds: &[Bound]) -> Result<(), AllocError>
+    ensures { OnOk result (AsksMore (rooms_as bounds.now) sums.old sums.new) }
 {
     for bound in bounds {
         ask(alloc, sums, bound)?;
     }
     Ok(())
+}
+
+// Whether one more slot is taken by what was seen. What it asks is added then.
+fn takes_there(
+    alloc: Global,
+    sight: &Sight,
+    before: &Sums,
+    since: &mut Sums,
+) -> Result<bool, AllocError>
+    ensures takes { IfOk result (λ takes. takes ≡ takes_seen before.now since.old sight.now) }
+    ensures asks { IfOk result (λ takes. takes ≡ true
+        → AsksMore (rooms_seen sight.now) since.old since.new) }
+    ensures none { IfOk result (λ takes. takes ≡ false → since.new ≡ since.old) }
+{
+    match sight {
+        Sight::Closed => Ok(false),
+        Sight::Open(bounds) => {
+            if !all_fit(before, since, bounds.as_slice()) {
+                return Ok(false);
+            }
+            ask_all(alloc, since, bounds.as_slice())?;
+            Ok(true)
+        }
+    }
+}
+
+/// Whether an instance is one of a site's and takes one more slot. What it asks is added then.
+pub(crate) fn takes(
+    alloc: Global,
+    site: Site<'_>,
+    before: &Sums,
+    since: &mut Sums,
+    spot: &mut Spot<'_>,
+) -> Result<bool, AllocError>
+    ensures same { OnOk result (spot.new ≡ spot.old) }
+    ensures takes { IfOk result (λ takes. takes
+        ≡ takes_by (is_in site.entry) before.now since.old spot.old) }
+    ensures asks { IfOk result (λ takes. takes ≡ true → AsksMore spot.old.rooms since.old since.new) }
+    ensures none { IfOk result (λ takes. takes ≡ false → since.new ≡ since.old) }
+{
+    if !has_instance(site, spot.instance()) {
+        return Ok(false);
+    }
+    let sight = spot.sight(alloc)?;
+    let taken = takes_there(alloc, &sight, before, since)?;
+    spot.keep(sight);
+    Ok(taken)
 }

@@ -2,10 +2,11 @@
 ghost use Rattle.std.specs.Prelude.{◌≡◌, ◌+◌, ◌<◌, ◌≤◌, length, slice_index_or, IfOk, OnOk};
 ghost use Rattle.ge_model_place.specs.Placement.{filled, slots_given};
 ghost use Rattle.ge_place.specs.Spots.{cells_with, one_more_at, is_in};
-ghost use Rattle.ge_place.specs.Sums.{AreTold, AsksMore};
+ghost use Rattle.ge_place.specs.Sums.{AreTold};
 
-use crate::asking::{Sums, ask_all, takes};
-use crate::spots::{Site, Spot};
+use crate::asking::{Sums, takes};
+use crate::seeing::Spot;
+use crate::spots::Site;
 use ge_rows::List;
 use std::alloc::{AllocError, Global};
 
@@ -25,26 +26,28 @@ fn give(slots: &mut List<u32>, place: usize) -> Result<(), AllocError>
 
 /// So many more slots at the instances of a site, or as many as they take, and how many that are. What the slots before ask
 /// stands in two sums, of which the second gets what is asked now. An instance that takes no slot takes none beside more, so
-/// none is looked at again.
+/// none is looked at again, and none behind the one that gets the last slot.
 pub(crate) fn fill(
     alloc: Global,
-    spots: &[Spot<'_>],
+    spots: &mut Vec<Spot<'_>>,
     site: Site<'_>,
     most: u32,
     slots: &mut List<u32>,
     before: &Sums,
     since: &mut Sums,
 ) -> Result<u32, AllocError>
-    requires long { length slots.old ≡ length spots.now }
-    requires told { AreTold before.now since.old (cells_with spots.now slots.old) }
-    ensures filled { OnOk result (cells_with spots.now slots.new
-        ≡ filled (is_in site.entry) most (cells_with spots.now slots.old)) }
-    ensures given { IfOk result (λ given. slots_given (cells_with spots.now slots.new)
-        ≡ slots_given (cells_with spots.now slots.old) + given) }
+    requires long { length slots.old ≡ length spots.old.items }
+    requires told { AreTold before.now since.old (cells_with spots.old.items slots.old) }
+    ensures same { OnOk result (spots.new.items ≡ spots.old.items) }
+    ensures filled { OnOk result (cells_with spots.old.items slots.new
+        ≡ filled (is_in site.entry) most (cells_with spots.old.items slots.old)) }
+    ensures given { IfOk result (λ given. slots_given (cells_with spots.old.items slots.new)
+        ≡ slots_given (cells_with spots.old.items slots.old) + given) }
     ensures within { IfOk result (λ given. given ≤ most) }
     ensures none { IfOk result (λ given. given ≡ 0 → slots.new ≡ slots.old) }
-    ensures long { OnOk result (length slots.new ≡ length spots.now) }
-    ensures told { OnOk result (AreTold before.now since.new (cells_with spots.now slots.new)) }
+    ensures long { OnOk result (length slots.new ≡ length spots.old.items) }
+    ensures told { OnOk result (AreTold before.now since.new
+        (cells_with spots.old.items slots.new)) }
 {
     let mut given = 0;
     let mut place = 0;
@@ -52,10 +55,9 @@ pub(crate) fn fill(
         if given == most {
             return Ok(given);
         }
-        let spot = &spots[place];
-        if takes(site, before, since, spot) {
+        let taken = takes(alloc, site, before, since, &mut spots[place])?;
+        if taken {
             give(slots, place)?;
-            ask_all(alloc, since, spot.bounds.as_slice())?;
             given += 1;
         } else {
             place += 1;

@@ -6,7 +6,8 @@ ghost use Rattle.ge_place.specs.Spots.{cells_with, no_slots_at, is_in};
 
 use crate::asking::Sums;
 use crate::filling::fill;
-use crate::spots::{Site, Spot};
+use crate::seeing::Spot;
+use crate::spots::Site;
 use ge_rows::{List, Table, Text, Twin};
 use std::alloc::{AllocError, Global};
 
@@ -45,16 +46,17 @@ pub(crate) fn nothing_given(alloc: Global, spots: &[Spot<'_>]) -> Result<Given, 
 /// So many more slots at the instances of a site, or as many as they take.
 pub(crate) fn give_more(
     alloc: Global,
-    spots: &[Spot<'_>],
+    spots: &mut Vec<Spot<'_>>,
     site: Site<'_>,
     most: u32,
     given: &mut Given,
 ) -> Result<(), AllocError>
-    requires kept { IsGiven spots.now given.old }
+    requires kept { IsGiven spots.old.items given.old }
     requires fits { given.old.count + most < 2 ^ 32 }
-    ensures filled { OnOk result (cells_with spots.now given.new.slots
-        ≡ filled (is_in site.entry) most (cells_with spots.now given.old.slots)) }
-    ensures kept { OnOk result (IsGiven spots.now given.new) }
+    ensures same_spots { OnOk result (spots.new.items ≡ spots.old.items) }
+    ensures filled { OnOk result (cells_with spots.old.items given.new.slots
+        ≡ filled (is_in site.entry) most (cells_with spots.old.items given.old.slots)) }
+    ensures kept { OnOk result (IsGiven spots.old.items given.new) }
     ensures grown { OnOk result (given.old.count ≤ given.new.count) }
     ensures within { OnOk result (given.new.count ≤ given.old.count + most) }
     ensures same { OnOk result
@@ -70,15 +72,16 @@ pub(crate) fn give_more(
 /// Whether the instances of a host take so many more slots. They are given to a copy, and let go again.
 pub(crate) fn takes_block(
     alloc: Global,
-    spots: &[Spot<'_>],
+    spots: &mut Vec<Spot<'_>>,
     host: &Text,
     size: u32,
     given: &Given,
 ) -> Result<bool, AllocError>
-    requires { IsGiven spots.now given.now }
-    ensures { IfOk result (λ takes. takes
-        ≡ (slots_given (filled (is_on host.now) size (cells_with spots.now given.now.slots))
-        == slots_given (cells_with spots.now given.now.slots) + size)) }
+    requires { IsGiven spots.old.items given.now }
+    ensures same_spots { OnOk result (spots.new.items ≡ spots.old.items) }
+    ensures takes { IfOk result (λ takes. takes
+        ≡ (slots_given (filled (is_on host.now) size (cells_with spots.old.items given.now.slots))
+        == slots_given (cells_with spots.old.items given.now.slots) + size)) }
 {
     let mut slots = given.slots.twin(alloc)?;
     let mut since = Table::new(alloc);

@@ -5,7 +5,7 @@ ghost use Rattle.ge_place.specs.Giving.{IsGiven};
 ghost use Rattle.ge_place.specs.Spots.{cell_with, cells_with};
 
 use crate::giving::Given;
-use crate::spots::Spot;
+use crate::seeing::Spot;
 use ge_rows::{Grant, List, Twin};
 use std::alloc::{AllocError, Global};
 
@@ -22,7 +22,7 @@ fn add_grant(
     if slots == 0 {
         return Ok(());
     }
-    let at = spot.instance.twin(alloc)?;
+    let at = spot.instance().twin(alloc)?;
     grants.push(Grant { at, slots })
 }
 

@@ -3,7 +3,7 @@ ghost use Rattle.std.specs.Prelude.{◌≡◌, IfOk, OnOk};
 ghost use Rattle.ge_model_value.specs.Pieces.{is_one_of, with_text};
 ghost use Rattle.ge_place.specs.Spots.{lent, hosts_among};
 
-use crate::spots::Spot;
+use crate::seeing::Spot;
 use ge_pieces::is_same;
 use ge_rows::Text;
 use std::alloc::{AllocError, Global};
@@ -35,7 +35,7 @@ pub(crate) fn hosts_of<'a>(alloc: Global, spots: &[Spot<'a>]) -> Result<Vec<&'a 
 {
     let mut hosts = Vec::new(alloc);
     for spot in spots {
-        add_host(&mut hosts, &spot.instance.host)?;
+        add_host(&mut hosts, &spot.instance().host)?;
     }
     Ok(hosts)
 }

@@ -6,8 +6,8 @@
 //! - [`place`]: the same for a task of the table's jobs.
 //!
 //! A job without a parallel environment gets the first instance that takes a slot, and no other is looked at behind it. For one
-//! with an environment each instance is looked at once; then slots are given by the rule, and what those given so far ask of
-//! each limit is kept beside them.
+//! with an environment slots are given by the rule, and what those given so far ask of each limit is kept beside them. Each
+//! instance is looked at once, where a slot may be given there, and not where all slots are given before.
 #![tactic(auto)]
 
 mod asking;
@@ -16,6 +16,7 @@ mod giving;
 mod granting;
 mod hosts;
 mod placing;
+mod seeing;
 mod single;
 mod spots;
 mod spreading;

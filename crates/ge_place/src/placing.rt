@@ -6,8 +6,9 @@ ghost use Rattle.ge_model_place.specs.Placement as placed;
 ghost use Rattle.ge_place.specs.Spots.{cell_in, cells_with, no_slots_at};
 
 use crate::granting::granted;
+use crate::seeing::{Spot, all_spots};
 use crate::single::single_slot;
-use crate::spots::{Search, Spot, all_spots};
+use crate::spots::Search;
 use crate::spreading::spread;
 use ge_opening::instance_order;
 use ge_rows::{Allocation, Cluster, Grant, Groups, InstanceId, Job, List, PeRequest, TaskId};
@@ -18,15 +19,16 @@ use std::alloc::{AllocError, Global};
 // The grants of these instances by a rule.
 fn grant_by(
     alloc: Global,
-    spots: &[Spot<'_>],
+    spots: &mut Vec<Spot<'_>>,
     request: &PeRequest,
     rule: Allocation,
 ) -> Result<Option<List<Grant>>, AllocError>
     ensures { IfOk result (λ grants. grants ≡ placed.granted request.now.low
-        (placed.spread rule request.now.high (cells_with spots.now (no_slots_at spots.now)))) }
+        (placed.spread rule request.now.high
+        (cells_with spots.old.items (no_slots_at spots.old.items)))) }
 {
     let given = spread(alloc, spots, rule, request.high)?;
-    let grants = granted(alloc, spots, &given, request.low)?;
+    let grants = granted(alloc, spots.as_slice(), &given, request.low)?;
     Ok(grants)
 }
 
@@ -41,8 +43,8 @@ fn place_by(
     ensures { IfOk result (λ grants. grants ≡ placed.granted request.now.low
         (placed.spread rule request.now.high (map (cell_in search.now) order.now))) }
 {
-    let spots = all_spots(alloc, search, order)?;
-    let grants = grant_by(alloc, spots.as_slice(), request, rule)?;
+    let mut spots = all_spots(alloc, search, order)?;
+    let grants = grant_by(alloc, &mut spots, request, rule)?;
     Ok(grants)
 }
 
@@ -103,8 +105,8 @@ pub fn place_job(
     ensures { IfOk result (λ grants. grants ≡
         placed.placement_of cluster.now groups.now order.now booked.now job.now from) }
 {
-    let until = window_end_from(alloc, cluster, job, from)?;
-    let in_time = is_in_time(alloc, cluster, job, from)?;
+    let until = window_end_from(cluster, job, from);
+    let in_time = is_in_time(cluster, job, from);
     let search = Search {
         cluster,
         groups,

@@ -1,8 +1,8 @@
-//! Instances that slots may be given at.
+//! What a task is placed over, and what is seen at an instance.
 ghost use Rattle.std.specs.Prelude.{◌≡◌, ◌<◌, map, IfOk};
 ghost use Rattle.ge_model_place.specs.Placement.{room_of};
 ghost use Rattle.ge_demands.specs.Counts.{counted_as, all_counted};
-ghost use Rattle.ge_place.specs.Spots.{room_as, rooms_as, empty_cell, is_free_at, rooms_at, cell_in, is_in};
+ghost use Rattle.ge_place.specs.Spots.{room_as, rooms_as, is_free_at, rooms_at, cell_in, is_in, IsSeen};
 
 use ge_demands::{Counted, counted_limits};
 use ge_opening::is_open;
@@ -39,15 +39,13 @@ pub(crate) struct Bound {
     pub(crate) peak: u128,
 }
 
-/// An instance that slots may be given at. With its slots it is the model's `Cell`.
+/// What is seen at an instance.
 #[derive(Drop)]
-pub(crate) struct Spot<'a> {
-    /// The instance.
-    pub(crate) instance: &'a InstanceId,
-    /// Whether the task may start there at all.
-    pub(crate) free: bool,
-    /// The limits that a slot there counts for.
-    pub(crate) bounds: Vec<Bound>,
+pub(crate) enum Sight {
+    /// The task may not start there at all.
+    Closed,
+    /// It may, and a slot there counts for these limits.
+    Open(Vec<Bound>),
 }
 
 /// Which instances are meant.
@@ -129,34 +127,13 @@ pub(crate) fn bounds_at(
     Ok(bounds)
 }
 
-fn spot_at<'a>(
-    alloc: Global,
-    search: &Search<'_>,
-    at: &'a InstanceId,
-) -> Result<Spot<'a>, AllocError>
-    ensures { IfOk result (λ spot. empty_cell spot ≡ cell_in search.now at.now) }
+/// What is seen at an instance. Where the task may not start, its limits aren't counted.
+pub(crate) fn look(alloc: Global, search: &Search<'_>, at: &InstanceId) -> Result<Sight, AllocError>
+    ensures { IfOk result (λ sight. IsSeen (cell_in search.now at.now) sight) }
 {
-    let free = may_start(alloc, search, at)?;
-    let bounds = bounds_at(alloc, search, at)?;
-    Ok(Spot {
-        instance: at,
-        free,
-        bounds,
-    })
-}
-
-/// The instances in their order, before any slot is given.
-pub(crate) fn all_spots<'a>(
-    alloc: Global,
-    search: &Search<'_>,
-    order: &'a [InstanceId],
-) -> Result<Vec<Spot<'a>>, AllocError>
-    ensures { IfOk result (λ spots. map empty_cell spots.items
-        ≡ map (cell_in search.now) order.now) }
-{
-    let mut spots = Vec::new(alloc);
-    for at in order {
-        spots.push(spot_at(alloc, search, at)?)?;
+    if !may_start(alloc, search, at)? {
+        return Ok(Sight::Closed);
     }
-    Ok(spots)
+    let bounds = bounds_at(alloc, search, at)?;
+    Ok(Sight::Open(bounds))
 }

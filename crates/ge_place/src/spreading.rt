@@ -6,52 +6,66 @@ ghost use Rattle.ge_place.specs.Spots.{cells_with, no_slots_at, is_in, lent};
 
 use crate::giving::{Given, give_more, nothing_given, takes_block};
 use crate::hosts::hosts_of;
-use crate::spots::{Site, Spot};
+use crate::seeing::Spot;
+use crate::spots::Site;
 use ge_rows::{Allocation, List, Text};
 use std::alloc::{AllocError, Global};
 
 // So many slots at the instances of a site alone, or as many as they take.
 fn given_at(
     alloc: Global,
-    spots: &[Spot<'_>],
+    spots: &mut Vec<Spot<'_>>,
     site: Site<'_>,
     most: u32,
 ) -> Result<Given, AllocError>
-    ensures cells { IfOk result (λ given. cells_with spots.now given.slots
-        ≡ placed.filled (is_in site.entry) most (cells_with spots.now (no_slots_at spots.now))) }
-    ensures kept { IfOk result (λ given. IsGiven spots.now given) }
+    ensures same_spots { OnOk result (spots.new.items ≡ spots.old.items) }
+    ensures cells { IfOk result (λ given. cells_with spots.old.items given.slots
+        ≡ placed.filled (is_in site.entry) most
+        (cells_with spots.old.items (no_slots_at spots.old.items))) }
+    ensures kept { IfOk result (λ given. IsGiven spots.old.items given) }
 {
-    let mut given = nothing_given(alloc, spots)?;
+    let mut given = nothing_given(alloc, spots.as_slice())?;
     give_more(alloc, spots, site, most, &mut given)?;
     Ok(given)
 }
 
 // So many slots on a host alone, or as many as are taken there.
-fn given_on(alloc: Global, spots: &[Spot<'_>], host: &Text, most: u32) -> Result<Given, AllocError>
-    ensures cells { IfOk result (λ given. cells_with spots.now given.slots
+fn given_on(
+    alloc: Global,
+    spots: &mut Vec<Spot<'_>>,
+    host: &Text,
+    most: u32,
+) -> Result<Given, AllocError>
+    ensures same_spots { OnOk result (spots.new.items ≡ spots.old.items) }
+    ensures cells { IfOk result (λ given. cells_with spots.old.items given.slots
         ≡ placed.filled (placed.is_on host.now) most
-        (cells_with spots.now (no_slots_at spots.now))) }
-    ensures kept { IfOk result (λ given. IsGiven spots.now given) }
+        (cells_with spots.old.items (no_slots_at spots.old.items))) }
+    ensures kept { IfOk result (λ given. IsGiven spots.old.items given) }
 {
     let given = given_at(alloc, spots, Site::Host(host), most)?;
     Ok(given)
 }
 
-// `$pe_slots`: all slots on the first host that takes the most.
+// `$pe_slots`: all slots on the first host that takes the most. Behind one that takes all of them, none is looked at.
 fn on_one_host(
     alloc: Global,
-    spots: &[Spot<'_>],
+    spots: &mut Vec<Spot<'_>>,
     hosts: &[&Text],
     high: u32,
 ) -> Result<Given, AllocError>
-    ensures cells { IfOk result (λ given. cells_with spots.now given.slots
+    ensures same_spots { OnOk result (spots.new.items ≡ spots.old.items) }
+    ensures cells { IfOk result (λ given. cells_with spots.old.items given.slots
         ≡ fold (λ best host. placed.fuller best
-        (placed.filled (placed.is_on host) high (cells_with spots.now (no_slots_at spots.now))))
-        (cells_with spots.now (no_slots_at spots.now)) (lent hosts.now)) }
-    ensures kept { IfOk result (λ given. IsGiven spots.now given) }
+        (placed.filled (placed.is_on host) high
+        (cells_with spots.old.items (no_slots_at spots.old.items))))
+        (cells_with spots.old.items (no_slots_at spots.old.items)) (lent hosts.now)) }
+    ensures kept { IfOk result (λ given. IsGiven spots.old.items given) }
 {
-    let mut best = nothing_given(alloc, spots)?;
+    let mut best = nothing_given(alloc, spots.as_slice())?;
     for host in hosts {
+        if best.count >= high {
+            return Ok(best);
+        }
         let other = given_on(alloc, spots, host, high)?;
         if other.count > best.count {
             best = other;
@@ -63,17 +77,19 @@ fn on_one_host(
 // A block of slots on a host, where all of them fit there and no more than the greatest number are given.
 fn give_block(
     alloc: Global,
-    spots: &[Spot<'_>],
+    spots: &mut Vec<Spot<'_>>,
     host: &Text,
     size: u32,
     high: u32,
     given: &mut Given,
 ) -> Result<(), AllocError>
-    requires { IsGiven spots.now given.old }
-    ensures cells { OnOk result (cells_with spots.now given.new.slots
-        ≡ placed.with_block size high (cells_with spots.now given.old.slots)
-        (placed.filled (placed.is_on host.now) size (cells_with spots.now given.old.slots))) }
-    ensures kept { OnOk result (IsGiven spots.now given.new) }
+    requires { IsGiven spots.old.items given.old }
+    ensures same_spots { OnOk result (spots.new.items ≡ spots.old.items) }
+    ensures cells { OnOk result (cells_with spots.old.items given.new.slots
+        ≡ placed.with_block size high (cells_with spots.old.items given.old.slots)
+        (placed.filled (placed.is_on host.now) size
+        (cells_with spots.old.items given.old.slots))) }
+    ensures kept { OnOk result (IsGiven spots.old.items given.new) }
 {
     let Some(count) = given.count.checked_add(size) else {
         return Ok(());
@@ -90,18 +106,19 @@ fn give_block(
 // A number: so many slots on each host that takes them.
 fn in_blocks(
     alloc: Global,
-    spots: &[Spot<'_>],
+    spots: &mut Vec<Spot<'_>>,
     hosts: &[&Text],
     size: u32,
     high: u32,
     given: &mut Given,
 ) -> Result<(), AllocError>
-    requires { IsGiven spots.now given.old }
-    ensures cells { OnOk result (cells_with spots.now given.new.slots
+    requires { IsGiven spots.old.items given.old }
+    ensures same_spots { OnOk result (spots.new.items ≡ spots.old.items) }
+    ensures cells { OnOk result (cells_with spots.old.items given.new.slots
         ≡ fold (λ cells host. placed.with_block size high cells
         (placed.filled (placed.is_on host) size cells))
-        (cells_with spots.now given.old.slots) (lent hosts.now)) }
-    ensures kept { OnOk result (IsGiven spots.now given.new) }
+        (cells_with spots.old.items given.old.slots) (lent hosts.now)) }
+    ensures kept { OnOk result (IsGiven spots.old.items given.new) }
 {
     for host in hosts {
         give_block(alloc, spots, host, size, high, given)?;
@@ -112,15 +129,16 @@ fn in_blocks(
 // One slot on a host, where it takes one and the greatest number aren't given yet.
 fn give_turn(
     alloc: Global,
-    spots: &[Spot<'_>],
+    spots: &mut Vec<Spot<'_>>,
     host: &Text,
     high: u32,
     given: &mut Given,
 ) -> Result<(), AllocError>
-    requires { IsGiven spots.now given.old }
-    ensures cells { OnOk result (cells_with spots.now given.new.slots
-        ≡ placed.with_turn high (cells_with spots.now given.old.slots) host.now) }
-    ensures kept { OnOk result (IsGiven spots.now given.new) }
+    requires { IsGiven spots.old.items given.old }
+    ensures same_spots { OnOk result (spots.new.items ≡ spots.old.items) }
+    ensures cells { OnOk result (cells_with spots.old.items given.new.slots
+        ≡ placed.with_turn high (cells_with spots.old.items given.old.slots) host.now) }
+    ensures kept { OnOk result (IsGiven spots.old.items given.new) }
     ensures grown { OnOk result (given.old.count ≤ given.new.count) }
     ensures same { OnOk result
         (given.new.count ≡ given.old.count → given.new.slots ≡ given.old.slots) }
@@ -134,15 +152,16 @@ fn give_turn(
 // One slot on each host in turn.
 fn give_round(
     alloc: Global,
-    spots: &[Spot<'_>],
+    spots: &mut Vec<Spot<'_>>,
     hosts: &[&Text],
     high: u32,
     given: &mut Given,
 ) -> Result<(), AllocError>
-    requires { IsGiven spots.now given.old }
-    ensures cells { OnOk result (cells_with spots.now given.new.slots
-        ≡ placed.with_round high (lent hosts.now) (cells_with spots.now given.old.slots)) }
-    ensures kept { OnOk result (IsGiven spots.now given.new) }
+    requires { IsGiven spots.old.items given.old }
+    ensures same_spots { OnOk result (spots.new.items ≡ spots.old.items) }
+    ensures cells { OnOk result (cells_with spots.old.items given.new.slots
+        ≡ placed.with_round high (lent hosts.now) (cells_with spots.old.items given.old.slots)) }
+    ensures kept { OnOk result (IsGiven spots.old.items given.new) }
     ensures same { OnOk result
         (given.new.count ≡ given.old.count → given.new.slots ≡ given.old.slots) }
 {
@@ -155,15 +174,16 @@ fn give_round(
 // `$round_robin`: rounds, until one gives nothing.
 fn in_rounds(
     alloc: Global,
-    spots: &[Spot<'_>],
+    spots: &mut Vec<Spot<'_>>,
     hosts: &[&Text],
     high: u32,
     given: &mut Given,
 ) -> Result<(), AllocError>
-    requires { IsGiven spots.now given.old }
-    ensures cells { OnOk result (cells_with spots.now given.new.slots
-        ≡ placed.with_rounds high high (lent hosts.now) (cells_with spots.now given.old.slots)) }
-    ensures kept { OnOk result (IsGiven spots.now given.new) }
+    requires { IsGiven spots.old.items given.old }
+    ensures same_spots { OnOk result (spots.new.items ≡ spots.old.items) }
+    ensures cells { OnOk result (cells_with spots.old.items given.new.slots
+        ≡ placed.with_rounds high high (lent hosts.now) (cells_with spots.old.items given.old.slots)) }
+    ensures kept { OnOk result (IsGiven spots.old.items given.new) }
 {
     let mut rounds = high;
     while rounds > 0 {
@@ -180,13 +200,14 @@ fn in_rounds(
 /// At most so many slots by a rule.
 pub(crate) fn spread(
     alloc: Global,
-    spots: &[Spot<'_>],
+    spots: &mut Vec<Spot<'_>>,
     rule: Allocation,
     high: u32,
 ) -> Result<Given, AllocError>
-    ensures cells { IfOk result (λ given. cells_with spots.now given.slots
-        ≡ placed.spread rule high (cells_with spots.now (no_slots_at spots.now))) }
-    ensures kept { IfOk result (λ given. IsGiven spots.now given) }
+    ensures same_spots { OnOk result (spots.new.items ≡ spots.old.items) }
+    ensures cells { IfOk result (λ given. cells_with spots.old.items given.slots
+        ≡ placed.spread rule high (cells_with spots.old.items (no_slots_at spots.old.items))) }
+    ensures kept { IfOk result (λ given. IsGiven spots.old.items given) }
 {
     match rule {
         Allocation::FillUp => {
@@ -194,19 +215,19 @@ pub(crate) fn spread(
             Ok(given)
         }
         Allocation::PeSlots => {
-            let hosts = hosts_of(alloc, spots)?;
+            let hosts = hosts_of(alloc, spots.as_slice())?;
             let given = on_one_host(alloc, spots, hosts.as_slice(), high)?;
             Ok(given)
         }
         Allocation::Fixed(size) => {
-            let hosts = hosts_of(alloc, spots)?;
-            let mut given = nothing_given(alloc, spots)?;
+            let hosts = hosts_of(alloc, spots.as_slice())?;
+            let mut given = nothing_given(alloc, spots.as_slice())?;
             in_blocks(alloc, spots, hosts.as_slice(), size, high, &mut given)?;
             Ok(given)
         }
         Allocation::RoundRobin => {
-            let hosts = hosts_of(alloc, spots)?;
-            let mut given = nothing_given(alloc, spots)?;
+            let hosts = hosts_of(alloc, spots.as_slice())?;
+            let mut given = nothing_given(alloc, spots.as_slice())?;
             in_rounds(alloc, spots, hosts.as_slice(), high, &mut given)?;
             Ok(given)
         }

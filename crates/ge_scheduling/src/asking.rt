@@ -195,18 +195,17 @@ fn rules_out(booked: &Timeline, alike: bool, from: u64, until: u64, limits: &[Co
 /// slot: those of all hosts, of its parallel environment, and of quotas, where none of their rules looks at queues or hosts
 /// (host_conf, sge_pe, sge_resource_quota).
 pub(crate) fn is_refused(
-    alloc: Global,
     at: &Setting<'_>,
     booked: &Timeline,
     limits: &List<Counted>,
     job: &Job,
     from: u64,
-) -> Result<bool, AllocError>
+) -> bool
     requires { All (IsAsked at.now.cluster.now at.now.groups.now job.now) limits.now }
-    ensures { IfOk result (λ refused. refused ≡ true → placement_of at.now.cluster.now
-        at.now.groups.now at.now.order.now booked.now job.now from ≡ None) }
+    ensures { result ≡ true → placement_of at.now.cluster.now at.now.groups.now
+        at.now.order.now booked.now job.now from ≡ None }
 {
-    let until = window_end_from(alloc, at.cluster, job, from)?;
+    let until = window_end_from(at.cluster, job, from);
     let alike = counts_alike(at.cluster);
-    Ok(rules_out(booked, alike, from, until, limits.items()))
+    rules_out(booked, alike, from, until, limits.items())
 }

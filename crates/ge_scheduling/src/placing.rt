@@ -91,7 +91,7 @@ pub(crate) fn place_now(
         ≡ placement_of at.now.cluster.now at.now.groups.now at.now.order.now booked.now job.now
         at.now.moment) }
 {
-    if is_refused(alloc, at, booked, asked, job, at.moment)? {
+    if is_refused(at, booked, asked, job, at.moment) {
         return Ok(None);
     }
     if job.advance == 0 && goes_on(at.cluster, at.moment) {
@@ -121,7 +121,7 @@ pub(crate) fn place_then(
         ≡ placement_of at.now.cluster.now at.now.groups.now at.now.order.now booked.now job.now
         moment) }
 {
-    if is_refused(alloc, at, booked, asked, job, moment)? {
+    if is_refused(at, booked, asked, job, moment) {
         return Ok(None);
     }
     if job.advance == 0 && goes_on(at.cluster, moment) {

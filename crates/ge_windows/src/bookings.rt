@@ -33,7 +33,7 @@ pub fn booking(
         ≡ windows.booking_of cluster.now groups.now job.now task grants.now from) }
 {
     let demands = demands(alloc, cluster, groups, job, grants)?;
-    let until = window_end_from(alloc, cluster, job, from)?;
+    let until = window_end_from(cluster, job, from);
     Ok(Booking {
         task,
         demands,

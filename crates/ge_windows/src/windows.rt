@@ -1,21 +1,33 @@
 //! Windows of tasks.
 
-ghost use Rattle.std.specs.Prelude.{◌≡◌, ◌&&◌, ◌||◌, IfOk};
+ghost use Rattle.std.specs.Prelude.{◌≡◌, ◌&&◌, ◌||◌};
 ghost use Rattle.std.specs.Option.{option_copied};
-ghost use Rattle.ge_collections.specs.Keyed.{at_text};
+ghost use Rattle.std.specs.BTreeMap.{is_at};
+ghost use Rattle.ge_collections.specs.Keyed.{at_text, text_cmp};
 ghost use Rattle.ge_model_place.specs.Windows.{duration_of, lasts_at, least_asked, no_later_than};
 ghost use Rattle.ge_model_place.specs.Windows as windows;
 
 use ge_bookings::end_of_window;
 use ge_complex::amount_in;
+use ge_pieces::is_word;
 use ge_rows::{Advance, Cluster, Job, Text, Value};
-use std::alloc::{AllocError, Global};
 
-fn asked_for<'a>(alloc: Global, job: &'a Job, name: &[u8]) -> Result<Option<&'a Value>, AllocError>
-    ensures { IfOk result (λ value. option_copied value ≡ at_text job.now.request.asked name.now) }
+fn is_key(name: &[u8], key: &Text) -> bool
+    ensures { result ≡ is_at (text_cmp name.now) key.now }
 {
-    let name = Text::from_bytes(alloc, name)?;
-    Ok(job.request.asked.get(&name))
+    is_word(name, key.bytes())
+}
+
+// What a job asks for under a name. Jobs ask for few things, so a walk costs less than a text to look up.
+fn asked_for<'a>(job: &'a Job, name: &[u8]) -> Option<&'a Value>
+    ensures { option_copied result ≡ at_text job.now.request.asked name.now }
+{
+    for (key, value) in job.request.asked.iter() {
+        if is_key(name, key) {
+            return Some(value);
+        }
+    }
+    None
 }
 
 fn least_of(hard: Option<&Value>, soft: Option<&Value>, default: u64) -> u64
@@ -30,12 +42,12 @@ fn least_of(hard: Option<&Value>, soft: Option<&Value>, default: u64) -> u64
 }
 
 // How many seconds a task of a job is booked for.
-fn duration(alloc: Global, cluster: &Cluster, job: &Job) -> Result<u64, AllocError>
-    ensures { IfOk result (λ seconds. seconds ≡ duration_of cluster.now job.now) }
+fn duration(cluster: &Cluster, job: &Job) -> u64
+    ensures { result ≡ duration_of cluster.now job.now }
 {
-    let hard = asked_for(alloc, job, b"h_rt")?;
-    let soft = asked_for(alloc, job, b"s_rt")?;
-    Ok(least_of(hard, soft, cluster.sched.default_duration).max(1))
+    let hard = asked_for(job, b"h_rt");
+    let soft = asked_for(job, b"s_rt");
+    least_of(hard, soft, cluster.sched.default_duration).max(1)
 }
 
 fn cut_at(advance: Option<&Advance>, end: u64) -> u64
@@ -50,16 +62,11 @@ fn cut_at(advance: Option<&Advance>, end: u64) -> u64
 /// Where the window of a job's task ends that starts at a moment: after the smaller of the times that it asks for, or else
 /// the default duration, at least a second, and no later than the reservation that the job is sent into (queue_conf `h_rt`,
 /// `s_rt`; sched_conf `default_duration`; qsub `-ar`).
-pub fn window_end_from(
-    alloc: Global,
-    cluster: &Cluster,
-    job: &Job,
-    from: u64,
-) -> Result<u64, AllocError>
-    ensures { IfOk result (λ end. end ≡ windows.window_end_from cluster.now job.now from) }
+pub fn window_end_from(cluster: &Cluster, job: &Job, from: u64) -> u64
+    ensures { result ≡ windows.window_end_from cluster.now job.now from }
 {
-    let end = end_of_window(from, duration(alloc, cluster, job)?);
-    Ok(cut_at(cluster.advances.get(&job.advance), end))
+    let end = end_of_window(from, duration(cluster, job));
+    cut_at(cluster.advances.get(&job.advance), end)
 }
 
 fn lasts(moment: u64, advance: Option<&Advance>) -> bool
@@ -72,13 +79,8 @@ fn lasts(moment: u64, advance: Option<&Advance>) -> bool
 }
 
 /// Whether a job's task may start at a moment: one that is sent into a reservation only while that lasts (qsub, `-ar`).
-pub fn is_in_time(
-    _alloc: Global,
-    cluster: &Cluster,
-    job: &Job,
-    moment: u64,
-) -> Result<bool, AllocError>
-    ensures { IfOk result (λ in_time. in_time ≡ windows.is_in_time cluster.now job.now moment) }
+pub fn is_in_time(cluster: &Cluster, job: &Job, moment: u64) -> bool
+    ensures { result ≡ windows.is_in_time cluster.now job.now moment }
 {
-    Ok(job.advance == 0 || lasts(moment, cluster.advances.get(&job.advance)))
+    job.advance == 0 || lasts(moment, cluster.advances.get(&job.advance))
 }

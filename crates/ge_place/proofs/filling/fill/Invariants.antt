@@ -1,4 +1,4 @@
-use Rattle.std.proofs.Common.{◌+◌, ◌-◌, length}
+use Rattle.std.proofs.Common.{◌≡◌, ◌+◌, ◌-◌, length}
 use Rattle.ge_place.specs.Spots.{cells_with, is_in}
 use Rattle.ge_place.specs.Sums.{AreTold}
 use Rattle.ge_place.proofs.Refusing.{AreRefused}
@@ -7,7 +7,10 @@ use Rattle.ge_place.proofs.filling.fill.Given as goal
 
 abbrev pub invariant-loop-place : goal.invariant-loop-place
 invariant-loop-place l =
-    Fills (is_in l.site) l.most l.given l.spots l.fn.slots l.slots × AreTold l.before l.since (cells_with l.spots l.slots) × AreRefused (is_in l.site) l.before l.since l.spots l.place
+    Fills (is_in l.site) l.most l.given l.fn.spots.items l.fn.slots l.slots
+    × AreTold l.before l.since (cells_with l.fn.spots.items l.slots)
+    × AreRefused (is_in l.site) l.before l.since l.fn.spots.items l.place
+    × (l.spots.items ≡ l.fn.spots.items)
 
 abbrev pub decreases-loop-place : goal.decreases-loop-place
-decreases-loop-place l = l.most - l.given + (length l.spots - l.place)
+decreases-loop-place l = l.most - l.given + (length l.fn.spots.items - l.place)

@@ -6,5 +6,6 @@ use Rattle.ge_place.proofs.spreading.in_blocks.Given as goal
 
 abbrev pub invariant-loop-host : goal.invariant-loop-host
 invariant-loop-host l =
-    (cells_with l.spots l.given.slots ≡ fold (λ cells host. with_block l.size l.high cells (filled (is_on host) l.size cells)) (cells_with l.spots l.fn.given.slots) (lent (take l.host-index l.hosts)))
-    × IsGiven l.spots l.given
+    (cells_with l.fn.spots.items l.given.slots ≡ fold (λ cells host. with_block l.size l.high cells (filled (is_on host) l.size cells)) (cells_with l.fn.spots.items l.fn.given.slots) (lent (take l.host-index l.hosts)))
+    × IsGiven l.fn.spots.items l.given
+    × (l.spots.items ≡ l.fn.spots.items)

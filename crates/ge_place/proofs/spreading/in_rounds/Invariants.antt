@@ -6,8 +6,9 @@ use Rattle.ge_place.proofs.spreading.in_rounds.Given as goal
 
 abbrev pub invariant-loop-rounds : goal.invariant-loop-rounds
 invariant-loop-rounds l =
-    (with_rounds l.rounds l.high (lent l.hosts) (cells_with l.spots l.given.slots) ≡ with_rounds l.high l.high (lent l.hosts) (cells_with l.spots l.fn.given.slots))
-    × IsGiven l.spots l.given
+    (with_rounds l.rounds l.high (lent l.hosts) (cells_with l.fn.spots.items l.given.slots) ≡ with_rounds l.high l.high (lent l.hosts) (cells_with l.fn.spots.items l.fn.given.slots))
+    × IsGiven l.fn.spots.items l.given
+    × (l.spots.items ≡ l.fn.spots.items)
 
 abbrev pub decreases-loop-rounds : goal.decreases-loop-rounds
 decreases-loop-rounds l = l.rounds

@@ -6,5 +6,6 @@ use Rattle.ge_place.proofs.spreading.on_one_host.Given as goal
 
 abbrev pub invariant-loop-host : goal.invariant-loop-host
 invariant-loop-host l =
-    (cells_with l.spots l.best.slots ≡ fold (λ best host. fuller best (filled (is_on host) l.high (cells_with l.spots (no_slots_at l.spots)))) (cells_with l.spots (no_slots_at l.spots)) (lent (take l.host-index l.hosts)))
-    × IsGiven l.spots l.best
+    (cells_with l.fn.spots.items l.best.slots ≡ fold (λ best host. fuller best (filled (is_on host) l.high (cells_with l.fn.spots.items (no_slots_at l.fn.spots.items)))) (cells_with l.fn.spots.items (no_slots_at l.fn.spots.items)) (lent (take l.host-index l.hosts)))
+    × IsGiven l.fn.spots.items l.best
+    × (l.spots.items ≡ l.fn.spots.items)

@@ -9,6 +9,6 @@ returns c = λ is.
     let booked = c.args.booked.now in
     refused c.args.at.now.cluster.now c.args.at.now.groups.now c.args.job.now limits c.requires c.args.at.now.order.now booked c.args.from
     (sym (c.rules_out.ensures
-    ∙ ap (λ alike. rules_out alike booked c.args.from c.in_ok-until.until c.items.result.now) c.counts_alike-alike.ensures
-    ∙ ap (λ all. rules_out (counts_alike c.args.at.now.cluster.now) booked c.args.from c.in_ok-until.until all) c.items.ensures
-    ∙ ap (λ end. rules_out (counts_alike c.args.at.now.cluster.now) booked c.args.from end limits) c.in_ok-until.ensures) ∙ is)
+    ∙ ap (λ alike. rules_out alike booked c.args.from c.window_end_from-until.result c.items.result.now) c.counts_alike-alike.ensures
+    ∙ ap (λ all. rules_out (counts_alike c.args.at.now.cluster.now) booked c.args.from c.window_end_from-until.result all) c.items.ensures
+    ∙ ap (λ end. rules_out (counts_alike c.args.at.now.cluster.now) booked c.args.from end limits) c.window_end_from-until.ensures) ∙ is)
