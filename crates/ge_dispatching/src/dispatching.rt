@@ -2,19 +2,16 @@
 ghost use Rattle.std.specs.Prelude.{◌≡◌, [], ◌∷◌, ◌++◌, IfOk, OnOk, codes, decimal, filter_map, flat_map};
 ghost use Rattle.ge_rows.specs.Parts.{start_of};
 ghost use Rattle.ge_model_core.specs.Scheduling as scheduling;
-ghost use Rattle.ge_scheduling.specs.Bases.{IsBasis};
 
-use crate::prioritizing::priorities;
+use crate::deciding::decisions_told;
 use ge_access::is_manager;
 use ge_answers::refuse;
 use ge_base::Refusal;
 use ge_job_lists::grants_text;
-use ge_order::order;
 use ge_rows::{
     Change, Cluster, Decision, Entry, Event, List, Planned, Reply, Reservation, Start, TaskId,
     Text, Twin,
 };
-use ge_scheduling::{Basis, all_wait, basis_of, run_on};
 use ge_wording::decimal_text;
 use std::alloc::{AllocError, Global};
 
@@ -94,36 +91,6 @@ fn starts_in(alloc: Global, decisions: &[Decision]) -> Result<List<Start>, Alloc
     Ok(starts)
 }
 
-// The decisions of a run on its basis, over all candidates in the order of their priorities.
-#[tactic(auto, unfolding(ge_model_core::specs::Scheduling::decisions_at))]
-fn decisions_on(
-    alloc: Global,
-    c: &Cluster,
-    basis: Basis,
-    now: u64,
-) -> Result<List<Decision>, AllocError>
-    requires basis { IsBasis c.now basis }
-    requires moment { basis.moment ≡ now }
-    ensures { IfOk result (λ decisions. decisions ≡ scheduling.decisions_at c.now now) }
-{
-    let prios = priorities(alloc, c, now)?;
-    let order = order(alloc, c, &prios, now)?;
-    run_on(alloc, c, basis, order.items())
-}
-
-// The decisions of a run of which anything is told. Where each task waits, in whatever order, none is made.
-fn decisions_told(alloc: Global, c: &Cluster, e: &Event) -> Result<List<Decision>, AllocError>
-    ensures { IfOk result (λ decisions. scheduling.decided e.now decisions
-        ≡ scheduling.decided e.now (scheduling.decisions_at c.now e.now.moment)) }
-{
-    let basis = basis_of(alloc, c, e.moment)?;
-    if all_wait(c, &basis) {
-        return Ok(List::new(alloc));
-    }
-    let decisions = decisions_on(alloc, c, basis, e.moment)?;
-    Ok(decisions)
-}
-
 fn decided(alloc: Global, e: &Event, decisions: &[Decision]) -> Result<Planned, AllocError>
     ensures { IfOk result (λ planned. planned ≡ scheduling.decided e.now decisions.now) }
 {
@@ -140,8 +107,8 @@ fn decided(alloc: Global, e: &Event, decisions: &[Decision]) -> Result<Planned, 
 }
 
 /// The plan of a scheduling run at the event's moment: NotPermitted for whoever is no manager, else a line for each start and each
-/// reservation, and an entry with the starts, also where there is none. Priorities and their order are made only where a task may
-/// start or have slots kept.
+/// reservation, and an entry with the starts, also where there is none. Priorities are made only where a task may start or have
+/// slots kept, and the order only as far as one may.
 #[tactic(auto, unfolding(ge_model_core::specs::Scheduling::sched_plan))]
 pub fn plan_run(alloc: Global, c: &Cluster, e: &Event) -> Result<Planned, AllocError>
     ensures { IfOk result (λ planned. planned ≡ scheduling.sched_plan c.now e.now) }

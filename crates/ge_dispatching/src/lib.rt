@@ -6,6 +6,7 @@
 //! - [`priorities`]: the priorities of all candidates at a moment, with all their tickets.
 #![tactic(auto)]
 
+mod deciding;
 mod dispatching;
 mod prioritizing;
 

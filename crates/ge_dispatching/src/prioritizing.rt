@@ -1,5 +1,5 @@
 // The priorities of all candidates.
-ghost use Rattle.std.specs.Prelude.{◌≡◌, IfOk};
+ghost use Rattle.std.specs.Prelude.{◌≡◌, [], IfOk, IsTrue};
 ghost use Rattle.ge_model_order.specs.Priority.{added_tickets, all_tickets_of, prios_at};
 
 use ge_order::{candidates, prios};
@@ -19,6 +19,13 @@ fn added(alloc: Global, tickets: &[u64], others: &[u64]) -> Result<List<u64>, Al
     Ok(sums)
 }
 
+// Where there is no share tree, no job has share tickets.
+fn has_no_tree(c: &Cluster) -> bool
+    ensures { IsTrue result → c.now.shares ≡ [] }
+{
+    c.shares.is_empty()
+}
+
 fn all_tickets(
     alloc: Global,
     c: &Cluster,
@@ -28,6 +35,9 @@ fn all_tickets(
     ensures { IfOk result (λ sums. sums ≡ all_tickets_of c.now jobs.now now) }
 {
     let functional = tickets(alloc, c, jobs)?;
+    if has_no_tree(c) {
+        return Ok(functional);
+    }
     let shared = share_tickets(alloc, c, jobs, now)?;
     added(alloc, functional.items(), shared.items())
 }

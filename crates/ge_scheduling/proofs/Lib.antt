@@ -13,4 +13,5 @@ pub mod Remaining
 pub mod Singly
 pub mod Kept
 pub mod Waiting
+pub mod PartByPart
 pub mod Sound

@@ -7,3 +7,4 @@ pub mod Common
 pub mod Rests
 pub mod Passing
 pub mod Sooner
+pub mod UnderWay

@@ -198,27 +198,22 @@ pub(crate) fn advance_all(
     at: &Setting<'_>,
     start: Progress,
     order: &[TaskId],
-) -> Result<List<Decision>, AllocError>
+) -> Result<Progress, AllocError>
     requires { Follows at.now.cluster.now at.now.groups.now at.now.order.now
         at.now.moment at.now.kinds.now.entries start.booked start.decisions
         start.tally start.passed start.full start.vacant
         start.rests }
-    ensures { IfOk result (λ decisions. decisions
-        ≡ (fold (with_task at.now.cluster.now at.now.groups.now at.now.order.now at.now.moment)
-        (start.booked, start.decisions) order.now).1) }
+    ensures decided { IfOk result (λ so_far. (so_far.booked, so_far.decisions)
+        ≡ fold (with_task at.now.cluster.now at.now.groups.now at.now.order.now at.now.moment)
+        (start.booked, start.decisions) order.now) }
+    ensures follows { IfOk result (λ so_far. Follows at.now.cluster.now at.now.groups.now
+        at.now.order.now at.now.moment at.now.kinds.now.entries so_far.booked so_far.decisions
+        so_far.tally so_far.passed so_far.full so_far.vacant
+        so_far.rests) }
 {
     let mut so_far = start;
     for task in order {
         advance(alloc, at, &mut so_far, *task)?;
     }
-    let Progress {
-        booked: _,
-        decisions,
-        tally: _,
-        passed: _,
-        full: _,
-        vacant: _,
-        rests: _,
-    } = so_far;
-    Ok(decisions)
+    Ok(so_far)
 }

@@ -68,11 +68,11 @@ fn one_asks(jobs: &Table<u32, Job>) -> bool
     false
 }
 
-// Whether no task may have slots kept, whatever was decided: none may at all, or no job asks for it.
-fn none_is_kept(cluster: &Cluster) -> bool
-    ensures { result ≡ not (may_keep cluster.now) }
+/// Whether no task may have slots kept where so many have some: as many have as may, or no job asks for it.
+pub(crate) fn none_is_kept(cluster: &Cluster, reserved: u64) -> bool
+    ensures { result ≡ not (may_keep cluster.now reserved) }
 {
-    cluster.sched.max_reservation == 0 || !one_asks(&cluster.jobs)
+    cluster.sched.max_reservation <= reserved || !one_asks(&cluster.jobs)
 }
 
 /// Whether each task waits in a run on this basis, in whatever order the tasks are: no instance has a slot left, there is no
@@ -83,5 +83,5 @@ pub fn all_wait(cluster: &Cluster, basis: &Basis) -> bool
     ensures shut { result ≡ is_shut cluster.now basis.now }
     ensures waits { IsTrue result → AllWait cluster.now basis.now.moment }
 {
-    no_slot_is_left(cluster, &basis.vacant) && none_is_kept(cluster)
+    no_slot_is_left(cluster, &basis.vacant) && none_is_kept(cluster, 0)
 }

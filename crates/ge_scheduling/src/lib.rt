@@ -13,7 +13,9 @@
 //! - `reserving`: the first moment at which a task can be placed. `deciding`: the decision of one task.
 //! - `bookings`: what a decision books. `advancing`: one task after the other.
 //! - [`basis_of`]: what a run stands on, as a [`Basis`]; [`all_wait`]: whether each task waits on it, in whatever order.
-//! - [`run`]: the decisions of a run; [`run_on`]: the same on its basis.
+//! - [`begin_run`]: a [`Run`] on its basis; [`decide_tasks`]: the run with more tasks decided; [`others_wait`]: whether each that
+//!   isn't decided yet waits; [`decisions_of`]: what was decided.
+//! - [`run`]: the decisions of a whole run.
 #![tactic(auto)]
 
 mod advancing;
@@ -32,7 +34,9 @@ mod running;
 mod setting;
 mod single;
 mod thinning;
+mod underway;
 mod vacancy;
 
 pub use basis::{Basis, all_wait, basis_of};
-pub use running::{run, run_on};
+pub use running::run;
+pub use underway::{Run, begin_run, decide_tasks, decisions_of, others_wait};

@@ -2,55 +2,12 @@
 ghost use Rattle.std.specs.Prelude.{◌≡◌, IfOk};
 ghost use Rattle.ge_model_place.specs.Running.{run_of};
 ghost use Rattle.ge_model_place.specs.Runs.{IsRun, KeepsLimits, DecidesEach};
-ghost use Rattle.ge_scheduling.specs.Bases.{IsBasis};
 ghost use Rattle.ge_scheduling.specs.Sooner.{ReservesEarliest};
 
-use crate::advancing::{advance_all, begin};
-use crate::basis::{Basis, basis_of};
-use crate::holding::holders_of;
-use crate::kinds::kinds_of;
-use crate::setting::Setting;
+use crate::basis::basis_of;
+use crate::underway::{begin_run, decide_tasks, decisions_of};
 use ge_rows::{Cluster, Decision, List, TaskId};
 use std::alloc::{AllocError, Global};
-use std::collections::BTreeMap;
-
-/// The decisions of a run on its basis, which `run` makes itself: as those of `run` at the moment of the basis.
-///
-/// # Errors
-///
-/// Where there is no memory for the decisions or what they book.
-#[tactic(auto, unfolding(ge_model_place::specs::Running::run_of))]
-pub fn run_on(
-    alloc: Global,
-    cluster: &Cluster,
-    basis: Basis,
-    order: &[TaskId],
-) -> Result<List<Decision>, AllocError>
-    requires { IsBasis cluster.now basis }
-    ensures { IfOk result (λ decisions. decisions
-        ≡ run_of cluster.now order.now basis.moment) }
-{
-    let Basis {
-        moment,
-        groups,
-        order: instances,
-        booked,
-        vacant,
-    } = basis;
-    let holders = holders_of(alloc, cluster, instances.items())?;
-    let none = BTreeMap::new(alloc);
-    let at = Setting {
-        cluster,
-        groups: &groups,
-        order: instances.items(),
-        holders: &holders,
-        kinds: kinds_of(cluster, &none),
-        moment,
-    };
-    let start = begin(alloc, &at, booked, vacant)?;
-    let decisions = advance_all(alloc, &at, start, order)?;
-    Ok(decisions)
-}
 
 fn decide_all(
     alloc: Global,
@@ -61,8 +18,9 @@ fn decide_all(
     ensures { IfOk result (λ decisions. decisions ≡ run_of cluster.now order.now now) }
 {
     let basis = basis_of(alloc, cluster, now)?;
-    let decisions = run_on(alloc, cluster, basis, order)?;
-    Ok(decisions)
+    let begun = begin_run(alloc, cluster, basis)?;
+    let run = decide_tasks(alloc, cluster, begun, order)?;
+    Ok(decisions_of(run))
 }
 
 /// The decisions of a run over these tasks at a moment, in seconds: one for each, in their order. Groups are spelled out and

@@ -5,6 +5,8 @@
 #[cfg(test)]
 mod figures;
 #[cfg(test)]
+mod parts;
+#[cfg(test)]
 mod sites;
 #[cfg(test)]
 mod whole_site;

@@ -3,7 +3,7 @@ use ge_rows::{
     Cluster, Decision, Job, List, Request, Running, Start, Table, TaskId, TaskSet, TaskSpan, Text,
     Twin, opening,
 };
-use ge_scheduling::{all_wait, basis_of, run, run_on};
+use ge_scheduling::{all_wait, basis_of, begin_run, decide_tasks, decisions_of, others_wait, run};
 use std::alloc::{AllocError, Global};
 use std::test::Fail;
 
@@ -124,6 +124,24 @@ fn begin_all(
     Ok(())
 }
 
+// Tasks are decided in two parts as in one. Once both slots are taken, the others wait.
+#[test]
+fn others_wait_once_slots_are_taken(rt: HostRuntime) -> Result<(), Fail> {
+    let alloc = rt.alloc();
+    let cluster = with_jobs(alloc, 3)?;
+    let order = in_order(alloc, 3)?;
+    let (first, others) = order.items().split_at(1);
+    let run = begin_run(alloc, &cluster, basis_of(alloc, &cluster, 20)?)?;
+    let run = decide_tasks(alloc, &cluster, run, first)?;
+    assert!(rt; !others_wait(&cluster, &run));
+    let run = decide_tasks(alloc, &cluster, run, others)?;
+    assert!(rt; others_wait(&cluster, &run));
+    let decisions = decisions_of(run);
+    assert_eq!(rt; decisions.len(), 3);
+    assert_eq!(rt; starts(alloc, &decisions)?.as_str(), "0=1 1=2 ");
+    Ok(())
+}
+
 // Of three tasks two take both slots: then each waits, unless slots may be kept.
 #[test]
 fn all_wait_behind_full_slots(rt: HostRuntime) -> Result<(), Fail> {
@@ -132,7 +150,9 @@ fn all_wait_behind_full_slots(rt: HostRuntime) -> Result<(), Fail> {
     let first = basis_of(alloc, &cluster, 20)?;
     assert!(rt; !all_wait(&cluster, &first));
     let order = in_order(alloc, 3)?;
-    let decisions = run_on(alloc, &cluster, first, order.items())?;
+    let run = begin_run(alloc, &cluster, first)?;
+    let run = decide_tasks(alloc, &cluster, run, order.items())?;
+    let decisions = decisions_of(run);
     assert_eq!(rt; starts(alloc, &decisions)?.as_str(), "0=1 1=2 ");
     begin_all(alloc, &mut cluster, &decisions)?;
     assert!(rt; all_wait(&cluster, &basis_of(alloc, &cluster, 21)?));

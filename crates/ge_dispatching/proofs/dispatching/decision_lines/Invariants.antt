@@ -1,4 +1,4 @@
-use Rattle.std.proofs.Common.{◌≡◌, ◌++◌, take}
+use Rattle.std.proofs.Common.{◌≡◌, take}
 use Rattle.std.specs.Prelude.{flat_map}
 use Rattle.ge_model_core.specs.Scheduling as scheduling
 use Rattle.ge_dispatching.proofs.dispatching.decision_lines.Given as goal

@@ -1,0 +1,116 @@
+// The decisions of a run of which anything is told.
+ghost use Rattle.std.specs.Prelude.{◌≡◌, ◌++◌, IfOk};
+ghost use Rattle.ge_model_order.specs.Priority.{order_of, prios_at};
+ghost use Rattle.ge_model_place.specs.Running.{run_of};
+ghost use Rattle.ge_model_core.specs.Scheduling as scheduling;
+ghost use Rattle.ge_scheduling.specs.Bases.{IsBasis};
+ghost use Rattle.ge_scheduling.specs.UnderWay.{IsUnderWay, tasks_decided};
+ghost use Rattle.ge_dispatching.specs.Telling.{TellsRun};
+
+use crate::prioritizing::priorities;
+use ge_order::{bound_for, first_part, order, second_part};
+use ge_rows::{Cluster, Decision, Event, List, Prio};
+use ge_scheduling::{
+    Basis, Run, all_wait, basis_of, begin_run, decide_tasks, decisions_of, others_wait,
+};
+use std::alloc::{AllocError, Global};
+
+/// How many jobs are put in order before it is asked whether all others wait. Most runs of a full cluster have few slots to
+/// give, and none that has many more loses by it.
+const FEW: usize = 256;
+
+// The run with the tasks of the jobs of these priorities decided too, in their order.
+fn decide_jobs(
+    alloc: Global,
+    c: &Cluster,
+    run: Run,
+    prios: &List<Prio>,
+    now: u64,
+) -> Result<Run, AllocError>
+    requires { IsUnderWay c.now run }
+    ensures under_way { IfOk result (λ more. IsUnderWay c.now more) }
+    ensures moment { IfOk result (λ more. more.moment ≡ run.moment) }
+    ensures tasks { IfOk result (λ more. tasks_decided more
+        ≡ tasks_decided run ++ order_of c.now prios.now now) }
+{
+    let tasks = order(alloc, c, prios, now)?;
+    let more = decide_tasks(alloc, c, run, tasks.items())?;
+    Ok(more)
+}
+
+// The decisions of a run once the tasks of the jobs of these priorities are decided too.
+fn decide_last(
+    alloc: Global,
+    c: &Cluster,
+    run: Run,
+    prios: &List<Prio>,
+    now: u64,
+) -> Result<List<Decision>, AllocError>
+    requires { IsUnderWay c.now run }
+    ensures { IfOk result (λ decisions. decisions
+        ≡ run_of c.now (tasks_decided run ++ order_of c.now prios.now now) run.moment) }
+{
+    let more = decide_jobs(alloc, c, run, prios, now)?;
+    Ok(decisions_of(more))
+}
+
+// The decisions of a run on its basis, over all candidates in the order of their priorities. Those of tasks that wait behind
+// the first jobs are left out where each does.
+fn decide_in_parts(
+    alloc: Global,
+    c: &Cluster,
+    basis: Basis,
+    prios: &List<Prio>,
+    now: u64,
+) -> Result<List<Decision>, AllocError>
+    requires { IsBasis c.now basis }
+    ensures { IfOk result (λ decisions.
+        TellsRun c.now (order_of c.now prios.now now) basis.moment decisions) }
+{
+    let run = begin_run(alloc, c, basis)?;
+    let Some(bound) = bound_for(alloc, prios, FEW)? else {
+        let decisions = decide_last(alloc, c, run, prios, now)?;
+        return Ok(decisions);
+    };
+    let first = first_part(alloc, prios, &bound)?;
+    let begun = decide_jobs(alloc, c, run, &first, now)?;
+    if others_wait(c, &begun) {
+        return Ok(decisions_of(begun));
+    }
+    let second = second_part(alloc, prios, &bound)?;
+    let decisions = decide_last(alloc, c, begun, &second, now)?;
+    Ok(decisions)
+}
+
+// The same over the priorities of all candidates.
+fn decisions_on(
+    alloc: Global,
+    c: &Cluster,
+    basis: Basis,
+    now: u64,
+) -> Result<List<Decision>, AllocError>
+    requires { IsBasis c.now basis }
+    ensures { IfOk result (λ decisions.
+        TellsRun c.now (order_of c.now (prios_at c.now now) now) basis.moment decisions) }
+{
+    let prios = priorities(alloc, c, now)?;
+    let decisions = decide_in_parts(alloc, c, basis, &prios, now)?;
+    Ok(decisions)
+}
+
+/// The decisions of a run of which anything is told. Where each task waits, in whatever order, none is made.
+pub(crate) fn decisions_told(
+    alloc: Global,
+    c: &Cluster,
+    e: &Event,
+) -> Result<List<Decision>, AllocError>
+    ensures { IfOk result (λ decisions. scheduling.decided e.now decisions
+        ≡ scheduling.decided e.now (scheduling.decisions_at c.now e.now.moment)) }
+{
+    let basis = basis_of(alloc, c, e.moment)?;
+    if all_wait(c, &basis) {
+        return Ok(List::new(alloc));
+    }
+    let decisions = decisions_on(alloc, c, basis, e.moment)?;
+    Ok(decisions)
+}
