@@ -2,7 +2,7 @@
 ghost use Rattle.std.specs.Prelude.{◌≡◌, [], IfOk, IsTrue};
 ghost use Rattle.ge_model_order.specs.Priority.{added_tickets, all_tickets_of, prios_at};
 
-use ge_order::{candidates, prios};
+use ge_order::{candidates, own_prios, prios};
 use ge_rows::{Cluster, List, Prio};
 use ge_share::share_tickets;
 use ge_tickets::tickets;
@@ -42,12 +42,24 @@ fn all_tickets(
     added(alloc, functional.items(), shared.items())
 }
 
-/// The priorities of all candidates at a moment, in order of their numbers.
+// The priorities of all candidates, with whatever tickets they have.
 #[tactic(auto, unfolding(ge_model_order::specs::Priority::prios_at))]
-pub fn priorities(alloc: Global, c: &Cluster, now: u64) -> Result<List<Prio>, AllocError>
+fn prios_with_all(alloc: Global, c: &Cluster, now: u64) -> Result<List<Prio>, AllocError>
     ensures { IfOk result (λ prios. prios ≡ prios_at c.now now) }
 {
     let jobs = candidates(alloc, c, now)?;
     let tickets = all_tickets(alloc, c, &jobs, now)?;
     prios(alloc, c, &jobs, &tickets, now)
+}
+
+/// The priorities of all candidates at a moment, in order of their numbers.
+pub fn priorities(alloc: Global, c: &Cluster, now: u64) -> Result<List<Prio>, AllocError>
+    ensures { IfOk result (λ prios. prios ≡ prios_at c.now now) }
+{
+    if has_no_tree(c) {
+        if let Some(prios) = own_prios(alloc, c, now)? {
+            return Ok(prios);
+        }
+    }
+    prios_with_all(alloc, c, now)
 }

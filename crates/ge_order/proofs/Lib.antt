@@ -6,4 +6,5 @@ pub mod Slots
 pub mod Scaled
 pub mod Zipped
 pub mod Told
+pub mod InOneWalk
 pub mod Reworked

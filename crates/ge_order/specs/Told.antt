@@ -1,5 +1,6 @@
 -- What is told of a job by its facts alone, or by the job alone.
-use Rattle.std.specs.Prelude.{ℕ, Bool, true, false, not, ◌||◌, ◌&&◌, ◌==◌, nat_lt, if◌then◌else◌, List, [], ◌∷◌, Option, Some, None}
+use Rattle.std.specs.Prelude.{ℕ, Bool, true, false, not, ◌||◌, ◌&&◌, ◌==◌, nat_lt, if◌then◌else◌, List, [], ◌∷◌, filter, Option, Some, None}
+use Rattle.std.specs.Map.{keys_of}
 use Rattle.ge_collections.specs.declared.short_row.ShortRow.{ShortRow}
 use Rattle.ge_model_rows.specs.ClusterRows.{Cluster}
 use Rattle.ge_model_rows.specs.JobRows.{Job}
@@ -19,6 +20,10 @@ told_by facts now = if rests facts now then Some false else if facts.follows the
 -- whether a job has an eligible task
 abbrev pub has_task : Cluster → ℕ → ℕ × ShortRow JobFacts → Bool
 has_task c now row = elim (told_by row.1.facts now) [ None ↦ is_candidate c now row.0 | Some told ↦ told ]
+
+-- the jobs of short rows that have an eligible task
+abbrev pub chosen : Cluster → ℕ → List (ℕ × ShortRow JobFacts) → List ℕ
+chosen c now rows = keys_of (filter (has_task c now) rows)
 
 -- whether no hold and no other job keeps the tasks of a job from starting, and its time has come
 abbrev pub is_free : Job → ℕ → Bool

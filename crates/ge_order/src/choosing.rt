@@ -1,6 +1,5 @@
 // The candidates of a run.
-ghost use Rattle.std.specs.Prelude.{◌≡◌, IfOk, not, filter};
-ghost use Rattle.std.specs.Map.{keys_of};
+ghost use Rattle.std.specs.Prelude.{◌≡◌, IfOk, not};
 ghost use Rattle.ge_model_value.specs.Pieces.{is_empty as is_empty_list};
 ghost use Rattle.ge_model_order.specs.Candidates.{is_candidate as is_a_candidate, candidates as candidates_of};
 ghost use Rattle.ge_order.specs.Told as telling;
@@ -45,8 +44,8 @@ fn told(facts: &JobFacts, now: u64) -> Option<bool>
     }
 }
 
-// The same of any job: where its facts don't tell, its tasks do.
-fn has_task(
+/// The same of any job: where its facts don't tell, its tasks do.
+pub(crate) fn has_task(
     alloc: Global,
     c: &Cluster,
     number: u32,
@@ -72,7 +71,7 @@ fn choose(
     now: u64,
 ) -> Result<List<u32>, AllocError>
     ensures { IfOk result (λ numbers. numbers
-        ≡ keys_of (filter (telling.has_task c.now now) rows.now.entries)) }
+        ≡ telling.chosen c.now now rows.now.entries) }
 {
     let mut numbers = Vec::with_capacity(alloc, rows.len())?;
     for (number, row) in rows.iter() {

@@ -5,13 +5,15 @@
 //! a job that isn't there has no tasks, and the priority 0. Only want of memory fails.
 //!
 //! - [`candidates`]: the jobs with a task that a run may start.
-//! - [`urgency`]: the urgency of a job, which takes no memory. [`prios`]: the priorities of jobs with their tickets.
+//! - [`urgency`]: the urgency of a job, which takes no memory. [`prios`]: the priorities of jobs with their tickets;
+//!   [`own_prios`]: those of all candidates, where jobs have no tickets but those that each was given.
 //! - [`order`]: the tasks by the priorities of their jobs. [`bound_for`], [`first_part`] and [`second_part`] part priorities, so that
 //!   the order of all is that of the first part and then that of the second.
 #![tactic(auto)]
 
 mod asked;
 mod choosing;
+mod gathering;
 mod kinds;
 mod ordering;
 mod parting;
@@ -26,5 +28,5 @@ mod weighing;
 pub use choosing::candidates;
 pub use ordering::order;
 pub use parting::{Bound, bound_for, first_part, second_part};
-pub use priority::prios;
+pub use priority::{own_prios, prios};
 pub use urging::urgency;

@@ -10,8 +10,8 @@ use ge_rows::Sched;
 /// A whole, in millionths.
 const WHOLE: u128 = 1_000_000;
 
-// An amount, cut at the end of 64 bits.
-fn cut_at_64(amount: u128) -> u64
+/// An amount, cut at the end of 64 bits.
+pub(crate) fn cut_at_64(amount: u128) -> u64
     ensures { result ≡ amounts.cut_at_64 amount }
 {
     u64::try_from(amount).unwrap_or(u64::MAX)

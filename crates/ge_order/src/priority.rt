@@ -1,13 +1,17 @@
 // The priorities of jobs (sge_priority).
-ghost use Rattle.std.specs.Prelude.{◌≡◌, IfOk, map, zip};
+ghost use Rattle.std.specs.Prelude.{◌≡◌, ℕ, List as Items, IfOk, IfSome, map, zip};
 ghost use Rattle.ge_model_order.specs.Amounts.{greatest as greatest_of};
+ghost use Rattle.ge_model_order.specs.Candidates.{candidates};
 ghost use Rattle.ge_model_order.specs.Priority.{prios_of};
-ghost use Rattle.ge_order.specs.Standings.{prio_of};
+ghost use Rattle.ge_model_order.specs.Tickets.{tickets_of};
+ghost use Rattle.ge_order.specs.Standings.{prio_of, standing_of};
 ghost use Rattle.ge_order.specs.Weighed.{IsWorked};
 
+use crate::gathering::gather;
 use crate::standing::{Standing, Urgent, extremes, standings};
 use crate::weighing::{Worked, work_on, work_out};
 use ge_rows::{Cluster, List, Prio, Sched};
+use ge_tickets::has_own_alone;
 use std::alloc::{AllocError, Global};
 
 /// What urgencies and tickets are parts of: the least and the greatest urgency, and the most tickets.
@@ -90,9 +94,28 @@ fn prios_on(
     Ok(List::from_vec(prios))
 }
 
+// The priorities of jobs of which this is known, with their tickets.
+fn prios_known(
+    alloc: Global,
+    c: &Cluster,
+    standings: &[Standing],
+    tickets: &[u64],
+) -> Result<List<Prio>, AllocError>
+    ensures { (jobs : Items ℕ) (now : ℕ) → standings.now ≡ map (standing_of c.now now) jobs
+        → IfOk result (λ prios. prios ≡ prios_of c.now jobs tickets.now now) }
+{
+    let (low, high) = extremes(standings);
+    let scale = Scale {
+        low,
+        high,
+        most: greatest(tickets),
+    };
+    let prios = prios_on(alloc, &c.sched, scale, standings, tickets)?;
+    Ok(prios)
+}
+
 /// The priorities of jobs at a moment, in their order; the second list has the tickets of each. Urgency and tickets count by what
 /// these jobs have of them, so that all candidates of a run belong into one list. A job that isn't there has a row of zeros.
-#[tactic(auto, using(crate::proofs::Scaled::prios_are))]
 pub fn prios(
     alloc: Global,
     c: &Cluster,
@@ -103,18 +126,29 @@ pub fn prios(
     ensures { IfOk result (λ prios. prios ≡ prios_of c.now jobs.now tickets.now now) }
 {
     let standings = standings(alloc, c, jobs.items(), now)?;
-    let (low, high) = extremes(standings.as_slice());
-    let scale = Scale {
-        low,
-        high,
-        most: greatest(tickets.items()),
-    };
-    let prios = prios_on(
-        alloc,
-        &c.sched,
-        scale,
-        standings.as_slice(),
-        tickets.items(),
-    )?;
+    let prios = prios_known(alloc, c, standings.as_slice(), tickets.items())?;
     Ok(prios)
+}
+
+/// The priorities of all candidates at a moment, with their functional and override tickets, where they have none of these but
+/// those that each was given: what the short rows of jobs tell, in one walk. None where jobs have others, or no short rows.
+pub fn own_prios(alloc: Global, c: &Cluster, now: u64) -> Result<Option<List<Prio>>, AllocError>
+    ensures { IfOk result (λ found. IfSome found (λ prios. prios
+        ≡ prios_of c.now (candidates c.now now) (tickets_of c.now (candidates c.now now)) now)) }
+{
+    if !has_own_alone(c) {
+        return Ok(None);
+    }
+    c.jobs.orderly();
+    let Some(shorts) = c.jobs.shorts() else {
+        return Ok(None);
+    };
+    let found = gather(alloc, c, shorts.rows, now)?;
+    let prios = prios_known(
+        alloc,
+        c,
+        found.standings.as_slice(),
+        found.tickets.as_slice(),
+    )?;
+    Ok(Some(prios))
 }

@@ -1,8 +1,11 @@
 // What short rows tell of jobs before their priorities can be told.
-ghost use Rattle.std.specs.Prelude.{◌≡◌, IfOk, OnOk, map, codes};
+ghost use Rattle.std.specs.Prelude.{◌≡◌, ℕ, List as Items, Some, IfOk, OnOk, map, codes};
 ghost use Rattle.std.specs.Option.{option_copied};
 ghost use Rattle.ge_beside.specs.Met.{AreFound};
+ghost use Rattle.ge_collections.specs.Keyed.{at_number};
+ghost use Rattle.ge_collections.specs.declared.short_row.ShortRow.{ShortRow as Short};
 ghost use Rattle.ge_model_value.specs.Complexes.{complex_at};
+ghost use Rattle.ge_rows.specs.declared.labels.JobFacts.{JobFacts as Facts};
 ghost use Rattle.ge_order.specs.Kinds as kind;
 
 use crate::asked::slots_complex;
@@ -23,6 +26,36 @@ fn urgent_by(c: &Cluster, now: u64, asked: u128, facts: &JobFacts) -> Urgent
         priority: facts.priority,
         urgency: urgency_by(c, asked, facts.submitted, facts.deadline, now),
     }
+}
+
+/// What is known of a job whose short row this is.
+pub(crate) fn tell(
+    c: &Cluster,
+    unit: Option<&ComplexDef>,
+    kinds: &mut Table<u32, u128>,
+    last: &mut Option<(u32, u128)>,
+    number: u32,
+    row: &ShortRow<JobFacts>,
+    now: u64,
+) -> Result<Standing, AllocError>
+    ensures standing { (rows : Items (ℕ × Short Facts)) → option_copied unit.entry
+        ≡ complex_at c.now (codes "slots") → at_number rows number ≡ Some row.now
+        → kind.AreAsked c.now rows kinds.old → kind.IsAsked c.now rows last.old
+        → IfOk result (λ standing. standing ≡ kind.told_standing c.now rows now number) }
+    ensures asked { (rows : Items (ℕ × Short Facts)) → option_copied unit.entry
+        ≡ complex_at c.now (codes "slots") → at_number rows number ≡ Some row.now
+        → kind.SameAsked c.now rows → kind.AreAsked c.now rows kinds.old
+        → kind.IsAsked c.now rows last.old → OnOk result (kind.AreAsked c.now rows kinds.new) }
+    ensures last { (rows : Items (ℕ × Short Facts)) → option_copied unit.entry
+        ≡ complex_at c.now (codes "slots") → at_number rows number ≡ Some row.now
+        → kind.SameAsked c.now rows → kind.AreAsked c.now rows kinds.old
+        → kind.IsAsked c.now rows last.old → OnOk result (kind.IsAsked c.now rows last.new) }
+{
+    let asked = asked_again(c, unit, kinds, last, row.third, number)?;
+    Ok(Standing {
+        job: number,
+        urgent: Some(urgent_by(c, now, asked, &row.facts)),
+    })
 }
 
 fn standing_told<'a>(

@@ -1,9 +1,10 @@
 -- Tickets where no user and no project has any, and jobs have none by their shares.
-use Rattle.std.specs.Prelude.{◌≡◌, ℕ, List, [], Some, None}
+use Rattle.std.specs.Prelude.{◌≡◌, ℕ, Bool, ◌&&◌, ◌==◌, List, [], Some, None}
 use Rattle.ge_collections.specs.Keyed.{at_number}
 use Rattle.ge_collections.specs.declared.short_row.ShortRow.{ShortRow}
 use Rattle.ge_rows.specs.declared.labels.JobFacts.{JobFacts}
 use Rattle.ge_model_rows.specs.ClusterRows.{Cluster}
+use Rattle.ge_model_value.specs.Pieces.{is_empty}
 use Rattle.ge_model_order.specs.Amounts.{cut_at_64}
 use Rattle.ge_model_order.specs.Tickets.{weighted}
 
@@ -12,6 +13,10 @@ pub record OwnAlone (c : Cluster) : Type 0 where
   pub users : c.users ≡ []
   pub projects : c.projects ≡ []
   pub shares : weighted c c.sched.w_job ≡ 0
+
+-- whether that is so
+abbrev pub is_own_alone : Cluster → Bool
+is_own_alone c = is_empty c.users && is_empty c.projects && weighted c c.sched.w_job == 0
 
 -- the tickets that a job itself was given; one that isn't there has none
 abbrev pub own_tickets : Cluster → ℕ → ℕ

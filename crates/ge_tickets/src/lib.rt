@@ -5,6 +5,7 @@
 //! are a few look-ups. Contracts say by `ge_model_order` what the call gives.
 //!
 //! - [`tickets`]: the tickets of each job of a list.
+//! - [`has_own_alone`]: whether jobs have none but those that each was given.
 #![tactic(auto)]
 
 mod counting;
@@ -14,3 +15,4 @@ mod owning;
 mod summing;
 
 pub use listing::tickets;
+pub use owning::has_own_alone;

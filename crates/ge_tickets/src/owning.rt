@@ -2,7 +2,7 @@
 
 ghost use Rattle.std.specs.Prelude.{◌≡◌, IfOk, IsTrue, map};
 ghost use Rattle.ge_beside.specs.Met.{AreFound};
-ghost use Rattle.ge_tickets.specs.Own.{OwnAlone, own_tickets as own_of, told_tickets as told_of};
+ghost use Rattle.ge_tickets.specs.Own.{OwnAlone, is_own_alone, own_tickets as own_of, told_tickets as told_of};
 
 use crate::dividing::{cut, functional};
 use ge_beside::{row_at, walk};
@@ -11,9 +11,11 @@ use std::alloc::{AllocError, Global};
 use std::collections::BTreeMap;
 use std::collections::btree_map::Iter;
 
-/// Whether no user and no project has a row, and no tickets are divided by the shares of jobs.
-pub(crate) fn has_own_alone(c: &Cluster) -> bool
-    ensures { IsTrue result → OwnAlone c.now }
+/// Whether jobs have no functional or override tickets but those that each was given: no user and no project has a row, and no
+/// tickets are divided by the shares of jobs.
+pub fn has_own_alone(c: &Cluster) -> bool
+    ensures value { result ≡ is_own_alone c.now }
+    ensures alone { IsTrue result → OwnAlone c.now }
 {
     c.users.is_empty() && c.projects.is_empty() && functional(c, c.sched.w_job) == 0
 }

@@ -1,22 +1,26 @@
 // Worked figures.
 use crate::sites::{Brief, jobs_of, put_job, put_node, put_usage, text};
-use ge_order::prios;
-use ge_rows::{Cluster, List, Prio, opening};
+use ge_order::{own_prios, prios};
+use ge_rows::{Cluster, List, Prio, UserRow, opening};
 use ge_share::{share_tickets, usage_at};
 use std::alloc::{AllocError, Global};
 use std::test::Fail;
 
-fn of_user(owner: &'static str) -> Brief {
+fn with_tickets(owner: &'static str, oticket: u64) -> Brief {
     Brief {
         owner,
         project: "",
         tasks: "1",
         priority: 0,
         share: 0,
-        oticket: 0,
+        oticket,
         submitted: 0,
         deadline: 0,
     }
+}
+
+fn of_user(owner: &'static str) -> Brief {
+    with_tickets(owner, 0)
 }
 
 // A root with two leaves of 100 shares, whose users have usage of 300 and 100, and a job of each.
@@ -71,6 +75,32 @@ fn one_that_waits(rt: HostRuntime) -> Result<(), Fail> {
     tickets.push(0)?;
     let found = prios(alloc, &c, &jobs_of(alloc, &[1])?, &tickets, 10)?;
     assert!(rt; are_prios(found.items(), ONE));
+    Ok(())
+}
+
+const OWN: &'static [([u64; 3], u128)] = &[
+    ([499_755, 500_000, 250_000], 552_255_000_000),
+    ([499_755, 500_000, 1_000_000], 559_755_000_000),
+];
+
+// Two jobs with tickets of their own: once a user has a row, they count beside others.
+#[test]
+fn by_their_own_tickets(rt: HostRuntime) -> Result<(), Fail> {
+    let alloc = rt.alloc();
+    let mut c = opening(alloc)?;
+    put_job(alloc, &mut c, 1, with_tickets("ann", 1000))?;
+    put_job(alloc, &mut c, 2, with_tickets("ann", 4000))?;
+    let found = own_prios(alloc, &c, 10)?;
+    assert!(rt; found.is_some());
+    if let Some(prios) = found {
+        assert!(rt; are_prios(prios.items(), OWN));
+    }
+    let row = UserRow {
+        fshare: 1,
+        oticket: 0,
+    };
+    c.users.insert(text(alloc, "ann")?, row)?;
+    assert!(rt; own_prios(alloc, &c, 10)?.is_none());
     Ok(())
 }
 
