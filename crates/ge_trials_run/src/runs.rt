@@ -57,10 +57,14 @@ fn with_jobs(alloc: Global, jobs: u32) -> Result<Cluster, AllocError> {
     Ok(cluster)
 }
 
+fn first_task(job: u32) -> TaskId {
+    TaskId { job, task: 1 }
+}
+
 fn in_order(alloc: Global, jobs: u32) -> Result<List<TaskId>, AllocError> {
     let mut order = List::new(alloc);
     for job in 0..jobs {
-        order.push(TaskId { job, task: 1 })?;
+        order.push(first_task(job))?;
     }
     Ok(order)
 }
@@ -129,12 +133,10 @@ fn begin_all(
 fn others_wait_once_slots_are_taken(rt: HostRuntime) -> Result<(), Fail> {
     let alloc = rt.alloc();
     let cluster = with_jobs(alloc, 3)?;
-    let order = in_order(alloc, 3)?;
-    let (first, others) = order.items().split_at(1);
     let run = begin_run(alloc, &cluster, basis_of(alloc, &cluster, 20)?)?;
-    let run = decide_tasks(alloc, &cluster, run, first)?;
+    let run = decide_tasks(alloc, &cluster, run, &[first_task(0)])?;
     assert!(rt; !others_wait(&cluster, &run));
-    let run = decide_tasks(alloc, &cluster, run, others)?;
+    let run = decide_tasks(alloc, &cluster, run, &[first_task(1), first_task(2)])?;
     assert!(rt; others_wait(&cluster, &run));
     let decisions = decisions_of(run);
     assert_eq!(rt; decisions.len(), 3);
