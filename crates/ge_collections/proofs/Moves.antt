@@ -30,11 +30,9 @@ module _ (whole : Bool) (first second a b : ℕ) where
       subst (λ (o : Option V). AreSums whole first second (a - unwrap_or (option_map f o) 0) (b - unwrap_or (option_map g o) 0)) (sym is) known
 
 module _ {K M : Type 0} (R : K → K → Ordering) (C : M → M → Ordering) where
-  -- the same marks under other names
-  pub same_marks : (ledger : List (M × Keys K)) (count : M → K → ℕ) (key : K) (more gained less lost : List M) → more ≡ gained → less ≡ lost
-      → Counts R C ledger (λ m q. count m q + only_at R key (times C m more) q - only_at R key (times C m less) q)
+  -- the same lost marks under another name
+  pub same_lost : (ledger : List (M × Keys K)) (count : M → K → ℕ) (key : K) (gained less lost : List M) → less ≡ lost
+      → Counts R C ledger (λ m q. count m q + only_at R key (times C m gained) q - only_at R key (times C m less) q)
       → Counts R C ledger (λ m q. count m q + only_at R key (times C m gained) q - only_at R key (times C m lost) q)
-  same_marks ledger count key more gained less lost g l known m q =
-      known m q
-      ∙ ap (λ (list : List M). nonzero (count m q + only_at R key (times C m list) q - only_at R key (times C m less) q)) g
-      ∙ ap (λ (list : List M). nonzero (count m q + only_at R key (times C m gained) q - only_at R key (times C m list) q)) l
+  same_lost ledger count key gained less lost l known m q =
+      known m q ∙ ap (λ (list : List M). nonzero (count m q + only_at R key (times C m gained) q - only_at R key (times C m list) q)) l

@@ -1,5 +1,5 @@
 -- What a ledger notes after one key is noted otherwise at one mark.
-use Rattle.std.proofs.Common.{◌≡◌, ℕ, zero, suc, ◌+◌, ◌-◌, Bool, true, false, cond, ◌&&◌, List, [], ◌∷◌, Option, Some, None, refl, sym, ap, ◌∙◌, ◌<◌, length, take, get_or, arith, add-one}
+use Rattle.std.proofs.Common.{◌≡◌, ℕ, zero, suc, ◌+◌, ◌-◌, Bool, true, false, cond, ◌&&◌, List, [], ◌∷◌, ◌++◌, Option, Some, None, refl, sym, ap, ◌∙◌, ◌<◌, length, take, get_or, arith, add-one}
 use Rattle.std.specs.Option.{unwrap_or, IsSome}
 use Rattle.std.specs.Prelude.{Result, Ok, Err, OnOk}
 use Rattle.std.specs.Result.{is_ok}
@@ -8,7 +8,7 @@ use Rattle.std.specs.Cmp.{IsTotalOrder}
 use Rattle.std.specs.Map.{lookup}
 use Rattle.std.specs.declared.cmp.Ordering.{Ordering}
 use Rattle.std.proofs.lemmas.Cmp.{eq_by_cmp_equiv}
-use Rattle.std.proofs.lemmas.List.Sums.{sum_by_more}
+use Rattle.std.proofs.lemmas.List.Sums.{sum_by_more, sum_by_push}
 use Rattle.ge_collections.specs.Kept.{entries_of, nonzero, noted_in, Counts, only_at}
 use Rattle.ge_collections.specs.Marked.{times}
 use Rattle.ge_collections.specs.declared.keys.Keys.{Keys}
@@ -89,16 +89,30 @@ module _ {K M : Type 0} {R : K → K → Ordering} {C : M → M → Ordering} (k
       counts_at (λ n. n + 1) ledger after mark key found (Some left) count is shown
       (λ q. changed q ∙ ap (λ o. cond (is_at (R key) q) o (noted_in R found q)) (more_noted (unwrap_or (noted_in R found key) 0)))
 
-  -- a mark that no key had has one
-  pub raised_new : (ledger before after : BTreeMap M (Keys K)) (mark copy : M) (key own : K)
-      → before ≡ ledger → copy ≡ mark → own ≡ key → None ≡ lookup (is_at (C mark)) ledger.entries
-      → ((m : M) → lookup (is_at (C m)) after.entries ≡ cond (is_at (C copy) m) (Some (One own 1)) (lookup (is_at (C m)) before.entries))
-      → (count : M → K → ℕ) → Counts R C ledger.entries count → Counts R C after.entries (λ m q. cond (is_at (C mark) m && is_at (R key) q) (count m q + 1) (count m q))
-  raised_new ledger before after mark copy key own same one two is shown =
-      raised ledger.entries after.entries mark key None (One own 1) (sym is)
-      (λ m. shown m ∙ ap (λ b. cond b (Some (One own 1)) (lookup (is_at (C m)) before.entries)) (ap (λ k. is_at (C k) m) one)
-      ∙ ap (λ (l : BTreeMap M (Keys K)). cond (is_at (C mark) m) (Some (One own 1)) (lookup (is_at (C m)) l.entries)) same)
-      (λ q. ap (λ k. cond (is_at (R q) k) (Some 1) None) two ∙ ap (λ b. cond b (Some 1) None) ((eq_by_cmp_equiv keys).symm q key))
+  -- a mark that no key had, at which a key was noted no times to begin with
+  pub raised_ready : (ledger after : List (M × Keys K)) (mark : M) (key own : K) (ready left : Keys K) → own ≡ key
+      → ready ≡ unwrap_or (lookup (is_at (C mark)) ledger) (One own 0)
+      → ((m : M) → lookup (is_at (C m)) after ≡ cond (is_at (C mark) m) (Some left) (lookup (is_at (C m)) ledger))
+      → ((q : K) → lookup (is_at (R q)) (entries_of left) ≡ cond (is_at (R key) q) (Some (unwrap_or (lookup (is_at (R key)) (entries_of ready)) 0 + 1)) (lookup (is_at (R q)) (entries_of ready)))
+      → (count : M → K → ℕ) → Counts R C ledger count → Counts R C after (λ m q. cond (is_at (C mark) m && is_at (R key) q) (count m q + 1) (count m q))
+  raised_ready ledger after mark key own ready left same is shown changed =
+      by (lookup (is_at (C mark)) ledger) refl
+    where
+      none_yet : (a b d : Bool) → (b ≡ false → d ≡ false) → cond b (Some (unwrap_or (cond a (Some 0) None) 0 + 1)) (cond d (Some 0) None) ≡ cond b (Some (0 + 1)) None
+      none_yet true true d apart = refl
+      none_yet false true d apart = refl
+      none_yet a false true apart = cc (apart refl)
+      none_yet a false false apart = refl
+
+      by : (found : Option (Keys K)) → lookup (is_at (C mark)) ledger ≡ found
+          → (count : M → K → ℕ) → Counts R C ledger count → Counts R C after (λ m q. cond (is_at (C mark) m && is_at (R key) q) (count m q + 1) (count m q))
+      by None at =
+          raised ledger after mark key None left at shown
+          (λ q. changed q ∙ ap (λ k. cond (is_at (R key) q) (Some (unwrap_or (lookup (is_at (R key)) (entries_of k)) 0 + 1)) (lookup (is_at (R q)) (entries_of k))) (is ∙ ap (λ o. unwrap_or o (One own 0)) at)
+          ∙ none_yet (is_at (R key) own) (is_at (R key) q) (is_at (R q) own) (λ no. ap (λ k. is_at (R q) k) same ∙ (eq_by_cmp_equiv keys).symm q key ∙ no))
+      by (Some known) at =
+          raised ledger after mark key (Some known) left at shown
+          (λ q. changed q ∙ ap (λ k. cond (is_at (R key) q) (Some (unwrap_or (lookup (is_at (R key)) (entries_of k)) 0 + 1)) (lookup (is_at (R q)) (entries_of k))) (is ∙ ap (λ o. unwrap_or o (One own 0)) at))
 
   -- the count of a key at a mark falls
   pub lowered : (ledger after : List (M × Keys K)) (mark : M) (key : K) (known left : Keys K)
@@ -158,15 +172,21 @@ module _ {M : Type 0} {C : M → M → Ordering} (order : IsTotalOrder C) where
       ∙ ap (λ y. times C m (take i marks) + cond (is_at (C m) y) 1 0) (sym is)
       ∙ ap (λ b. times C m (take i marks) + cond b 1 0) ((eq_by_cmp_equiv order).symm m x)
 
+  -- a mark behind marks stands once more
+  times_pushed : (marks : List M) (x m : M) → times C m (marks ++ x ∷ []) ≡ times C m marks + cond (is_at (C x) m) 1 0
+  times_pushed marks x m =
+      sum_by_push (λ y. cond (is_at (C m) y) 1 0) marks x
+      ∙ ap (λ b. times C m marks + cond b 1 0) ((eq_by_cmp_equiv order).symm m x)
+
 module _ {K M : Type 0} {R : K → K → Ordering} {C : M → M → Ordering} (keys : IsTotalOrder R) (order : IsTotalOrder C) where
-  pub raised_more : (before start after : List (M × Keys K)) (key : K) (marks : List M) (i : ℕ) (x : M) → x ≡ get_or marks i x → i < length marks
-      → ((count : M → K → ℕ) → Counts R C before count → Counts R C start (λ m q. count m q + only_at R key (times C m (take i marks)) q))
+  pub raised_more : (before start after : List (M × Keys K)) (key : K) (marks : List M) (x : M)
+      → ((count : M → K → ℕ) → Counts R C before count → Counts R C start (λ m q. count m q + only_at R key (times C m marks) q))
       → ((count : M → K → ℕ) → Counts R C start count → Counts R C after (λ m q. cond (is_at (C x) m && is_at (R key) q) (count m q + 1) (count m q)))
-      → (count : M → K → ℕ) → Counts R C before count → Counts R C after (λ m q. count m q + only_at R key (times C m (take (i + 1) marks)) q)
-  raised_more before start after key marks i x is lt so_far next count known m q =
-      next (λ m q. count m q + only_at R key (times C m (take i marks)) q) (so_far count known) m q
-      ∙ ap nonzero (added (is_at (C x) m) (is_at (R key) q) (count m q) (times C m (take i marks))
-      ∙ ap (λ t. count m q + only_at R key t q) (sym (times_more order marks i x is lt m)))
+      → (count : M → K → ℕ) → Counts R C before count → Counts R C after (λ m q. count m q + only_at R key (times C m (marks ++ x ∷ [])) q)
+  raised_more before start after key marks x so_far next count known m q =
+      next (λ m q. count m q + only_at R key (times C m marks) q) (so_far count known) m q
+      ∙ ap nonzero (added (is_at (C x) m) (is_at (R key) q) (count m q) (times C m marks)
+      ∙ ap (λ t. count m q + only_at R key t q) (sym (times_pushed order marks x m)))
 
   pub lowered_more : (before start after : List (M × Keys K)) (key : K) (marks : List M) (i : ℕ) (x : M) → x ≡ get_or marks i x → i < length marks
       → ((count : M → K → ℕ) → Counts R C before count → Counts R C start (λ m q. count m q - only_at R key (times C m (take i marks)) q))

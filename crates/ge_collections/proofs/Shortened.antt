@@ -1,6 +1,6 @@
 -- Numbers of labels and short rows after a step.
 use Rattle.std.proofs.Common.{◌≡◌, ℕ, ◌+◌, ◌<◌, Bool, true, false, cond, List, [], ◌∷◌, map, Option, Some, None, refl, sym, ap, subst, ◌∙◌, arith}
-use Rattle.std.specs.Option.{option_map, is_some, unwrap_or}
+use Rattle.std.specs.Option.{is_some, unwrap_or}
 use Rattle.std.specs.Prelude.{IfSome, IsSome}
 use Rattle.std.specs.BTreeMap.{is_at}
 use Rattle.std.specs.Cmp.{IsTotalOrder}
@@ -9,14 +9,13 @@ use Rattle.std.specs.declared.cmp.Ordering.{Ordering}
 use Rattle.std.proofs.lemmas.Cmp.{eq_by_cmp_equiv}
 use Rattle.std.specs.List.Sorted.{IsStrictlySortedBy}
 use Rattle.std.specs.Map.{keys_of}
-use Rattle.std.specs.Ordering.{eq_by_cmp}
 use Rattle.std.proofs.lemmas.Map.Keys.{IsDistinct-from_sorted}
 use Rattle.std.proofs.lemmas.Map.Lookups.{map_keys}
 use Rattle.std.proofs.lemmas.Map.Made.{lookup-map_values}
 use Rattle.std.proofs.lemmas.Map.Views.{All-values_from_lookup}
 use Rattle.ge_collections.proofs.Alike.{read_alike}
 use Rattle.ge_collections.specs.declared.short_rows.ShortRows.{ShortRows}
-use Rattle.ge_collections.specs.Short.{AreBelow, AreNumbers, AreShort, AreShown, Grow, IsNumbered, ShowsAt, TellApart, number_in, short_of}
+use Rattle.ge_collections.specs.Short.{AreBelow, AreShort, AreShown, Grow, IsNumbered, ShowsAt, TellApart, number_in, short_of}
 use Rattle.ge_collections.specs.declared.short_row.ShortRow.{ShortRow}
 use Rattle.ge_collections.proofs.Noted.{lookup_one, lookup_stays}
 

@@ -37,7 +37,7 @@ pub(crate) fn learn_row<K: Ord + Twin + Drop, V: Row>(
         return;
     }
     match row.marks(alloc) {
-        Ok(marks) => learn(alloc, ledger, key, &marks),
+        Ok(marks) => learn(alloc, ledger, key, marks),
         Err(_want) => ledger.whole = false,
     }
 }
@@ -135,9 +135,9 @@ fn shift_marks<K: Ord + Twin + Drop, M: Ord + Twin + Drop>(
         (λ m q. count m q + only_at K.cmp key.now (times M.cmp m marks.gained.items) q - only_at K.cmp key.now (times M.cmp m marks.lost.items) q)) }
 {
     match marks {
-        Some(marks) => {
-            learn(alloc, ledger, key, &marks.gained);
-            forget(ledger, key, &marks.lost);
+        Some(Marks { lost, gained }) => {
+            learn(alloc, ledger, key, gained);
+            forget(ledger, key, &lost);
         }
         None => ledger.whole = false,
     }

@@ -17,28 +17,27 @@ pub(crate) struct Ledger<K: Ord, M: Ord> {
     pub(crate) bearers: BTreeMap<M, Keys<K>>,
 }
 
-// A mark once more at a key, if there is memory and the count fits.
-fn raise<K: Ord + Twin + Drop, M: Ord + Twin + Drop>(
+// A mark once more at a key, if there is memory and the count fits. A mark that no key had is noted at this one no times
+// first, so that it is looked up once.
+fn raise<K: Ord + Twin + Drop, M: Ord + Drop>(
     alloc: Global,
     bearers: &mut BTreeMap<M, Keys<K>>,
-    mark: &M,
+    mark: M,
     key: &K,
 ) -> bool
     ensures { IsTrue result → (count : M → K → ℕ) → Counts K.cmp M.cmp bearers.old.entries count
         → Counts K.cmp M.cmp bearers.new.entries
-        (λ m q. cond (is_at (M.cmp mark.now) m && is_at (K.cmp key.now) q) (count m q
+        (λ m q. cond (is_at (M.cmp mark) m && is_at (K.cmp key.now) q) (count m q
         + 1) (count m q)) }
 {
-    if let Some(keys) = bearers.get_mut(mark) {
-        return raise_keys(alloc, keys, key);
-    }
-    let Ok(mark) = mark.twin(alloc) else {
+    let Ok(own) = key.twin(alloc) else {
         return false;
     };
-    let Ok(key) = key.twin(alloc) else {
+    let Ok(entry) = bearers.entry(mark) else {
         return false;
     };
-    bearers.insert(mark, Keys::One(key, 1)).is_ok()
+    let keys = entry.or_insert(Keys::One(own, 0));
+    raise_keys(alloc, keys, key)
 }
 
 // A mark once less at a key. A mark that no key has any more is forgotten.
@@ -58,15 +57,15 @@ fn lower<K: Ord + Drop, M: Ord + Drop>(bearers: &mut BTreeMap<M, Keys<K>>, mark:
 }
 
 // These marks at a key, if there is memory and the counts fit.
-fn raise_all<K: Ord + Twin + Drop, M: Ord + Twin + Drop>(
+fn raise_all<K: Ord + Twin + Drop, M: Ord + Drop>(
     alloc: Global,
     bearers: &mut BTreeMap<M, Keys<K>>,
     key: &K,
-    marks: &[M],
+    marks: Vec<M>,
 ) -> bool
     ensures { IsTrue result → (count : M → K → ℕ) → Counts K.cmp M.cmp bearers.old.entries count
         → Counts K.cmp M.cmp bearers.new.entries (λ m q. count m q
-        + only_at K.cmp key.now (times M.cmp m marks.now) q) }
+        + only_at K.cmp key.now (times M.cmp m marks.items) q) }
 {
     for mark in marks {
         if !raise(alloc, bearers, mark, key) {
@@ -88,15 +87,15 @@ fn lower_all<K: Ord + Drop, M: Ord + Drop>(bearers: &mut BTreeMap<M, Keys<K>>, k
 }
 
 /// The row at a key bears these marks too.
-pub(crate) fn learn<K: Ord + Twin + Drop, M: Ord + Twin + Drop>(
+pub(crate) fn learn<K: Ord + Twin + Drop, M: Ord + Drop>(
     alloc: Global,
     ledger: &mut Ledger<K, M>,
     key: &K,
-    marks: &[M],
+    marks: Vec<M>,
 )
     ensures { (count : M → K → ℕ) → Tells K.cmp M.cmp ledger.old.whole ledger.old.bearers.entries count
         → Tells K.cmp M.cmp ledger.new.whole ledger.new.bearers.entries (λ m q. count m q
-        + only_at K.cmp key.now (times M.cmp m marks.now) q) }
+        + only_at K.cmp key.now (times M.cmp m marks.items) q) }
 {
     if ledger.whole && !raise_all(alloc, &mut ledger.bearers, key, marks) {
         ledger.whole = false;

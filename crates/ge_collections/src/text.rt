@@ -34,10 +34,8 @@ fn compare(own: &[u8], other: &[u8]) -> Ordering
         let Some(b) = right.next() else {
             return Ordering::Greater;
         };
-        match a.cmp(b) {
-            Ordering::Equal => {}
-            Ordering::Less => return Ordering::Less,
-            Ordering::Greater => return Ordering::Greater,
+        if *a != *b {
+            return a.cmp(b);
         }
     }
     match right.next() {
