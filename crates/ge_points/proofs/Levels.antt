@@ -1,5 +1,5 @@
 -- Laws of step functions: a point that is put in changes nothing, one part of the points is raised, and a window.
-use Rattle.std.proofs.Common.{◌≡◌, ℕ, ◌+◌, ◌-◌, ◌≤◌, ◌<◌, ◌⊎◌, inl, inr, true, false, cond, ◌&&◌, max, List, [], ◌∷◌, ◌++◌, map, take, drop, length, get_or, refl, sym, ap, subst, ◌∙◌, arith, zero, suc}
+use Rattle.std.proofs.Common.{◌≡◌, ℕ, ◌+◌, ◌-◌, ◌≤◌, ◌<◌, ◌⊎◌, inl, inr, true, false, Bool, cond, ◌&&◌, max, List, [], ◌∷◌, ◌++◌, map, take, drop, length, get_or, refl, sym, ap, subst, ◌∙◌, arith, zero, suc}
 use Rattle.std.specs.Prelude.{fold, nat_le, nat_lt, count_by, slice_range}
 use Rattle.std.specs.List.{insert}
 use Rattle.std.specs.List.Sorted.{IsNonDecreasingBy}
@@ -277,6 +277,22 @@ met from until m (p ∷ ps) a r =
 late_stays : (until m : ℕ) (ps : List Point) → ((k : ℕ) (d : Point) → k < length ps → until ≤ (get_or ps k d).at) → fold (best until) m ps ≡ m
 late_stays until m [] f = refl
 late_stays until m (p ∷ ps) f = rw (le-ltb p.at until (f 0 p (omega arith))) (late_stays until m ps (λ k d h. f (suc k) d (omega (arith, h))))
+
+-- the greatest so far only grows
+best_more : (until m : ℕ) (p : Point) → m ≤ best until m p
+best_more until m p = by (nat_lt p.at until)
+  where
+    by : (b : Bool) → m ≤ cond b (max m p.sum) m
+    by true = omega arith
+    by false = omega arith
+
+best_grows : (until m : ℕ) (ps : List Point) → m ≤ fold (best until) m ps
+best_grows until m [] = omega arith
+best_grows until m (p ∷ ps) = let here = best_more until m p in let rest = best_grows until (best until m p) ps in omega (arith, here, rest)
+
+-- where that of a part is above a bound, so is that of all
+pub best_above : (ps : List Point) (i until m bound n : ℕ) → bound < m → fold (best until) m (drop i ps) ≡ n → true ≡ nat_lt bound n
+best_above ps i until m bound n above is = let grown = best_grows until m (drop i ps) in sym (lt-ltb bound n (omega (arith, above, grown, is)))
 
 pub stops_late : (ps : List Point) (i until m : ℕ) (p : Point) (n : ℕ) → IsRising ps → i < length ps → p ≡ get_or ps i p → until ≤ p.at → fold (best until) m (drop i ps) ≡ n → m ≡ n
 stops_late ps i until m p n r within is late e =

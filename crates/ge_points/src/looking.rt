@@ -4,7 +4,7 @@ ghost use Rattle.ge_points.specs.StepFunctions.{IsRising, greatest, points_in};
 
 use crate::adding::sum_before;
 use crate::counting::Steps;
-use crate::finding::place_after;
+use crate::finding::{place_after, place_of};
 use crate::points::Point;
 use std::sync::ledger::Ledger;
 
@@ -39,4 +39,38 @@ pub fn peak<L: Ledger>(points: &[Point], from: u64, until: u64, steps: &mut Step
     let first = sum_before(points, place);
     let (_, behind) = points.split_at(place);
     highest_before(behind, until, first, steps)
+}
+
+// Whether the greatest of a number and those of the first of these points, up to a moment, is above a bound. No point is looked at
+// behind the first that is.
+fn rises_above(points: &[Point], until: u64, first: u128, bound: u128) -> bool
+    requires { IsRising points.now }
+    ensures { result ≡ nat_lt bound
+        (fold (λ m p. cond (nat_lt p.at until) (max m p.sum) m) first points.now) }
+{
+    let mut most = first;
+    for point in points {
+        if most > bound {
+            return true;
+        }
+        if until <= point.at {
+            return false;
+        }
+        most = most.max(point.sum);
+    }
+    most > bound
+}
+
+/// Whether the greatest number of a window is above a bound. It ends at the first point whose number is.
+pub fn exceeds(points: &[Point], from: u64, until: u64, bound: u128) -> bool
+    requires { IsRising points.now }
+    ensures { result ≡ nat_lt bound (greatest points.now from until) }
+{
+    if from >= until {
+        return false;
+    }
+    let place = place_of(points, from);
+    let first = sum_before(points, place);
+    let (_, behind) = points.split_at(place);
+    rises_above(behind, until, first, bound)
 }
