@@ -4,10 +4,11 @@ ghost use Rattle.ge_model_bookings.specs.Bookings.{same_instance, same_filters, 
 
 use ge_rows::{InstanceId, LimitId, QuotaKey};
 
-fn is_same_instance(a: &InstanceId, b: &InstanceId) -> bool
+/// Whether two instances are one. Hosts differ more often than queues, and are compared first.
+pub fn is_same_instance(a: &InstanceId, b: &InstanceId) -> bool
     ensures { result ≡ same_instance a.now b.now }
 {
-    a.queue == b.queue && a.host == b.host
+    a.host == b.host && a.queue == b.queue
 }
 
 fn has_same_filters(a: &QuotaKey, b: &QuotaKey) -> bool

@@ -7,6 +7,7 @@ ghost use Rattle.ge_model_bookings.specs.Bookings.{same_instance};
 ghost use Rattle.ge_model_place.specs.Opening.{slots_name};
 ghost use Rattle.ge_model_place.specs.Limits.{advance_capacity, amount_or_none, capacity_in, capacity_of, capacity_on, number_or_none, pe_capacity, quota_capacity, rule_capacity};
 
+use ge_bookings::is_same_instance;
 use ge_complex::amount_in;
 use ge_pieces::is_word;
 use ge_queues::{at_host, global_host, slots_at};
@@ -107,12 +108,6 @@ pub(crate) fn in_quota(key: &QuotaKey, set: Option<&QuotaRow>) -> u64
         Some(row) => in_rule(&key.resource, rule_at(row.rules.items(), key.rule)),
         None => 0,
     }
-}
-
-fn is_same_instance(a: &InstanceId, b: &InstanceId) -> bool
-    ensures { result ≡ same_instance a.now b.now }
-{
-    a.queue == b.queue && a.host == b.host
 }
 
 // The slots of the grants at an instance, uncut: fewer than 2^64 grants have fewer than 2^32 slots each.

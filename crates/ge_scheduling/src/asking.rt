@@ -168,8 +168,10 @@ pub(crate) fn asked_limits(
 fn lacks_room(booked: &Timeline, from: u64, until: u64, counted: &Counted) -> bool
     ensures { result ≡ has_none booked.now from until counted.now }
 {
-    let peak = booked.greatest(&counted.limit, from, until);
-    peak > counted.capacity || u128::from(counted.amount) > counted.capacity - peak
+    match counted.capacity.checked_sub(u128::from(counted.amount)) {
+        Some(room) => booked.exceeds(&counted.limit, from, until, room),
+        None => true,
+    }
 }
 
 // Whether a limit counts everywhere and has no room for a slot.

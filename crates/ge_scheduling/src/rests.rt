@@ -8,7 +8,8 @@ ghost use Rattle.ge_scheduling.specs.Rests.{rest_of as left_of, rests_at as left
 ghost use Rattle.ge_scheduling.specs.Vacant.{slots_of};
 
 use crate::setting::Setting;
-use crate::vacancy::{is_same, slots_at};
+use crate::vacancy::slots_at;
+use ge_bookings::is_same_instance;
 use ge_complex::is_consumable;
 use ge_demands::{Counted, capacity};
 use ge_rows::{Decision, Grant, HostRow, InstanceId, LimitId, List, Text, Twin, twins3};
@@ -173,7 +174,7 @@ pub(crate) fn all_rests(
 fn place_of(order: &[InstanceId], instance: &InstanceId) -> Option<usize>
     ensures { result ≡ position (λ other. same_instance other instance.now) order.now }
 {
-    order.iter().position(|other| is_same(other, instance))
+    order.iter().position(|other| is_same_instance(other, instance))
 }
 
 fn renew_at(

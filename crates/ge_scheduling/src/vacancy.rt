@@ -7,7 +7,7 @@ ghost use Rattle.ge_model_place.specs.Windows.{no_later_than};
 ghost use Rattle.ge_scheduling.specs.Vacant.{goes_on as has_moment, slots_of, is_used_up as used_up, is_occupied as occupied_by, is_vacant, AreVacant};
 
 use crate::setting::Setting;
-use ge_bookings::FOREVER;
+use ge_bookings::{FOREVER, is_same_instance};
 use ge_demands::capacity;
 use ge_rows::{Advance, Cluster, Decision, Grant, InstanceId, LimitId, List, Text, Twin};
 use ge_timeline::Timeline;
@@ -110,17 +110,10 @@ pub(crate) fn no_slot_is_left(cluster: &Cluster, vacant: &List<InstanceId>) -> b
     vacant.is_empty() && cluster.advances.is_empty()
 }
 
-/// Whether two instances are one.
-pub(crate) fn is_same(other: &InstanceId, instance: &InstanceId) -> bool
-    ensures { result ≡ same_instance other.now instance.now }
-{
-    other.queue == instance.queue && other.host == instance.host
-}
-
 fn is_other(other: &InstanceId, instance: &InstanceId) -> bool
     ensures { result ≡ not (same_instance other.now instance.now) }
 {
-    !is_same(other, instance)
+    !is_same_instance(other, instance)
 }
 
 fn keep_others(instances: &mut Vec<InstanceId>, instance: &InstanceId)

@@ -1,5 +1,5 @@
 // What is booked, by limits.
-ghost use Rattle.std.specs.Prelude.{◌≡◌, ℕ, ◌-◌, ◌<◌, length, remove, [], ◌∷◌, ◌++◌, IfOk, OnOk, OnErr};
+ghost use Rattle.std.specs.Prelude.{◌≡◌, ℕ, ◌-◌, ◌<◌, nat_lt, length, remove, [], ◌∷◌, ◌++◌, IfOk, OnOk, OnErr};
 ghost use Rattle.ge_model_bookings.specs.Bookings.{plain_sum};
 ghost use Rattle.ge_model_place.specs.Running.{next_end_after as next_end};
 ghost use Rattle.ge_timeline.specs.Looks.{changes, window_peak, LooksFew};
@@ -11,7 +11,7 @@ use crate::ends::{first_after, put_end, take_end};
 use crate::index::number_of;
 use crate::matching::place_of;
 use crate::renewing::renew_all;
-use ge_points::{Point, Steps, peak};
+use ge_points::{Point, Steps, exceeds, peak};
 use ge_rows::{Booking, LimitId, List, Table};
 use slab::Slab;
 use std::alloc::{AllocError, Global};
@@ -223,6 +223,20 @@ impl Timeline {
         ensures { result ≡ window_peak self.now limit.now from until }
     {
         peak_over::<Brand>(self, Blank::new(1), limit, from, until)
+    }
+
+    /// Whether the greatest sum of a limit at the moments from `from` until before `until` is above a bound. It ends at the first
+    /// such sum that is found, and takes no memory.
+    pub fn exceeds(&self, limit: &LimitId, from: u64, until: u64, bound: u128) -> bool
+        ensures { result ≡ nat_lt bound (window_peak self.now limit.now from until) }
+    {
+        match number_of(&self.index, limit) {
+            Some(number) => match self.functions.get(number) {
+                Some(points) => exceeds(points.as_slice(), from, until, bound),
+                None => false,
+            },
+            None => false,
+        }
     }
 
     /// The least moment after another at which a booking ends; one that never ends doesn't count. It takes no memory.

@@ -1,0 +1,22 @@
+use Rattle.std.proofs.Common.{ap, sym, ◌∙◌}
+use Rattle.std.specs.Prelude.{nat_lt}
+use Rattle.ge_points.specs.StepFunctions.{greatest}
+use Rattle.ge_timeline.specs.Looks.{window_peak}
+use Rattle.ge_timeline.proofs.Joined.{found_draws, drawn_peak, no_peak}
+use Rattle.ge_timeline.proofs.timeline.Timeline.exceeds.Goals as goal
+
+pub returns-in-Some-get : goal.returns-in-Some-get
+returns-in-Some-get c =
+    let inside = c.self.inside in
+    let points = c.in-Some-get.points.now in
+    let drawn = found_draws inside.index inside.functions inside.bookings c.args.limit.now c.in-Some.number points c.self.invariant.shows (sym c.in-Some.ensures) (sym c.in-Some-get.ensures) in
+    c.exceeds.ensures
+    ∙ ap (λ xs. nat_lt c.args.bound (greatest xs c.args.from c.args.until)) c.as_slice.ensures.value
+    ∙ ap (λ n. nat_lt c.args.bound n) (drawn_peak inside.bookings c.args.limit.now c.args.from c.args.until points.items drawn)
+    ∙ ap (λ bs. nat_lt c.args.bound (window_peak bs c.args.limit.now c.args.from c.args.until)) c.self.view_is
+
+pub returns-in-None : goal.returns-in-None
+returns-in-None c =
+    let inside = c.self.inside in
+    ap (λ n. nat_lt c.args.bound n) (no_peak inside.index inside.functions inside.bookings c.args.limit.now c.args.from c.args.until c.self.invariant.shows (sym c.in-None.ensures))
+    ∙ ap (λ bs. nat_lt c.args.bound (window_peak bs c.args.limit.now c.args.from c.args.until)) c.self.view_is
