@@ -1,5 +1,6 @@
-use Rattle.std.proofs.Common.{ap, sym, ◌∙◌}
+use Rattle.std.proofs.Common.{ap, sym, ◌∙◌, arith}
 use Rattle.std.specs.Prelude.{nat_lt}
+use Rattle.std.proofs.lemmas.Bool.{le-ltb}
 use Rattle.ge_points.specs.StepFunctions.{greatest}
 use Rattle.ge_timeline.specs.Looks.{window_peak}
 use Rattle.ge_timeline.proofs.Joined.{found_draws, drawn_peak, no_peak}
@@ -18,5 +19,6 @@ returns-in-Some-get c =
 pub returns-in-None : goal.returns-in-None
 returns-in-None c =
     let inside = c.self.inside in
-    ap (λ n. nat_lt c.args.bound n) (no_peak inside.index inside.functions inside.bookings c.args.limit.now c.args.from c.args.until c.self.invariant.shows (sym c.in-None.ensures))
+    sym (le-ltb c.args.bound 0 (omega arith))
+    ∙ ap (λ n. nat_lt c.args.bound n) (no_peak inside.index inside.functions inside.bookings c.args.limit.now c.args.from c.args.until c.self.invariant.shows (sym c.in-None.ensures))
     ∙ ap (λ bs. nat_lt c.args.bound (window_peak bs c.args.limit.now c.args.from c.args.until)) c.self.view_is
