@@ -49,12 +49,21 @@ fn greatest_of(list: &List<Booking>, limit: &LimitId, from: u64, until: u64) -> 
     most
 }
 
+// Whether a Timeline tells this greatest sum of a window, and that it is above each lesser one.
+fn tells(timeline: &Timeline, limit: &LimitId, from: u64, until: u64, most: u128) -> bool {
+    let lesser = most.saturating_sub(1);
+    timeline.greatest(limit, from, until) == most
+        && !timeline.exceeds(limit, from, until, most)
+        && timeline.exceeds(limit, from, until, lesser) == (lesser < most)
+}
+
 // The windows of a host that differ.
 fn differing(timeline: &Timeline, list: &List<Booking>, limit: &LimitId) -> u32 {
     let mut count: u32 = 0;
     for window in 0..10u64 {
         let from = 100 * window;
-        if timeline.greatest(limit, from, from + 20) != greatest_of(list, limit, from, from + 20) {
+        let most = greatest_of(list, limit, from, from + 20);
+        if !tells(timeline, limit, from, from + 20, most) {
             count = count.saturating_add(1);
         }
     }
