@@ -13,8 +13,7 @@ use Rattle.ge_model_bookings.specs.Bookings.{same_limit}
 use Rattle.ge_model_rows.specs.ScheduleRows.{LimitId, Demand}
 use Rattle.ge_model_place.proofs.Same.{limits_equal, limit_same}
 use Rattle.ge_model_place.specs.Limits.{Counted as Limited, with_demand, with_more, demand_for}
-use Rattle.ge_timeline.proofs.Numbering.{same_at}
-use Rattle.ge_timeline.proofs.Putting.{number_in_more}
+use Rattle.ge_timeline.proofs.Numbering.{same_at, number_in_more}
 use Rattle.ge_demands.specs.Found.{is_on, AreKept}
 use Rattle.ge_demands.proofs.Demanded.{found_there, none_there}
 

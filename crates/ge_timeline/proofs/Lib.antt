@@ -1,3 +1,4 @@
+pub mod Chained
 pub mod Ended
 pub mod Joined
 pub mod Matched

@@ -1,16 +1,19 @@
--- The order of limits finds the same limit.
-use Rattle.std.proofs.Common.{◌≡◌, ◌==◌, Bool, true, false, ◌&&◌, refl, sym, ap, ◌∙◌}
-use Rattle.std.specs.BTreeMap.{is_at}
+-- The order of limits finds the same limit in a table, also once a pair was put in.
+use Rattle.std.proofs.Common.{◌≡◌, ◌==◌, ℕ, inl, inr, Bool, true, false, cond, ◌&&◌, List, [], ◌∷◌, Some, None, refl, sym, ap, subst, ◌∙◌}
+use Rattle.std.specs.BTreeMap.{is_at, insert_entry}
 use Rattle.std.specs.Cmp.Lexicographic.{texts_ties}
 use Rattle.std.specs.Cmp.{unsigned_ties}
-use Rattle.std.specs.Ordering.{ordering_then, is_eq, nat_cmp}
+use Rattle.std.specs.Ordering.{ordering_then, match_ordering, is_eq, nat_cmp}
 use Rattle.std.specs.declared.cmp.Ordering.{Ordering}
 use Rattle.std.specs.declared.cmp.Ordering.TheVariants.{Less, Equal, Greater}
+use Rattle.std.proofs.lemmas.Bool.{cases_Bool, cond-true, cond-false, true≢false, false_from_ne_true}
 use Rattle.ge_collections.specs.Keyed.{text_cmp, text_eq}
 use Rattle.ge_rows.specs.contracts.scheduling.LimitIdOrd.TheImpl.{cmp-value}
 use Rattle.ge_model_rows.specs.ScheduleRows.{LimitId, Instance, Host, Global, Pe, Quota}
 use Rattle.ge_model_rows.specs.ScheduleRows.{Advance as Booked}
 use Rattle.ge_model_bookings.specs.Bookings.{same_limit}
+use Rattle.ge_model_place.proofs.Same.{limits_equal}
+use Rattle.ge_timeline.specs.Shown.{number_in}
 
 then_eq : (o p : Ordering) → is_eq (ordering_then o p) ≡ (is_eq o && is_eq p)
 then_eq Less p = refl
@@ -82,3 +85,31 @@ same_at (Pe n) (Booked k z) = refl
 same_at (Booked k z) (Pe m) = refl
 same_at (Quota n) (Booked k z) = refl
 same_at (Booked k z) (Quota m) = refl
+
+abbrev put : List (LimitId × ℕ) → LimitId → ℕ → List (LimitId × ℕ)
+put index limit key = insert_entry cmp-value.it index limit key
+
+some_none : (n : ℕ) → Some n ≡ None → ⊥
+some_none n e = cc
+
+-- what a limit has in a table with one more pair
+pub number_in_more : (index : List (LimitId × ℕ)) (limit : LimitId) (key : ℕ) (other : LimitId) → number_in index limit ≡ None → number_in (put index limit key) other ≡ cond (same_limit other limit) (Some key) (number_in index other)
+number_in_more [] limit key other none = refl
+number_in_more (e ∷ index) limit key other none = go (λ none_behind. number_in_more index limit key other none_behind) (cmp-value.it limit e.0) refl
+  where
+    go : (number_in index limit ≡ None → number_in (put index limit key) other ≡ cond (same_limit other limit) (Some key) (number_in index other)) → (o : Ordering) → cmp-value.it limit e.0 ≡ o → number_in (match_ordering o ((limit, key) ∷ e ∷ index) ((e.0, key) ∷ index) (e ∷ put index limit key)) other ≡ cond (same_limit other limit) (Some key) (number_in (e ∷ index) other)
+    go more Less h = refl
+    go more Equal h =
+        let same : same_limit limit e.0 ≡ true = sym (same_at limit e.0) ∙ ap is_eq h in
+        let found : number_in (e ∷ index) limit ≡ Some e.1 = cond-true _ _ _ same in
+        absurd (some_none e.1 (sym found ∙ none))
+    go more Greater h =
+        let differs : same_limit limit e.0 ≡ false = sym (same_at limit e.0) ∙ ap is_eq h in
+        let none_behind : number_in index limit ≡ None = sym (cond-false _ _ _ differs) ∙ none in
+        let rest = more none_behind in
+        elim (cases_Bool (same_limit other e.0)) [
+          | inl here ↦
+              let apart : same_limit other limit ≡ false = false_from_ne_true (same_limit other limit) (λ there. true≢false (sym (subst (λ l. same_limit l e.0 ≡ true) (limits_equal other limit there) here) ∙ differs)) in
+              cond-true _ _ _ here ∙ sym (cond-true _ _ _ here) ∙ sym (cond-false _ _ _ apart)
+          | inr there ↦ cond-false _ _ _ there ∙ rest ∙ ap (λ o. cond (same_limit other limit) (Some key) o) (sym (cond-false _ _ _ there))
+        ]

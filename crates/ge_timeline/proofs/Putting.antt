@@ -1,50 +1,16 @@
 -- A limit gets a step function, and points are put in the place of others.
-use Rattle.std.proofs.Common.{◌≡◌, ◌≢◌, ℕ, inl, inr, true, false, cond, List, [], ◌∷◌, ◌++◌, Option, Some, None, ◌⊎◌, ◌<◌, refl, sym, ap, subst, ◌∙◌, arith}
+use Rattle.std.proofs.Common.{◌≡◌, ◌≢◌, ℕ, inl, inr, true, cond, List, [], ◌∷◌, ◌++◌, Option, Some, None, ◌⊎◌, ◌<◌, refl, sym, ap, subst, ◌∙◌, arith}
 use Rattle.std.specs.Prelude.{Vec, IsSome, IsSomeAnd, OnOk, Result, Ok, Err}
-use Rattle.std.specs.BTreeMap.{insert_entry}
-use Rattle.std.specs.Ordering.{match_ordering, is_eq}
 use Rattle.std.specs.declared.alloc.Global.{Global}
-use Rattle.std.specs.declared.cmp.Ordering.{Ordering}
-use Rattle.std.specs.declared.cmp.Ordering.TheVariants.{Less, Equal, Greater}
-use Rattle.std.proofs.lemmas.Bool.{cases_Bool, cond-true, cond-false, true≢false, false_from_ne_true}
+use Rattle.std.proofs.lemmas.Bool.{cases_Bool, cond-true, cond-false, true≢false}
 use Rattle.std.proofs.lemmas.List.Sums.{sum_by-append}
 use Rattle.slab.specs.Slab.{Slab, get}
-use Rattle.ge_rows.specs.contracts.scheduling.LimitIdOrd.TheImpl.{cmp-value}
 use Rattle.ge_model_rows.specs.ScheduleRows.{LimitId}
 use Rattle.ge_model_bookings.specs.Bookings.{same_limit}
 use Rattle.ge_model_place.proofs.Same.{limits_equal, limit_same}
 use Rattle.ge_points.specs.declared.points.Point.{Point}
 use Rattle.ge_points.specs.StepFunctions.{IsRising, level, level_with, HasMoments}
 use Rattle.ge_timeline.specs.Shown.{IsRaised, number_in, HasNoMore, Draws, ShowsPoints, ShowsLimit, Shows, IsWhole, sums_but, changes_but}
-use Rattle.ge_timeline.proofs.Numbering.{same_at}
-
-abbrev put : List (LimitId × ℕ) → LimitId → ℕ → List (LimitId × ℕ)
-put index limit key = insert_entry cmp-value.it index limit key
-
-some_none : (n : ℕ) → Some n ≡ None → ⊥
-some_none n e = cc
-
--- what a limit has in an index with one more pair
-pub number_in_more : (index : List (LimitId × ℕ)) (limit : LimitId) (key : ℕ) (other : LimitId) → number_in index limit ≡ None → number_in (put index limit key) other ≡ cond (same_limit other limit) (Some key) (number_in index other)
-number_in_more [] limit key other none = refl
-number_in_more (e ∷ index) limit key other none = go (λ none_behind. number_in_more index limit key other none_behind) (cmp-value.it limit e.0) refl
-  where
-    go : (number_in index limit ≡ None → number_in (put index limit key) other ≡ cond (same_limit other limit) (Some key) (number_in index other)) → (o : Ordering) → cmp-value.it limit e.0 ≡ o → number_in (match_ordering o ((limit, key) ∷ e ∷ index) ((e.0, key) ∷ index) (e ∷ put index limit key)) other ≡ cond (same_limit other limit) (Some key) (number_in (e ∷ index) other)
-    go more Less h = refl
-    go more Equal h =
-        let same : same_limit limit e.0 ≡ true = sym (same_at limit e.0) ∙ ap is_eq h in
-        let found : number_in (e ∷ index) limit ≡ Some e.1 = cond-true _ _ _ same in
-        absurd (some_none e.1 (sym found ∙ none))
-    go more Greater h =
-        let differs : same_limit limit e.0 ≡ false = sym (same_at limit e.0) ∙ ap is_eq h in
-        let none_behind : number_in index limit ≡ None = sym (cond-false _ _ _ differs) ∙ none in
-        let rest = more none_behind in
-        elim (cases_Bool (same_limit other e.0)) [
-          | inl here ↦
-              let apart : same_limit other limit ≡ false = false_from_ne_true (same_limit other limit) (λ there. true≢false (sym (subst (λ l. same_limit l e.0 ≡ true) (limits_equal other limit there) here) ∙ differs)) in
-              cond-true _ _ _ here ∙ sym (cond-true _ _ _ here) ∙ sym (cond-false _ _ _ apart)
-          | inr there ↦ cond-false _ _ _ there ∙ rest ∙ ap (λ o. cond (same_limit other limit) (Some key) o) (sym (cond-false _ _ _ there))
-        ]
 
 -- a limit that has no step function gets one of no points
 
@@ -70,25 +36,24 @@ module _ (index : List (LimitId × ℕ)) (functions more : Slab (Vec Point Globa
       let zeros : (t : ℕ) → sums limit t ≡ 0 = subst (λ k. ShowsLimit functions (sums limit) (changed limit) k) new (s.each limit) in
       subst (λ o. ShowsPoints (sums limit) (changed limit) o) (sym put_in) (subst (λ items. Draws (sums limit) (changed limit) items) (sym empty) (empty_draws (sums limit) (changed limit) zeros))
 
-  each_more : (other : LimitId) → ShowsLimit more (sums other) (changed other) (number_in (put index limit number) other)
+  each_more : (other : LimitId) → ShowsLimit more (sums other) (changed other) (number_in ((limit, number) ∷ index) other)
   each_more other =
-      subst (λ k. ShowsLimit more (sums other) (changed other) k) (sym (number_in_more index limit number other new))
-      (elim (cases_Bool (same_limit other limit)) [
+      elim (cases_Bool (same_limit other limit)) [
         | inl same ↦ subst (λ k. ShowsLimit more (sums other) (changed other) k) (sym (cond-true _ _ _ same)) (subst (λ l. ShowsLimit more (sums l) (changed l) (Some number)) (sym (limits_equal other limit same)) here)
         | inr apart ↦ subst (λ k. ShowsLimit more (sums other) (changed other) k) (sym (cond-false _ _ _ apart)) (kept other (number_in index other) refl)
-      ])
+      ]
 
-  has : (other : LimitId) (k : ℕ) → number_in (put index limit number) other ≡ Some k → ((other ≡ limit) × (k ≡ number)) ⊎ (number_in index other ≡ Some k)
+  has : (other : LimitId) (k : ℕ) → number_in ((limit, number) ∷ index) other ≡ Some k → ((other ≡ limit) × (k ≡ number)) ⊎ (number_in index other ≡ Some k)
   has other k e =
       elim (cases_Bool (same_limit other limit)) [
-        | inl same ↦ let is : Some number ≡ Some k = sym (cond-true _ _ _ same) ∙ sym (number_in_more index limit number other new) ∙ e in inl (limits_equal other limit same, one_number k is)
-        | inr apart ↦ inr (sym (cond-false _ _ _ apart) ∙ sym (number_in_more index limit number other new) ∙ e)
+        | inl same ↦ let is : Some number ≡ Some k = sym (cond-true _ _ _ same) ∙ e in inl (limits_equal other limit same, one_number k is)
+        | inr apart ↦ inr (sym (cond-false _ _ _ apart) ∙ e)
       ]
     where
       one_number : (k : ℕ) → Some number ≡ Some k → k ≡ number
       one_number k e = cc
 
-  pub put_shows : Shows (put index limit number) more sums changed
+  pub put_shows : Shows ((limit, number) ∷ index) more sums changed
   put_shows = record {
     each = each_more;
     apart = λ a b k e f. elim (has a k e) [
@@ -103,8 +68,8 @@ module _ (index : List (LimitId × ℕ)) (functions more : Slab (Vec Point Globa
     ];
   }
 
-pub put_number : (index : List (LimitId × ℕ)) (limit : LimitId) (key : ℕ) → number_in index limit ≡ None → number_in (put index limit key) limit ≡ Some key
-put_number index limit key none = number_in_more index limit key limit none ∙ cond-true _ _ _ (limit_same limit)
+pub put_number : (index : List (LimitId × ℕ)) (limit : LimitId) (number : ℕ) → number_in ((limit, number) ∷ index) limit ≡ Some number
+put_number index limit number = cond-true _ _ _ (limit_same limit)
 
 -- the same sums in other words, and more moments
 

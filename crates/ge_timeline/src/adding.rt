@@ -7,16 +7,16 @@ ghost use Rattle.ge_timeline.specs.Looks.{changes};
 ghost use Rattle.ge_timeline.specs.Shown.{number_in, Shows, IsWhole, sums_but, changes_but};
 
 use crate::functions::add_at;
-use crate::index::number_of;
+use crate::index::Index;
 use ge_points::Point;
-use ge_rows::{Booking, LimitId, List, Table, Twin};
+use ge_rows::{Booking, LimitId, List, Twin};
 use slab::Slab;
 use std::alloc::{AllocError, Global};
 
 // The number of a limit, which gets an empty step function where it has none.
 pub(crate) fn key_of(
     alloc: Global,
-    index: &mut Table<LimitId, usize>,
+    index: &mut Index,
     functions: &mut Slab<Vec<Point>>,
     limit: &LimitId,
 ) -> Result<usize, AllocError>
@@ -24,12 +24,12 @@ pub(crate) fn key_of(
     ensures shows { OnOk result ((sums : Limit → ℕ → ℕ) (moments : Limit → Items ℕ)
         → Shows index.old functions.old sums moments → Shows index.new functions.new sums moments) }
 {
-    match number_of(index, limit) {
+    match index.number_of(limit) {
         Some(number) => Ok(number),
         None => {
             let limit = limit.twin(alloc)?;
             let number = functions.insert(Vec::new(alloc))?;
-            index.insert(limit, number)?;
+            index.give(alloc, limit, number)?;
             Ok(number)
         }
     }
@@ -38,7 +38,7 @@ pub(crate) fn key_of(
 // Adds an amount of a limit from one moment on until before another.
 pub(crate) fn add_amount(
     alloc: Global,
-    index: &mut Table<LimitId, usize>,
+    index: &mut Index,
     functions: &mut Slab<Vec<Point>>,
     limit: &LimitId,
     from: u64,
@@ -60,7 +60,7 @@ pub(crate) fn add_amount(
 // Adds what a booking takes of each limit to what these bookings take, which are lent for the contract alone.
 pub(crate) fn add_booking(
     alloc: Global,
-    index: &mut Table<LimitId, usize>,
+    index: &mut Index,
     functions: &mut Slab<Vec<Point>>,
     _bookings: &List<Booking>,
     b: &Booking,

@@ -13,6 +13,7 @@ mod functions;
 mod index;
 mod matching;
 mod renewing;
+mod scattering;
 mod timeline;
 
 pub use ge_points::Steps;

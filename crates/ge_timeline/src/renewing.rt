@@ -8,9 +8,10 @@ ghost use Rattle.ge_timeline.specs.Shown.{Shows, Draws, IsWhole, sums_but, chang
 
 use crate::adding::key_of;
 use crate::functions::put_at;
+use crate::index::Index;
 use ge_bookings::is_same_limit;
 use ge_points::{Point, add};
-use ge_rows::{Booking, Demand, LimitId, List, Table};
+use ge_rows::{Booking, Demand, LimitId, List};
 use slab::Slab;
 use std::alloc::{AllocError, Global};
 
@@ -72,7 +73,7 @@ fn points_of(
 // Takes the sums of one limit anew from these bookings.
 fn renew(
     alloc: Global,
-    index: &mut Table<LimitId, usize>,
+    index: &mut Index,
     functions: &mut Slab<Vec<Point>>,
     bookings: &List<Booking>,
     limit: &LimitId,
@@ -93,7 +94,7 @@ fn renew(
 // Takes the sums of these demands' limits anew from these bookings.
 pub(crate) fn renew_all(
     alloc: Global,
-    index: &mut Table<LimitId, usize>,
+    index: &mut Index,
     functions: &mut Slab<Vec<Point>>,
     bookings: &List<Booking>,
     demands: &List<Demand>,

@@ -8,11 +8,11 @@ ghost use Rattle.ge_timeline.specs.Taking.{Takes};
 
 use crate::adding::add_booking;
 use crate::ends::{first_after, put_end, take_end};
-use crate::index::number_of;
+use crate::index::Index;
 use crate::matching::place_of;
 use crate::renewing::renew_all;
 use ge_points::{Point, Steps, exceeds, peak};
-use ge_rows::{Booking, LimitId, List, Table};
+use ge_rows::{Booking, LimitId, List};
 use slab::Slab;
 use std::alloc::{AllocError, Global};
 use std::collections::BTreeSet;
@@ -23,7 +23,7 @@ use std::sync::ledger::{Blank, Ledger};
 #[derive(Drop)]
 pub struct Timeline {
     alloc: Global,
-    index: Table<LimitId, usize>,
+    index: Index,
     functions: Slab<Vec<Point>>,
     ends: BTreeSet<u64>,
     bookings: List<Booking>,
@@ -44,7 +44,7 @@ impl Model for Timeline {
 // Adds a booking to what is kept of the bookings.
 fn put_in(
     alloc: Global,
-    index: &mut Table<LimitId, usize>,
+    index: &mut Index,
     functions: &mut Slab<Vec<Point>>,
     ends: &mut BTreeSet<u64>,
     bookings: &mut List<Booking>,
@@ -62,7 +62,7 @@ fn put_in(
 // Takes the booking at a place out of what is kept of the bookings.
 fn take_out(
     alloc: Global,
-    index: &mut Table<LimitId, usize>,
+    index: &mut Index,
     functions: &mut Slab<Vec<Point>>,
     ends: &mut BTreeSet<u64>,
     bookings: &mut List<Booking>,
@@ -81,7 +81,7 @@ fn take_out(
 // Nothing is booked any more.
 fn give_up(
     alloc: Global,
-    index: &mut Table<LimitId, usize>,
+    index: &mut Index,
     functions: &mut Slab<Vec<Point>>,
     ends: &mut BTreeSet<u64>,
     bookings: &mut List<Booking>,
@@ -89,7 +89,7 @@ fn give_up(
     ensures kept { IsKept index.new functions.new ends.new bookings.new }
     ensures none { bookings.new ≡ [] }
 {
-    *index = Table::new(alloc);
+    *index = Index::new(alloc);
     functions.clear();
     ends.clear();
     bookings.truncate(0);
@@ -119,7 +119,7 @@ impl Timeline {
     {
         Ok(Timeline {
             alloc,
-            index: Table::new(alloc),
+            index: Index::new(alloc),
             functions: Slab::new(alloc),
             ends: BTreeSet::new(alloc),
             bookings: List::new(alloc),
@@ -208,7 +208,7 @@ impl Timeline {
         ensures greatest { result ≡ window_peak self.now limit.now from until }
         ensures cost { LooksFew (changes self.now limit.now) from until (steps.new - steps.old) }
     {
-        match number_of(&self.index, limit) {
+        match self.index.number_of(limit) {
             Some(number) => match self.functions.get(number) {
                 Some(points) => peak(points.as_slice(), from, until, steps),
                 None => 0,
@@ -230,7 +230,7 @@ impl Timeline {
     pub fn exceeds(&self, limit: &LimitId, from: u64, until: u64, bound: u128) -> bool
         ensures { result ≡ nat_lt bound (window_peak self.now limit.now from until) }
     {
-        match number_of(&self.index, limit) {
+        match self.index.number_of(limit) {
             Some(number) => match self.functions.get(number) {
                 Some(points) => exceeds(points.as_slice(), from, until, bound),
                 None => false,

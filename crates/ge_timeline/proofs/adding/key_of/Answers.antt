@@ -1,16 +1,11 @@
-use Rattle.std.proofs.Common.{◌∙◌, sym, ap, subst}
-use Rattle.ge_timeline.specs.Shown.{number_in, Shows}
-use Rattle.ge_timeline.proofs.Putting.{put_number, put_shows}
+use Rattle.std.proofs.Common.{sym, subst}
+use Rattle.ge_timeline.specs.Shown.{Shows}
+use Rattle.ge_timeline.proofs.Putting.{put_shows}
 use Rattle.ge_timeline.proofs.adding.key_of.Goals as goal
 
-pub returns-in_ok-insert-in-None-clause-number : goal.returns-in_ok-insert-in-None-clause-number
-returns-in_ok-insert-in-None-clause-number c =
-    let index = rw c.in_ok-limit-in-None.ensures at c.in_ok-insert-in-None.ensures.ok in
-    ap (λ i. number_in i c.args.limit.now) index ∙ put_number c.args.index.now c.args.limit.now c.in_ok-number-in-None.number (sym c.in-None.ensures)
-
-pub returns-in_ok-insert-in-None-clause-shows : goal.returns-in_ok-insert-in-None-clause-shows
-returns-in_ok-insert-in-None-clause-shows c =
-    let index = rw c.in_ok-limit-in-None.ensures at c.in_ok-insert-in-None.ensures.ok in
+pub returns-in_ok-give-in-None-clause-shows : goal.returns-in_ok-give-in-None-clause-shows
+returns-in_ok-give-in-None-clause-shows c =
+    let index = rw c.in_ok-limit-in-None.ensures at c.in_ok-give-in-None.ensures in
     let number = c.in_ok-number-in-None.number in
     let slab = c.in_ok-number-in-None.ensures in
     λ sums moments s.
