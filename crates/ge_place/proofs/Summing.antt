@@ -1,14 +1,15 @@
 -- What is asked of limits, by sums that are kept.
-use Rattle.std.proofs.Common.{◌≡◌, ℕ, ◌+◌, ◌<◌, inl, inr, Bool, true, ◌&&◌, cond, min, List, [], ◌∷◌, ◌++◌, length, get_or, sum_by, Some, refl, sym, subst, ap, ◌∙◌, arith}
+use Rattle.std.proofs.Common.{◌≡◌, ℕ, ◌+◌, ◌<◌, ◌≤◌, inl, inr, Bool, true, ◌&&◌, cond, min, List, [], ◌∷◌, ◌++◌, length, get_or, sum_by, Some, refl, sym, subst, ap, ◌∙◌, arith}
 use Rattle.std.specs.List.{list_all}
 use Rattle.std.specs.Map.{lookup}
 use Rattle.std.specs.BTreeMap.{is_at}
 use Rattle.std.specs.Prelude.{nat_le, unwrap_or}
+use Rattle.std.specs.Rc.{rc_with_value}
+use Rattle.std.specs.declared.rc.Rc.{Rc}
 use Rattle.std.proofs.lemmas.Bool.{cond-true, cond-false, cases_Bool, false≢true}
 use Rattle.std.proofs.lemmas.List.{map-append}
 use Rattle.std.proofs.lemmas.List.Folds.{list_all-map}
 use Rattle.std.proofs.lemmas.List.Sums.{sum_by-cons, sum_by-append}
-use Rattle.ge_collections.specs.Changed.{ChangesAt}
 use Rattle.ge_rows.specs.contracts.scheduling.LimitIdOrd.TheImpl.{cmp-value}
 use Rattle.ge_timeline.proofs.Numbering.{same_at}
 use Rattle.ge_model_rows.specs.HostRows.{InstanceId}
@@ -20,41 +21,58 @@ use Rattle.ge_model_place.proofs.Same.{limits_equal}
 use Rattle.ge_place.specs.declared.spots.Bound.{Bound}
 use Rattle.ge_place.specs.declared.spots.Sight.{Sight}
 use Rattle.ge_place.specs.declared.spots.Sight.TheVariants.{Closed, Open}
+use Rattle.ge_place.specs.Shared.{shown}
 use Rattle.ge_place.specs.Spots.{room_as, rooms_as, cell_with, cells_with, one_more_at, no_slots_at, IsSeen}
 use Rattle.ge_place.specs.Sums.{sum_in, sum_of_both, AreTold, has_room_for, takes_by, takes_seen, rooms_seen, AsksMore}
 use Rattle.ge_place.proofs.Cells.{asked_more, none_asked}
 
--- a sum put in
+-- sums whose limits are shared
 
-pub same_lookup : (limit : LimitId) (sums : List (LimitId × ℕ)) → lookup (is_at (cmp-value.it limit)) sums ≡ lookup (same_limit limit) sums
-same_lookup limit [] = refl
-same_lookup limit (e ∷ sums) =
-    ap (λ b. cond b (Some e.1) (lookup (is_at (cmp-value.it limit)) sums)) (same_at limit e.0)
-    ∙ ap (λ o. cond (same_limit limit e.0) (Some e.1) o) (same_lookup limit sums)
+pub shown_at : {A : Type 0} (limit : LimitId) (rows : List (Rc LimitId A × ℕ)) → lookup (λ key. is_at (cmp-value.it limit) key.value) rows ≡ lookup (same_limit limit) (shown rows)
+shown_at limit [] = refl
+shown_at limit (row ∷ rows) =
+    ap (λ b. cond b (Some row.1) (lookup (λ key. is_at (cmp-value.it limit) key.value) rows)) (same_at limit row.0.value)
+    ∙ ap (λ o. cond (same_limit limit row.0.value) (Some row.1) o) (shown_at limit rows)
 
-pub sum_put : (limit : LimitId) (sum : ℕ) (old new : List (LimitId × ℕ)) → ChangesAt cmp-value.it limit (λ _. Some sum) old new → (other : LimitId) → sum_in new other ≡ cond (same_limit limit other) sum (sum_in old other)
+pub sum_put : {A : Type 0} (limit : Rc LimitId A) (sum : ℕ) (old new : List (Rc LimitId A × ℕ))
+    → ((q : Rc LimitId A) → lookup (λ key. is_at (cmp-value.it q.value) key.value) new ≡ cond (is_at (cmp-value.it limit.value) q.value) (Some sum) (lookup (λ key. is_at (cmp-value.it q.value) key.value) old))
+    → (other : LimitId) → sum_in (shown new) other ≡ cond (same_limit limit.value other) sum (sum_in (shown old) other)
 sum_put limit sum old new changes other =
-    let is : lookup (same_limit other) new ≡ cond (same_limit limit other) (Some sum) (lookup (same_limit other) old) =
-    sym (same_lookup other new) ∙ changes other ∙ ap (λ b. cond b (Some sum) (lookup (is_at (cmp-value.it other)) old)) (same_at limit other) ∙ ap (λ o. cond (same_limit limit other) (Some sum) o) (same_lookup other old) in
-    elim (cases_Bool (same_limit limit other)) [
+    let is : lookup (same_limit other) (shown new) ≡ cond (same_limit limit.value other) (Some sum) (lookup (same_limit other) (shown old)) =
+    sym (shown_at other new) ∙ changes (rc_with_value limit other) ∙ ap (λ b. cond b (Some sum) (lookup (λ key. is_at (cmp-value.it other) key.value) old)) (same_at limit.value other) ∙ ap (λ o. cond (same_limit limit.value other) (Some sum) o) (shown_at other old) in
+    elim (cases_Bool (same_limit limit.value other)) [
       | inl same ↦ ap (λ o. unwrap_or o 0) (is ∙ cond-true _ _ _ same) ∙ sym (cond-true _ _ _ same)
       | inr apart ↦ ap (λ o. unwrap_or o 0) (is ∙ cond-false _ _ _ apart) ∙ sym (cond-false _ _ _ apart)
     ]
 
+-- a limit that wasn't asked for before, and the copy of it that is kept
+pub first_asked : {A : Type 0} (limit copy : Rc LimitId A) (amount : ℕ) (old middle new : List (Rc LimitId A × ℕ)) (sums : List (LimitId × ℕ))
+    → copy.value ≡ limit.value → shown old ≡ sums → middle ≡ old → sum_in (shown old) limit.value ≡ 0 → amount ≤ greatest_demand
+    → ((q : Rc LimitId A) → lookup (λ key. is_at (cmp-value.it q.value) key.value) new ≡ cond (is_at (cmp-value.it copy.value) q.value) (Some amount) (lookup (λ key. is_at (cmp-value.it q.value) key.value) middle))
+    → (other : LimitId) → sum_in (shown new) other ≡ cond (same_limit limit.value other) (min (sum_in sums limit.value + amount) greatest_demand) (sum_in sums other)
+first_asked limit copy amount old middle new sums same view kept none fits changes other =
+    let before : sum_in sums limit.value ≡ 0 = ap (λ ss. sum_in ss limit.value) (sym view) ∙ none in
+    let sum : amount ≡ min (sum_in sums limit.value + amount) greatest_demand = omega (arith, before, fits) in
+    sum_put copy amount middle new changes other
+    ∙ ap (λ l. cond (same_limit l other) amount (sum_in (shown middle) other)) same
+    ∙ ap (λ rows. cond (same_limit limit.value other) amount (sum_in (shown rows) other)) kept
+    ∙ ap (λ ss. cond (same_limit limit.value other) amount (sum_in ss other)) view
+    ∙ ap (λ n. cond (same_limit limit.value other) n (sum_in sums other)) sum
+
 -- what one more limit of an instance is asked
 pub asks_next : (bounds : List Bound) (bound : Bound) (old middle new : List (LimitId × ℕ)) → AsksMore (rooms_as bounds) old middle
-    → ((limit : LimitId) → sum_in new limit ≡ cond (same_limit bound.counts.limit limit) (min (sum_in middle bound.counts.limit + bound.counts.amount) greatest_demand) (sum_in middle limit))
+    → ((limit : LimitId) → sum_in new limit ≡ cond (same_limit bound.limit.value limit) (min (sum_in middle bound.limit.value + bound.amount) greatest_demand) (sum_in middle limit))
     → AsksMore (rooms_as (bounds ++ bound ∷ [])) old new
 asks_next bounds bound old middle new asks put limit =
     let parts = ap (λ rooms. sum_by (slot_asks limit) rooms) (map-append room_as bounds (bound ∷ [])) in
     let both = sum_by-append (slot_asks limit) (rooms_as bounds) (room_as bound ∷ []) in
     let one = sum_by-cons (slot_asks limit) (room_as bound) [] in
     let so_far = asks limit in
-    elim (cases_Bool (same_limit bound.counts.limit limit)) [
+    elim (cases_Bool (same_limit bound.limit.value limit)) [
       | inl same ↦
-          let amount : slot_asks limit (room_as bound) ≡ bound.counts.amount = cond-true _ _ _ same in
-          let here : sum_in new limit ≡ min (sum_in middle bound.counts.limit + bound.counts.amount) greatest_demand = put limit ∙ cond-true _ _ _ same in
-          let known : sum_in middle bound.counts.limit ≡ sum_in middle limit = ap (λ l. sum_in middle l) (limits_equal bound.counts.limit limit same) in
+          let amount : slot_asks limit (room_as bound) ≡ bound.amount = cond-true _ _ _ same in
+          let here : sum_in new limit ≡ min (sum_in middle bound.limit.value + bound.amount) greatest_demand = put limit ∙ cond-true _ _ _ same in
+          let known : sum_in middle bound.limit.value ≡ sum_in middle limit = ap (λ l. sum_in middle l) (limits_equal bound.limit.value limit same) in
           omega (arith, parts, both, one, so_far, amount, here, known)
       | inr apart ↦
           let amount : slot_asks limit (room_as bound) ≡ 0 = cond-false _ _ _ apart in

@@ -6,7 +6,6 @@ use Rattle.ge_model_value.specs.Pieces.{each_once}
 use Rattle.ge_model_place.specs.Limits.{counted_at}
 use Rattle.ge_model_place.specs.Opening.{is_open}
 use Rattle.ge_model_place.specs.Placement.{Room, Cell, rooms_in, everywhere, is_on}
-use Rattle.ge_demands.specs.Counts.{counted_as}
 use Rattle.ge_place.specs.declared.spots.Bound.{Bound}
 use Rattle.ge_place.specs.declared.spots.Search.{Search}
 use Rattle.ge_place.specs.declared.spots.Sight.{Sight}
@@ -15,7 +14,10 @@ use Rattle.ge_place.specs.declared.spots.Site.{Site}
 use Rattle.ge_place.specs.declared.spots.Site.TheVariants.{Everywhere, Host}
 
 abbrev pub room_as : Bound → Room
-room_as bound = record { counted = counted_as bound.counts; booked = bound.peak }
+room_as bound = record {
+  counted = record { limit = bound.limit.value; capacity = bound.capacity; amount = bound.amount; once = bound.once };
+  booked = bound.peak;
+}
 
 abbrev pub rooms_as : List Bound → List Room
 rooms_as bounds = map room_as bounds

@@ -1,42 +1,26 @@
 //! What the slots given so far ask of each limit.
-ghost use Rattle.std.specs.Prelude.{◌≡◌, ◌+◌, cond, min, nat_le, true, false, IfOk, OnOk};
+ghost use Rattle.std.specs.Prelude.{◌≡◌, ◌+◌, min, nat_le, true, false, IfOk, OnOk};
 ghost use Rattle.std.specs.List.{list_all};
-ghost use Rattle.ge_model_bookings.specs.Bookings.{same_limit};
 ghost use Rattle.ge_model_place.specs.Limits.{greatest_demand};
-ghost use Rattle.ge_model_rows.specs.ScheduleRows.{LimitId as Limit};
 ghost use Rattle.ge_place.specs.Spots.{room_as, rooms_as, is_in};
-ghost use Rattle.ge_place.specs.Sums.{sum_in, sum_of_both, asked_with as asked_with_one, has_room_for, takes_by, takes_seen, rooms_seen, AsksMore};
+ghost use Rattle.ge_place.specs.Sums.{asked_with as asked_with_one, has_room_for, takes_by, takes_seen, rooms_seen, AsksMore};
 
 use crate::seeing::Spot;
 use crate::spots::{Bound, Sight, Site, has_instance};
-use ge_rows::{LimitId, Table, Twin};
+use crate::sums::Sums;
 use std::alloc::{AllocError, Global};
-
-/// What is asked of limits: of one that isn't named, nothing. A sum is cut at the greatest demand.
-pub(crate) type Sums = Table<LimitId, u64>;
-
-fn sum_of(sums: &Sums, limit: &LimitId) -> u64
-    ensures { result ≡ sum_in sums.now limit.now }
-{
-    match sums.get(limit) {
-        Some(sum) => *sum,
-        None => 0,
-    }
-}
 
 // What one more slot asks of a limit together with those before; what is asked once doesn't grow.
 fn asked_with(before: &Sums, since: &Sums, bound: &Bound) -> u64
     ensures { result
         ≡ min (asked_with_one before.now since.now (room_as bound.now).counted) greatest_demand }
 {
-    if bound.counts.once {
-        return bound.counts.amount;
+    if bound.once {
+        return bound.amount;
     }
-    let first = sum_of(before, &bound.counts.limit);
-    let second = sum_of(since, &bound.counts.limit);
-    first
-        .saturating_add(second)
-        .saturating_add(bound.counts.amount)
+    let first = before.sum_of(&bound.limit);
+    let second = since.sum_of(&bound.limit);
+    first.saturating_add(second).saturating_add(bound.amount)
 }
 
 /// Whether a capacity has room for a demand beside what is booked.
@@ -49,11 +33,7 @@ pub(crate) fn has_room(capacity: u128, booked: u128, demand: u64) -> bool
 fn fits(before: &Sums, since: &Sums, bound: &Bound) -> bool
     ensures { result ≡ has_room_for before.now since.now (room_as bound.now) }
 {
-    has_room(
-        bound.counts.capacity,
-        bound.peak,
-        asked_with(before, since, bound),
-    )
+    has_room(bound.capacity, bound.peak, asked_with(before, since, bound))
 }
 
 fn all_fit(before: &Sums, since: &Sums, bounds: &[Bound]) -> bool
@@ -63,36 +43,18 @@ fn all_fit(before: &Sums, since: &Sums, bounds: &[Bound]) -> bool
     bounds.iter().all(|bound| fits(before, since, bound))
 }
 
-// What a slot asks of a limit is added.
-fn ask(alloc: Global, sums: &mut Sums, bound: &Bound) -> Result<(), AllocError>
-    ensures { OnOk result ((limit : Limit) → sum_in sums.new limit
-        ≡ cond (same_limit bound.now.counts.limit limit)
-        (min (sum_in sums.old bound.now.counts.limit + bound.now.counts.amount) greatest_demand)
-        (sum_in sums.old limit)) }
-{
-    let sum = sum_of(sums, &bound.counts.limit).saturating_add(bound.counts.amount);
-    let limit = bound.counts.limit.twin(alloc)?;
-    sums.insert(limit, sum)?;
-    Ok(())
-}
-
 // What a slot asks of each limit of an instance is added.
-fn ask_all(alloc: Global, sums: &mut Sums, bounds: &[Bound]) -> Result<(), AllocError>
+fn ask_all(sums: &mut Sums, bounds: &[Bound]) -> Result<(), AllocError>
     ensures { OnOk result (AsksMore (rooms_as bounds.now) sums.old sums.new) }
 {
     for bound in bounds {
-        ask(alloc, sums, bound)?;
+        sums.ask(&bound.limit, bound.amount)?;
     }
     Ok(())
 }
 
 // Whether one more slot is taken by what was seen. What it asks is added then.
-fn takes_there(
-    alloc: Global,
-    sight: &Sight,
-    before: &Sums,
-    since: &mut Sums,
-) -> Result<bool, AllocError>
+fn takes_there(sight: &Sight, before: &Sums, since: &mut Sums) -> Result<bool, AllocError>
     ensures takes { IfOk result (λ takes. takes ≡ takes_seen before.now since.old sight.now) }
     ensures asks { IfOk result (λ takes. takes ≡ true
         → AsksMore (rooms_seen sight.now) since.old since.new) }
@@ -104,7 +66,7 @@ fn takes_there(
             if !all_fit(before, since, bounds.as_slice()) {
                 return Ok(false);
             }
-            ask_all(alloc, since, bounds.as_slice())?;
+            ask_all(since, bounds.as_slice())?;
             Ok(true)
         }
     }
@@ -128,7 +90,7 @@ pub(crate) fn takes(
         return Ok(false);
     }
     let sight = spot.sight(alloc)?;
-    let taken = takes_there(alloc, &sight, before, since)?;
+    let taken = takes_there(&sight, before, since)?;
     spot.keep(sight);
     Ok(taken)
 }

@@ -4,9 +4,10 @@ ghost use Rattle.ge_model_place.specs.Placement.{filled, slots_given};
 ghost use Rattle.ge_place.specs.Spots.{cells_with, one_more_at, is_in};
 ghost use Rattle.ge_place.specs.Sums.{AreTold};
 
-use crate::asking::{Sums, takes};
+use crate::asking::takes;
 use crate::seeing::Spot;
 use crate::spots::Site;
+use crate::sums::Sums;
 use ge_rows::List;
 use std::alloc::{AllocError, Global};
 

@@ -4,11 +4,11 @@ ghost use Rattle.ge_model_place.specs.Placement.{filled, is_on, slots_given};
 ghost use Rattle.ge_place.specs.Giving.{IsGiven};
 ghost use Rattle.ge_place.specs.Spots.{cells_with, no_slots_at, is_in};
 
-use crate::asking::Sums;
 use crate::filling::fill;
 use crate::seeing::Spot;
 use crate::spots::Site;
-use ge_rows::{List, Table, Text, Twin};
+use crate::sums::Sums;
+use ge_rows::{List, Text, Twin};
 use std::alloc::{AllocError, Global};
 
 /// The slots that were given so far.
@@ -38,7 +38,7 @@ pub(crate) fn nothing_given(alloc: Global, spots: &[Spot<'_>]) -> Result<Given, 
     let slots = no_slots(alloc, spots)?;
     Ok(Given {
         slots,
-        sums: Table::new(alloc),
+        sums: Sums::new(alloc),
         count: 0,
     })
 }
@@ -62,7 +62,7 @@ pub(crate) fn give_more(
     ensures same { OnOk result
         (given.new.count ≡ given.old.count → given.new.slots ≡ given.old.slots) }
 {
-    let none = Table::new(alloc);
+    let none = Sums::new(alloc);
     let (slots, sums) = (&mut given.slots, &mut given.sums);
     let more = fill(alloc, spots, site, most, slots, &none, sums)?;
     given.count += more;
@@ -84,7 +84,7 @@ pub(crate) fn takes_block(
         == slots_given (cells_with spots.old.items given.now.slots) + size)) }
 {
     let mut slots = given.slots.twin(alloc)?;
-    let mut since = Table::new(alloc);
+    let mut since = Sums::new(alloc);
     let site = Site::Host(host);
     let taken = fill(
         alloc,

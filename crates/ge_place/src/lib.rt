@@ -20,5 +20,6 @@ mod seeing;
 mod single;
 mod spots;
 mod spreading;
+mod sums;
 
 pub use placing::{place, place_job};

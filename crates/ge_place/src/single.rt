@@ -1,34 +1,47 @@
 //! One slot anywhere: a job without a parallel environment.
-ghost use Rattle.std.specs.Prelude.{◌≡◌, ◌&&◌, IfOk, Some};
+ghost use Rattle.std.specs.Prelude.{◌≡◌, ◌<◌, ◌&&◌, IfOk, Some};
 ghost use Rattle.std.specs.List.{list_all, find};
 ghost use Rattle.std.specs.Option.{option_copied, option_map};
+ghost use Rattle.ge_demands.specs.Counts.{counted_as};
+ghost use Rattle.ge_model_place.specs.Placement.{room_of};
 ghost use Rattle.ge_model_place.specs.Runs.{one_slot};
-ghost use Rattle.ge_place.specs.Spots.{room_as, rooms_at};
+ghost use Rattle.ge_place.specs.Spots.{rooms_at};
 ghost use Rattle.ge_place.specs.Singles.{has_room_alone, takes_first};
 
 use crate::asking::has_room;
-use crate::spots::{Bound, Search, bounds_at, may_start};
+use crate::spots::{Search, may_start, peak_of};
+use ge_demands::{Counted, counted_limits};
 use ge_rows::{Grant, InstanceId, List, Twin};
 use std::alloc::{AllocError, Global};
 
 // Whether a limit has room for one slot where none is given.
-fn fits_alone(bound: &Bound) -> bool
-    ensures { result ≡ has_room_alone (room_as bound.now) }
+fn fits_alone(search: &Search<'_>, counts: &Counted) -> bool
+    requires { search.now.from < search.now.until }
+    ensures { result ≡ has_room_alone
+        (room_of search.now.booked.now search.now.from search.now.until (counted_as counts.now)) }
 {
-    has_room(bound.counts.capacity, bound.peak, bound.counts.amount)
+    let peak = peak_of(search, &counts.limit);
+    has_room(counts.capacity, peak, counts.amount)
 }
 
-fn all_fit_alone(bounds: &[Bound]) -> bool
-    ensures { result ≡ list_all (λ bound. has_room_alone (room_as bound)) bounds.now }
+// The most that is booked of a limit isn't looked for behind one that has no room.
+fn all_fit_alone(search: &Search<'_>, limits: &[Counted]) -> bool
+    requires { search.now.from < search.now.until }
+    ensures { result ≡ list_all (λ counts. has_room_alone
+        (room_of search.now.booked.now search.now.from search.now.until (counted_as counts)))
+        limits.now }
 {
-    bounds.iter().all(|bound| fits_alone(bound))
+    limits.iter().all(|counts| fits_alone(search, counts))
 }
 
 fn has_room_at(alloc: Global, search: &Search<'_>, at: &InstanceId) -> Result<bool, AllocError>
     ensures { IfOk result (λ has. has ≡ list_all has_room_alone (rooms_at search.now at.now)) }
 {
-    let bounds = bounds_at(alloc, search, at)?;
-    Ok(all_fit_alone(bounds.as_slice()))
+    if search.until <= search.from {
+        return Ok(true);
+    }
+    let limits = counted_limits(alloc, search.cluster, search.groups, search.job, at)?;
+    Ok(all_fit_alone(search, limits.as_slice()))
 }
 
 fn takes_alone(alloc: Global, search: &Search<'_>, at: &InstanceId) -> Result<bool, AllocError>

@@ -1,14 +1,16 @@
 //! What a task is placed over, and what is seen at an instance.
 ghost use Rattle.std.specs.Prelude.{◌≡◌, ◌<◌, map, IfOk};
+ghost use Rattle.ge_model_bookings.specs.Bookings.{peak};
 ghost use Rattle.ge_model_place.specs.Placement.{room_of};
 ghost use Rattle.ge_demands.specs.Counts.{counted_as, all_counted};
 ghost use Rattle.ge_place.specs.Spots.{room_as, rooms_as, is_free_at, rooms_at, cell_in, is_in, IsSeen};
 
 use ge_demands::{Counted, counted_limits};
 use ge_opening::is_open;
-use ge_rows::{Cluster, Groups, InstanceId, Job, Text};
+use ge_rows::{Cluster, Groups, InstanceId, Job, LimitId, Text};
 use ge_timeline::Timeline;
 use std::alloc::{AllocError, Global};
+use std::rc::Rc;
 
 /// What a task of a job is placed over, from a moment on.
 #[derive(Clone, Copy)]
@@ -33,8 +35,14 @@ pub(crate) struct Search<'a> {
 /// model's `Room`.
 #[derive(Drop)]
 pub(crate) struct Bound {
-    /// The limit, and what a slot asks of it.
-    pub(crate) counts: Counted,
+    /// The limit, which is shared with the sums of what is asked.
+    pub(crate) limit: Rc<LimitId>,
+    /// How much of it there is.
+    pub(crate) capacity: u128,
+    /// What a slot asks of it.
+    pub(crate) amount: u64,
+    /// Whether all slots ask that together, and once.
+    pub(crate) once: bool,
     /// The most that is booked of it.
     pub(crate) peak: u128,
 }
@@ -82,16 +90,35 @@ pub(crate) fn may_start(
     Ok(opened)
 }
 
-// A limit with the most that is booked of it in the window.
-fn bound_of(search: &Search<'_>, counts: Counted) -> Bound
+/// The most that is booked of a limit in the window.
+pub(crate) fn peak_of(search: &Search<'_>, limit: &LimitId) -> u128
     requires { search.now.from < search.now.until }
-    ensures { room_as result
-        ≡ room_of search.now.booked.now search.now.from search.now.until (counted_as counts) }
+    ensures { result ≡ peak search.now.booked.now limit.now search.now.from search.now.until }
 {
-    let peak = search
-        .booked
-        .greatest(&counts.limit, search.from, search.until);
-    Bound { counts, peak }
+    search.booked.greatest(limit, search.from, search.until)
+}
+
+// A limit with the most that is booked of it in the window.
+fn bound_of(alloc: Global, search: &Search<'_>, counts: Counted) -> Result<Bound, AllocError>
+    requires { search.now.from < search.now.until }
+    ensures { IfOk result (λ bound. room_as bound
+        ≡ room_of search.now.booked.now search.now.from search.now.until (counted_as counts)) }
+{
+    let peak = peak_of(search, &counts.limit);
+    let Counted {
+        limit,
+        capacity,
+        amount,
+        once,
+    } = counts;
+    let limit = Rc::new(alloc, limit)?;
+    Ok(Bound {
+        limit,
+        capacity,
+        amount,
+        once,
+        peak,
+    })
 }
 
 fn bounds_of(
@@ -106,17 +133,14 @@ fn bounds_of(
 {
     let mut bounds = Vec::new(alloc);
     for counts in limits {
-        bounds.push(bound_of(search, counts))?;
+        let bound = bound_of(alloc, search, counts)?;
+        bounds.push(bound)?;
     }
     Ok(bounds)
 }
 
-/// The limits that a slot at an instance counts for; none in a window without a moment.
-pub(crate) fn bounds_at(
-    alloc: Global,
-    search: &Search<'_>,
-    at: &InstanceId,
-) -> Result<Vec<Bound>, AllocError>
+// The limits that a slot at an instance counts for; none in a window without a moment.
+fn bounds_at(alloc: Global, search: &Search<'_>, at: &InstanceId) -> Result<Vec<Bound>, AllocError>
     ensures { IfOk result (λ bounds. rooms_as bounds.items ≡ rooms_at search.now at.now) }
 {
     if search.until <= search.from {

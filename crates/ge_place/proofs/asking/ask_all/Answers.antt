@@ -11,4 +11,4 @@ loop-bound-preserved c =
     let i = c.loop-bound.bound-index in
     let bound = c.bound-item.result in
     let more : take (i + 1) bounds ≡ take i bounds ++ bound ∷ [] = take_more bounds i bound c.loop-bound-test.true ∙ ap (λ x. take i bounds ++ x ∷ []) (sym c.bound-item.is) in
-    subst (λ bs. AsksMore (rooms_as bs) c.args.sums.now c.ask.new.sums) (sym more) (asks_next (take i bounds) bound c.args.sums.now c.loop-bound.sums c.ask.new.sums c.loop-bound.invariant c.in_ok-ask.ensures)
+    subst (λ bs. AsksMore (rooms_as bs) c.args.sums.now c.ask.new.self) (sym more) (asks_next (take i bounds) bound c.args.sums.now c.loop-bound.sums c.ask.new.self c.loop-bound.invariant c.in_ok-ask.ensures)
