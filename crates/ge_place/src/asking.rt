@@ -23,8 +23,8 @@ fn asked_with(before: &Sums, since: &Sums, bound: &Bound) -> u64
     first.saturating_add(second).saturating_add(bound.amount)
 }
 
-/// Whether a capacity has room for a demand beside what is booked.
-pub(crate) fn has_room(capacity: u128, booked: u128, demand: u64) -> bool
+// Whether a capacity has room for a demand beside what is booked.
+fn has_room(capacity: u128, booked: u128, demand: u64) -> bool
     ensures { result ≡ nat_le (booked + demand) capacity }
 {
     booked <= capacity && u128::from(demand) <= capacity - booked

@@ -8,8 +8,7 @@ ghost use Rattle.ge_model_place.specs.Runs.{one_slot};
 ghost use Rattle.ge_place.specs.Spots.{rooms_at};
 ghost use Rattle.ge_place.specs.Singles.{has_room_alone, takes_first};
 
-use crate::asking::has_room;
-use crate::spots::{Search, may_start, peak_of};
+use crate::spots::{Search, may_start};
 use ge_demands::{Counted, counted_limits};
 use ge_rows::{Grant, InstanceId, List, Twin};
 use std::alloc::{AllocError, Global};
@@ -20,11 +19,15 @@ fn fits_alone(search: &Search<'_>, counts: &Counted) -> bool
     ensures { result ≡ has_room_alone
         (room_of search.now.booked.now search.now.from search.now.until (counted_as counts.now)) }
 {
-    let peak = peak_of(search, &counts.limit);
-    has_room(counts.capacity, peak, counts.amount)
+    match counts.capacity.checked_sub(u128::from(counts.amount)) {
+        Some(room) => !search
+            .booked
+            .exceeds(&counts.limit, search.from, search.until, room),
+        None => false,
+    }
 }
 
-// The most that is booked of a limit isn't looked for behind one that has no room.
+// Nothing is looked for behind a limit that has no room.
 fn all_fit_alone(search: &Search<'_>, limits: &[Counted]) -> bool
     requires { search.now.from < search.now.until }
     ensures { result ≡ list_all (λ counts. has_room_alone

@@ -90,8 +90,8 @@ pub(crate) fn may_start(
     Ok(opened)
 }
 
-/// The most that is booked of a limit in the window.
-pub(crate) fn peak_of(search: &Search<'_>, limit: &LimitId) -> u128
+// The most that is booked of a limit in the window.
+fn peak_of(search: &Search<'_>, limit: &LimitId) -> u128
     requires { search.now.from < search.now.until }
     ensures { result ≡ peak search.now.booked.now limit.now search.now.from search.now.until }
 {
