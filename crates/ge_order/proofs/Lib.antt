@@ -8,3 +8,4 @@ pub mod Zipped
 pub mod Told
 pub mod InOneWalk
 pub mod Reworked
+pub mod Repeated

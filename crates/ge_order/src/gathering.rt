@@ -2,22 +2,47 @@
 ghost use Rattle.std.specs.Prelude.{◌≡◌, IfOk, map};
 ghost use Rattle.ge_tickets.specs.Own.{told_tickets};
 ghost use Rattle.ge_order.specs.Kinds.{SameAsked, told_standing};
+ghost use Rattle.ge_order.specs.Repeated.{candidate_of, standing, IsScale};
 ghost use Rattle.ge_order.specs.Told.{chosen};
 
 use crate::asked::slots_complex;
 use crate::choosing::has_task;
 use crate::parts::cut_at_64;
-use crate::standing::Standing;
-use crate::telling::tell;
+use crate::priority::Scale;
+use crate::repeating::{nothing_seen, urgency_again};
 use ge_rows::{Cluster, JobFacts, ShortRow, Table};
 use std::alloc::{AllocError, Global};
 use std::collections::BTreeMap;
 
-/// What is known of candidates before their priorities can be told, and the tickets that each was given.
+/// A job that has an eligible task, and what its priority stands on.
+#[derive(Clone, Copy)]
+pub(crate) struct Candidate {
+    /// Its number.
+    pub job: u32,
+    /// `-p`.
+    pub priority: i32,
+    /// The tickets that it was given.
+    pub tickets: u64,
+    /// Its urgency.
+    pub urgency: u128,
+}
+
+/// All candidates, and what their urgencies and tickets are parts of.
 #[derive(Drop)]
 pub(crate) struct Gathered {
-    pub(crate) standings: Vec<Standing>,
-    pub(crate) tickets: Vec<u64>,
+    pub(crate) candidates: Vec<Candidate>,
+    pub(crate) scale: Scale,
+}
+
+fn candidate_by(number: u32, row: &ShortRow<JobFacts>, urgency: u128) -> Candidate
+    ensures { result ≡ candidate_of number row.now urgency }
+{
+    Candidate {
+        job: number,
+        priority: row.facts.priority,
+        tickets: cut_at_64(u128::from(row.facts.oticket)),
+        urgency,
+    }
 }
 
 /// What short rows tell of the jobs that have an eligible task.
@@ -28,21 +53,31 @@ pub(crate) fn gather(
     now: u64,
 ) -> Result<Gathered, AllocError>
     ensures standings { SameAsked c.now rows.now.entries → IfOk result (λ found.
-        found.standings.items ≡ map (told_standing c.now rows.now.entries now)
+        map standing found.candidates.items ≡ map (told_standing c.now rows.now.entries now)
         (chosen c.now now rows.now.entries)) }
-    ensures tickets { IfOk result (λ found. found.tickets.items
+    ensures tickets { IfOk result (λ found. map (λ x. x.tickets) found.candidates.items
         ≡ map (told_tickets rows.now.entries) (chosen c.now now rows.now.entries)) }
+    ensures scale { IfOk result (λ found. IsScale found.scale
+        (map standing found.candidates.items) (map (λ x. x.tickets) found.candidates.items)) }
 {
     let unit = slots_complex(c);
-    let (mut kinds, mut last) = (Table::new(alloc), None);
-    let mut standings = Vec::with_capacity(alloc, rows.len())?;
-    let mut tickets = Vec::with_capacity(alloc, rows.len())?;
+    let (mut kinds, mut asked) = (Table::new(alloc), None);
+    let (mut seen, mut most) = (nothing_seen(), 0);
+    let mut candidates = Vec::with_capacity(alloc, rows.len())?;
     for (number, row) in rows.iter() {
         if has_task(alloc, c, *number, row, now)? {
-            let standing = tell(c, unit, &mut kinds, &mut last, *number, row, now)?;
-            standings.push_reserved(standing);
-            tickets.push_reserved(cut_at_64(u128::from(row.facts.oticket)));
+            let urgency = urgency_again(
+                c, unit, &mut kinds, &mut asked, &mut seen, *number, row, now,
+            )?;
+            let candidate = candidate_by(*number, row, urgency);
+            most = most.max(candidate.tickets);
+            candidates.push_reserved(candidate);
         }
     }
-    Ok(Gathered { standings, tickets })
+    let scale = Scale {
+        low: seen.low.unwrap_or(0),
+        high: seen.high,
+        most,
+    };
+    Ok(Gathered { candidates, scale })
 }

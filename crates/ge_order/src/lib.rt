@@ -19,6 +19,7 @@ mod ordering;
 mod parting;
 mod parts;
 mod priority;
+mod repeating;
 mod standing;
 mod tasks;
 mod telling;

@@ -1,13 +1,14 @@
 // The priorities of jobs (sge_priority).
-ghost use Rattle.std.specs.Prelude.{◌≡◌, ℕ, List as Items, IfOk, IfSome, map, zip};
+ghost use Rattle.std.specs.Prelude.{◌≡◌, ℕ, List as Items, Some, IfOk, IfSome, map, zip};
 ghost use Rattle.ge_model_order.specs.Amounts.{greatest as greatest_of};
 ghost use Rattle.ge_model_order.specs.Candidates.{candidates};
 ghost use Rattle.ge_model_order.specs.Priority.{prios_of};
 ghost use Rattle.ge_model_order.specs.Tickets.{tickets_of};
-ghost use Rattle.ge_order.specs.Standings.{prio_of, standing_of};
+ghost use Rattle.ge_order.specs.Repeated.{prio_of_candidate};
+ghost use Rattle.ge_order.specs.Standings.{prio_of, prio_of_urgent, standing_of};
 ghost use Rattle.ge_order.specs.Weighed.{IsWorked};
 
-use crate::gathering::gather;
+use crate::gathering::{Candidate, gather};
 use crate::standing::{Standing, Urgent, extremes, standings};
 use crate::weighing::{Worked, work_on, work_out};
 use ge_rows::{Cluster, List, Prio, Sched};
@@ -35,6 +36,31 @@ fn greatest(tickets: &[u64]) -> u64
     most
 }
 
+// The priority of a job, after what was worked out for the last one. Most jobs are like that one: a call would take longer
+// than what is left to do.
+#[inline(always)]
+fn prio_after(
+    sched: &Sched,
+    scale: Scale,
+    last: &mut Worked,
+    job: u32,
+    urgent: Urgent,
+    tickets: u64,
+) -> Prio
+    ensures prio { IsWorked sched.now scale last.old
+        → result ≡ prio_of_urgent sched.now scale job tickets (Some urgent) }
+    ensures kept { IsWorked sched.now scale last.old → IsWorked sched.now scale last.new }
+{
+    work_on(sched, scale, last, urgent, tickets);
+    Prio {
+        job,
+        np: last.np,
+        nu: last.nu,
+        nt: last.nt,
+        total: last.total,
+    }
+}
+
 fn prio_at(
     sched: &Sched,
     scale: Scale,
@@ -46,22 +72,15 @@ fn prio_at(
         → result ≡ prio_of sched.now scale (standing.now, tickets) }
     ensures kept { IsWorked sched.now scale last.old → IsWorked sched.now scale last.new }
 {
-    let Some(urgent) = standing.urgent else {
-        return Prio {
+    match standing.urgent {
+        None => Prio {
             job: standing.job,
             np: 0,
             nu: 0,
             nt: 0,
             total: 0,
-        };
-    };
-    work_on(sched, scale, last, urgent, tickets);
-    Prio {
-        job: standing.job,
-        np: last.np,
-        nu: last.nu,
-        nt: last.nt,
-        total: last.total,
+        },
+        Some(urgent) => prio_after(sched, scale, last, standing.job, urgent, tickets),
     }
 }
 
@@ -114,6 +133,36 @@ fn prios_known(
     Ok(prios)
 }
 
+fn prio_of_one(sched: &Sched, scale: Scale, last: &mut Worked, candidate: &Candidate) -> Prio
+    ensures prio { IsWorked sched.now scale last.old
+        → result ≡ prio_of_candidate sched.now scale candidate.now }
+    ensures kept { IsWorked sched.now scale last.old → IsWorked sched.now scale last.new }
+{
+    let urgent = Urgent {
+        priority: candidate.priority,
+        urgency: candidate.urgency,
+    };
+    prio_after(sched, scale, last, candidate.job, urgent, candidate.tickets)
+}
+
+// The priorities of candidates, by what their urgencies and tickets are parts of.
+fn prios_gathered(
+    alloc: Global,
+    sched: &Sched,
+    scale: Scale,
+    candidates: &[Candidate],
+) -> Result<List<Prio>, AllocError>
+    ensures { IfOk result (λ prios. prios
+        ≡ map (prio_of_candidate sched.now scale) candidates.now) }
+{
+    let mut prios = Vec::with_capacity(alloc, candidates.len())?;
+    let mut last = first_worked(sched, scale);
+    for candidate in candidates {
+        prios.push_reserved(prio_of_one(sched, scale, &mut last, candidate));
+    }
+    Ok(List::from_vec(prios))
+}
+
 /// The priorities of jobs at a moment, in their order; the second list has the tickets of each. Urgency and tickets count by what
 /// these jobs have of them, so that all candidates of a run belong into one list. A job that isn't there has a row of zeros.
 pub fn prios(
@@ -144,11 +193,6 @@ pub fn own_prios(alloc: Global, c: &Cluster, now: u64) -> Result<Option<List<Pri
         return Ok(None);
     };
     let found = gather(alloc, c, shorts.rows, now)?;
-    let prios = prios_known(
-        alloc,
-        c,
-        found.standings.as_slice(),
-        found.tickets.as_slice(),
-    )?;
+    let prios = prios_gathered(alloc, &c.sched, found.scale, found.candidates.as_slice())?;
     Ok(Some(prios))
 }

@@ -28,36 +28,6 @@ fn urgent_by(c: &Cluster, now: u64, asked: u128, facts: &JobFacts) -> Urgent
     }
 }
 
-/// What is known of a job whose short row this is.
-pub(crate) fn tell(
-    c: &Cluster,
-    unit: Option<&ComplexDef>,
-    kinds: &mut Table<u32, u128>,
-    last: &mut Option<(u32, u128)>,
-    number: u32,
-    row: &ShortRow<JobFacts>,
-    now: u64,
-) -> Result<Standing, AllocError>
-    ensures standing { (rows : Items (ℕ × Short Facts)) → option_copied unit.entry
-        ≡ complex_at c.now (codes "slots") → at_number rows number ≡ Some row.now
-        → kind.AreAsked c.now rows kinds.old → kind.IsAsked c.now rows last.old
-        → IfOk result (λ standing. standing ≡ kind.told_standing c.now rows now number) }
-    ensures asked { (rows : Items (ℕ × Short Facts)) → option_copied unit.entry
-        ≡ complex_at c.now (codes "slots") → at_number rows number ≡ Some row.now
-        → kind.SameAsked c.now rows → kind.AreAsked c.now rows kinds.old
-        → kind.IsAsked c.now rows last.old → OnOk result (kind.AreAsked c.now rows kinds.new) }
-    ensures last { (rows : Items (ℕ × Short Facts)) → option_copied unit.entry
-        ≡ complex_at c.now (codes "slots") → at_number rows number ≡ Some row.now
-        → kind.SameAsked c.now rows → kind.AreAsked c.now rows kinds.old
-        → kind.IsAsked c.now rows last.old → OnOk result (kind.IsAsked c.now rows last.new) }
-{
-    let asked = asked_again(c, unit, kinds, last, row.third, number)?;
-    Ok(Standing {
-        job: number,
-        urgent: Some(urgent_by(c, now, asked, &row.facts)),
-    })
-}
-
 fn standing_told<'a>(
     c: &Cluster,
     unit: Option<&ComplexDef>,

@@ -1,50 +1,79 @@
-use Rattle.std.proofs.Common.{◌≡◌, ◌++◌, ◌∙◌, refl, sym, subst, ap, arith, length, map}
+use Rattle.std.proofs.Common.{◌≡◌, ℕ, ◌++◌, ◌∷◌, [], ◌∙◌, refl, sym, subst, ap, arith, rules, length, map, fold, max, Some, None, unwrap_or}
 use Rattle.ge_beside.specs.Met.{AreFound}
 use Rattle.ge_beside.proofs.Walked.{all_found}
-use Rattle.ge_model_order.specs.Amounts.{cut_at_64}
+use Rattle.ge_model_order.specs.Amounts.{greatest}
 use Rattle.ge_tickets.specs.Own.{told_tickets}
 use Rattle.ge_order.specs.Kinds.{told_standing}
+use Rattle.ge_order.specs.Repeated.{standing}
+use Rattle.ge_order.specs.Standings.{lesser, with_lesser, with_greater}
 use Rattle.ge_order.specs.Told.{chosen}
 use Rattle.ge_order.proofs.InOneWalk.{chosen_more, ticket_of_row}
 use Rattle.ge_order.proofs.OneKind.{none_asked, none_last}
+use Rattle.ge_order.proofs.Repeated.{none_urged, none_within, bound_more, map_more, standing_of_row}
+use Rattle.ge_order.proofs.Scaled.{lowest_is, highest_is}
+use Rattle.ge_order.specs.declared.gathering.Candidate.{Candidate}
+use Rattle.ge_order.specs.declared.repeating.Seen.{Seen}
 use Rattle.ge_order.proofs.gathering.gather.Goals as goal
 
 pub loop-number-init : goal.loop-number-init
 loop-number-init c =
     let rows = c.args.rows.now.entries in
     let start : c.into_iter-number-iterator.result ≡ rows = search in
-    let whole = ap (λ entries. length entries) start in (
+    let whole = ap (λ entries. length entries) start in
+    let seen = c.nothing_seen-seen.ensures in
+    let none = c.in_ok-candidates.ensures.items in (
       (λ alike. (
-        (λ i. c.in_ok-standings.ensures.items i ++ map (told_standing c.args.c.now rows c.args.now) (chosen c.args.c.now c.args.now (start i))),
-        none_asked c.args.c.now rows _ c.new-kinds.ensures,
-        none_last c.args.c.now rows _ refl,
+        (λ i. map standing (none i) ++ map (told_standing c.args.c.now rows c.args.now) (chosen c.args.c.now c.args.now (start i))),
+        record { all = none_asked c.args.c.now rows _ c.new-kinds.ensures; one = none_last c.args.c.now rows _ refl; alike = none_urged c.args.c.now rows c.args.now _ (ap (λ (s : Seen). s.last) seen) },
       )),
-      (λ i. c.in_ok-tickets.ensures.items i ++ map (told_tickets rows) (chosen c.args.c.now c.args.now (start i))),
+      (λ i. map (λ x. x.tickets) (none i) ++ map (told_tickets rows) (chosen c.args.c.now c.args.now (start i))),
       all_found rows _ start c.iter-number-items.ensures.found,
-      omega (arith, c.in_ok-standings.ensures.len, c.in_ok-standings.ensures.capacity, c.len.ensures.len, whole),
-      omega (arith, c.in_ok-tickets.ensures.len, c.in_ok-tickets.ensures.capacity, c.len-2.ensures.len, whole),
+      none_within _ (ap (λ (s : Seen). s.last) seen),
+      ap (λ (s : Seen). s.low) seen ∙ ap (λ xs. fold with_lesser None (map standing xs)) (sym none),
+      ap (λ (s : Seen). s.high) seen ∙ ap (λ xs. fold with_greater 0 (map standing xs)) (sym none),
+      ap (λ xs. greatest (map (λ x. x.tickets) xs)) (sym none),
+      omega (arith, c.in_ok-candidates.ensures.len, c.in_ok-candidates.ensures.capacity, c.len.ensures.len, whole),
     )
+
+abbrev tickets : Candidate → ℕ
+tickets candidate = candidate.tickets
 
 pub loop-number-preserved-then-branch : goal.loop-number-preserved-then-branch
 loop-number-preserved-then-branch c =
     let C = c.args.c.now in
+    let now = c.args.now in
     let rows = c.args.rows.now.entries in
     let number = c.in-Some.number.now in
     let row = c.in-Some.row.now in
     let before = c.loop-number.invariant in
     let found = subst (λ entries. AreFound rows entries) c.in-Some.ensures.steps before.2 in
     let is = sym c.in_ok-has_task.ensures ∙ c.if-branch.true in
-    let shorter = ap (λ entries. length entries) c.in-Some.ensures.steps in (
+    let shorter = ap (λ entries. length entries) c.in-Some.ensures.steps in
+    let one = c.candidate_by-candidate.result in
+    let is_one = c.candidate_by-candidate.ensures in
+    let done = c.loop-number.candidates.items in
+    let more = c.push_reserved.new.self.items in
+    let pushed : more ≡ done ++ one ∷ [] = c.push_reserved.ensures.items in
+    let greater : c.max-most.result ≡ max c.loop-number.most one.tickets = search rules in
+    let told = c.in_ok-urgency.ensures in (
       (λ alike.
           let so_far = before.0 alike in (
-            chosen_more (told_standing C rows c.args.now) C c.args.now _ _ _ _ _ _ number row c.in-Some.ensures.steps is so_far.0
-                (c.in_ok-standing.ensures.standing rows c.slots_complex-unit.ensures found.0 so_far.1 so_far.2) c.push_reserved.ensures.items,
-            c.in_ok-standing.ensures.asked rows c.slots_complex-unit.ensures found.0 alike so_far.1 so_far.2,
-            c.in_ok-standing.ensures.last rows c.slots_complex-unit.ensures found.0 alike so_far.1 so_far.2,
+            chosen_more (told_standing C rows now) C now (map standing done) (map standing more) _ (standing one) _ _ number row c.in-Some.ensures.steps is so_far.0
+                (ap standing is_one ∙ standing_of_row C rows now number row c.in_ok-urgency.urgency found.0 (told.urgency rows c.slots_complex-unit.ensures found.0 so_far.1)) (map_more standing done more one pushed),
+            told.known rows c.slots_complex-unit.ensures found.0 alike so_far.1,
           )),
-      chosen_more (told_tickets rows) C c.args.now _ _ _ _ _ _ number row c.in-Some.ensures.steps is before.1
-          (c.cut_at_64.ensures ∙ ap cut_at_64 c.from.ensures ∙ ticket_of_row rows number row found.0) c.push_reserved-then-branch.ensures.items,
+      chosen_more (told_tickets rows) C now (map tickets done) (map tickets more) _ one.tickets _ _ number row c.in-Some.ensures.steps is before.1
+          (ap tickets is_one ∙ ticket_of_row rows number row found.0) (map_more tickets done more one pushed),
       found.1,
-      omega (arith, c.push_reserved.ensures.len, c.push_reserved.ensures.capacity, before.3, shorter),
-      omega (arith, c.push_reserved-then-branch.ensures.len, c.push_reserved-then-branch.ensures.capacity, before.4, shorter),
+      told.within before.3,
+      bound_more with_lesser standing None _ _ done more one before.4 (told.low before.3 ∙ ap (λ (x : Candidate). Some (lesser c.loop-number.seen.low x.urgency)) (sym is_one)) pushed,
+      bound_more with_greater standing 0 _ _ done more one before.5 (told.high before.3 ∙ ap (λ (x : Candidate). max c.loop-number.seen.high x.urgency) (sym is_one)) pushed,
+      bound_more (λ most n. max most n) tickets 0 _ _ done more one before.6 greater pushed,
+      omega (arith, c.push_reserved.ensures.len, c.push_reserved.ensures.capacity, before.7, shorter),
     )
+
+pub returns-clause-scale : goal.returns-clause-scale
+returns-clause-scale c =
+    let found = c.loop-number.invariant in
+    let known = map standing c.loop-number.candidates.items in
+    record { low = c.unwrap_or.ensures ∙ ap (λ low. unwrap_or low 0) found.4 ∙ lowest_is known; high = found.5 ∙ highest_is known; most = found.6 }

@@ -1,15 +1,22 @@
-use Rattle.std.proofs.Common.{◌≡◌, ◌+◌, ◌≤◌, ◌++◌, length, map}
+use Rattle.std.proofs.Common.{◌≡◌, ◌+◌, ◌≤◌, ◌++◌, length, map, fold, None}
 use Rattle.ge_beside.specs.Met.{AreFound}
+use Rattle.ge_model_order.specs.Amounts.{greatest}
 use Rattle.ge_tickets.specs.Own.{told_tickets}
-use Rattle.ge_order.specs.Kinds.{SameAsked, AreAsked, IsAsked, told_standing}
+use Rattle.ge_order.specs.Kinds.{SameAsked, told_standing}
+use Rattle.ge_order.specs.Repeated.{Knows, IsWithin, standing}
+use Rattle.ge_order.specs.Standings.{with_lesser, with_greater}
 use Rattle.ge_order.specs.Told.{chosen}
 use Rattle.ge_order.proofs.gathering.gather.Given as goal
 
 abbrev pub invariant-loop-number : goal.invariant-loop-number
 invariant-loop-number l =
     (SameAsked l.c l.rows.entries
-    → (l.standings.items ++ map (told_standing l.c l.rows.entries l.now) (chosen l.c l.now l.number-iterator) ≡ map (told_standing l.c l.rows.entries l.now) (chosen l.c l.now l.rows.entries))
-    × AreAsked l.c l.rows.entries l.kinds × IsAsked l.c l.rows.entries l.last)
-    × (l.tickets.items ++ map (told_tickets l.rows.entries) (chosen l.c l.now l.number-iterator) ≡ map (told_tickets l.rows.entries) (chosen l.c l.now l.rows.entries))
+    → (map standing l.candidates.items ++ map (told_standing l.c l.rows.entries l.now) (chosen l.c l.now l.number-iterator) ≡ map (told_standing l.c l.rows.entries l.now) (chosen l.c l.now l.rows.entries))
+    × Knows l.c l.rows.entries l.now l.kinds l.asked l.seen.last)
+    × (map (λ x. x.tickets) l.candidates.items ++ map (told_tickets l.rows.entries) (chosen l.c l.now l.number-iterator) ≡ map (told_tickets l.rows.entries) (chosen l.c l.now l.rows.entries))
     × AreFound l.rows.entries l.number-iterator
-    × (l.standings.len + length l.number-iterator ≤ l.standings.cap) × (l.tickets.len + length l.number-iterator ≤ l.tickets.cap)
+    × IsWithin l.seen
+    × (l.seen.low ≡ fold with_lesser None (map standing l.candidates.items))
+    × (l.seen.high ≡ fold with_greater 0 (map standing l.candidates.items))
+    × (l.most ≡ greatest (map (λ x. x.tickets) l.candidates.items))
+    × (l.candidates.len + length l.number-iterator ≤ l.candidates.cap)
