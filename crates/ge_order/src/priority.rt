@@ -1,15 +1,15 @@
 // The priorities of jobs (sge_priority).
-ghost use Rattle.std.specs.Prelude.{◌≡◌, ℕ, List as Items, Some, IfOk, IfSome, map, zip};
+ghost use Rattle.std.specs.Prelude.{◌≡◌, ℕ, List as Items, IfOk, IfSome, map, zip};
 ghost use Rattle.ge_model_order.specs.Amounts.{greatest as greatest_of};
 ghost use Rattle.ge_model_order.specs.Candidates.{candidates};
 ghost use Rattle.ge_model_order.specs.Priority.{prios_of};
 ghost use Rattle.ge_model_order.specs.Tickets.{tickets_of};
 ghost use Rattle.ge_order.specs.Repeated.{prio_of_candidate};
-ghost use Rattle.ge_order.specs.Standings.{prio_of, prio_of_urgent, standing_of};
+ghost use Rattle.ge_order.specs.Standings.{prio_of, standing_of};
 ghost use Rattle.ge_order.specs.Weighed.{IsWorked};
 
 use crate::gathering::{Candidate, gather};
-use crate::standing::{Standing, Urgent, extremes, standings};
+use crate::standing::{Standing, extremes, standings};
 use crate::weighing::{Worked, work_on, work_out};
 use ge_rows::{Cluster, List, Prio, Sched};
 use ge_tickets::has_own_alone;
@@ -36,24 +36,15 @@ fn greatest(tickets: &[u64]) -> u64
     most
 }
 
-// The priority of a job, after what was worked out for the last one. Most jobs are like that one: a call would take longer
-// than what is left to do.
-#[inline(always)]
-fn prio_after(
-    sched: &Sched,
-    scale: Scale,
-    last: &mut Worked,
-    job: u32,
-    urgent: Urgent,
-    tickets: u64,
-) -> Prio
-    ensures prio { IsWorked sched.now scale last.old
-        → result ≡ prio_of_urgent sched.now scale job tickets (Some urgent) }
-    ensures kept { IsWorked sched.now scale last.old → IsWorked sched.now scale last.new }
+// The priority of a candidate, after what was worked out for the last one.
+fn prio_after(sched: &Sched, scale: &Scale, last: &mut Worked, candidate: &Candidate) -> Prio
+    ensures prio { IsWorked sched.now scale.now last.old
+        → result ≡ prio_of_candidate sched.now scale.now candidate.now }
+    ensures kept { IsWorked sched.now scale.now last.old → IsWorked sched.now scale.now last.new }
 {
-    work_on(sched, scale, last, urgent, tickets);
+    work_on(sched, scale, last, candidate);
     Prio {
-        job,
+        job: candidate.job,
         np: last.np,
         nu: last.nu,
         nt: last.nt,
@@ -61,48 +52,57 @@ fn prio_after(
     }
 }
 
+// The same of a job that may not be there.
 fn prio_at(
     sched: &Sched,
-    scale: Scale,
+    scale: &Scale,
     last: &mut Worked,
     standing: &Standing,
     tickets: u64,
 ) -> Prio
-    ensures prio { IsWorked sched.now scale last.old
-        → result ≡ prio_of sched.now scale (standing.now, tickets) }
-    ensures kept { IsWorked sched.now scale last.old → IsWorked sched.now scale last.new }
+    ensures prio { IsWorked sched.now scale.now last.old
+        → result ≡ prio_of sched.now scale.now (standing.now, tickets) }
+    ensures kept { IsWorked sched.now scale.now last.old → IsWorked sched.now scale.now last.new }
 {
-    match standing.urgent {
-        None => Prio {
+    let Some(urgent) = standing.urgent else {
+        return Prio {
             job: standing.job,
             np: 0,
             nu: 0,
             nt: 0,
             total: 0,
-        },
-        Some(urgent) => prio_after(sched, scale, last, standing.job, urgent, tickets),
-    }
+        };
+    };
+    let candidate = Candidate {
+        job: standing.job,
+        priority: urgent.priority,
+        tickets,
+        urgency: urgent.urgency,
+    };
+    prio_after(sched, scale, last, &candidate)
 }
 
 // What is worked out for a job that has nothing, to begin with.
-fn first_worked(sched: &Sched, scale: Scale) -> Worked
-    ensures { IsWorked sched.now scale result }
+fn first_worked(sched: &Sched, scale: &Scale) -> Worked
+    ensures { IsWorked sched.now scale.now result }
 {
-    let nothing = Urgent {
+    let nothing = Candidate {
+        job: 0,
         priority: 0,
+        tickets: 0,
         urgency: 0,
     };
-    work_out(sched, scale, nothing, 0)
+    work_out(sched, scale, &nothing)
 }
 
 fn prios_on(
     alloc: Global,
     sched: &Sched,
-    scale: Scale,
+    scale: &Scale,
     standings: &[Standing],
     tickets: &[u64],
 ) -> Result<List<Prio>, AllocError>
-    ensures { IfOk result (λ prios. prios ≡ map (prio_of sched.now scale)
+    ensures { IfOk result (λ prios. prios ≡ map (prio_of sched.now scale.now)
         (zip standings.now tickets.now)) }
 {
     let mut prios = Vec::with_capacity(alloc, standings.len())?;
@@ -129,36 +129,24 @@ fn prios_known(
         high,
         most: greatest(tickets),
     };
-    let prios = prios_on(alloc, &c.sched, scale, standings, tickets)?;
+    let prios = prios_on(alloc, &c.sched, &scale, standings, tickets)?;
     Ok(prios)
-}
-
-fn prio_of_one(sched: &Sched, scale: Scale, last: &mut Worked, candidate: &Candidate) -> Prio
-    ensures prio { IsWorked sched.now scale last.old
-        → result ≡ prio_of_candidate sched.now scale candidate.now }
-    ensures kept { IsWorked sched.now scale last.old → IsWorked sched.now scale last.new }
-{
-    let urgent = Urgent {
-        priority: candidate.priority,
-        urgency: candidate.urgency,
-    };
-    prio_after(sched, scale, last, candidate.job, urgent, candidate.tickets)
 }
 
 // The priorities of candidates, by what their urgencies and tickets are parts of.
 fn prios_gathered(
     alloc: Global,
     sched: &Sched,
-    scale: Scale,
+    scale: &Scale,
     candidates: &[Candidate],
 ) -> Result<List<Prio>, AllocError>
     ensures { IfOk result (λ prios. prios
-        ≡ map (prio_of_candidate sched.now scale) candidates.now) }
+        ≡ map (prio_of_candidate sched.now scale.now) candidates.now) }
 {
     let mut prios = Vec::with_capacity(alloc, candidates.len())?;
     let mut last = first_worked(sched, scale);
     for candidate in candidates {
-        prios.push_reserved(prio_of_one(sched, scale, &mut last, candidate));
+        prios.push_reserved(prio_after(sched, scale, &mut last, candidate));
     }
     Ok(List::from_vec(prios))
 }
@@ -193,6 +181,6 @@ pub fn own_prios(alloc: Global, c: &Cluster, now: u64) -> Result<Option<List<Pri
         return Ok(None);
     };
     let found = gather(alloc, c, shorts.rows, now)?;
-    let prios = prios_gathered(alloc, &c.sched, found.scale, found.candidates.as_slice())?;
+    let prios = prios_gathered(alloc, &c.sched, &found.scale, found.candidates.as_slice())?;
     Ok(Some(prios))
 }

@@ -4,9 +4,9 @@ ghost use Rattle.ge_model_order.specs.Priority as priorities;
 ghost use Rattle.ge_order.specs.Weighed as weighed;
 ghost use Rattle.ge_order.specs.Weighed.{worked_by, IsWorked};
 
+use crate::gathering::Candidate;
 use crate::parts::{priority_part, tickets_part, urgency_part, weighted_sum};
 use crate::priority::Scale;
-use crate::standing::Urgent;
 use ge_rows::Sched;
 
 /// Three numbers of a job, and what is worked out from them: the parts of its priority, and their weighted sum.
@@ -29,15 +29,15 @@ pub(crate) struct Worked {
 }
 
 // The numbers of a job with the parts of its priority, which are weighted here.
-fn with_parts(sched: &Sched, urgent: Urgent, tickets: u64, parts: (u64, u64, u64)) -> Worked
-    ensures { result ≡ weighed.with_parts sched.now urgent.priority urgent.urgency tickets
-        parts.0 parts.1 parts.2 }
+fn with_parts(sched: &Sched, candidate: &Candidate, parts: (u64, u64, u64)) -> Worked
+    ensures { result ≡ weighed.with_parts sched.now candidate.now.priority candidate.now.urgency
+        candidate.now.tickets parts.0 parts.1 parts.2 }
 {
     let (np, nu, nt) = parts;
     Worked {
-        priority: urgent.priority,
-        urgency: urgent.urgency,
-        tickets,
+        priority: candidate.priority,
+        urgency: candidate.urgency,
+        tickets: candidate.tickets,
         np,
         nu,
         nt,
@@ -45,15 +45,16 @@ fn with_parts(sched: &Sched, urgent: Urgent, tickets: u64, parts: (u64, u64, u64
     }
 }
 
-/// What is worked out from these numbers.
+/// What is worked out from the numbers of a candidate.
 #[tactic(auto, using(crate::proofs::Reworked::worked_anew))]
-pub(crate) fn work_out(sched: &Sched, scale: Scale, urgent: Urgent, tickets: u64) -> Worked
-    ensures { result ≡ worked_by sched.now scale urgent.priority urgent.urgency tickets }
+pub(crate) fn work_out(sched: &Sched, scale: &Scale, candidate: &Candidate) -> Worked
+    ensures { result ≡ worked_by sched.now scale.now candidate.now.priority candidate.now.urgency
+        candidate.now.tickets }
 {
-    let np = priority_part(urgent.priority);
-    let nu = urgency_part(scale.low, scale.high, urgent.urgency);
-    let nt = tickets_part(scale.most, tickets);
-    with_parts(sched, urgent, tickets, (np, nu, nt))
+    let np = priority_part(candidate.priority);
+    let nu = urgency_part(scale.low, scale.high, candidate.urgency);
+    let nt = tickets_part(scale.most, candidate.tickets);
+    with_parts(sched, candidate, (np, nu, nt))
 }
 
 fn np_after(last: &Worked, priority: i32) -> u64
@@ -67,9 +68,9 @@ fn np_after(last: &Worked, priority: i32) -> u64
     }
 }
 
-fn nu_after(scale: Scale, last: &Worked, urgency: u128) -> u64
-    ensures { last.now.nu ≡ priorities.urgency_part scale.low scale.high last.now.urgency
-        → result ≡ priorities.urgency_part scale.low scale.high urgency }
+fn nu_after(scale: &Scale, last: &Worked, urgency: u128) -> u64
+    ensures { last.now.nu ≡ priorities.urgency_part scale.now.low scale.now.high last.now.urgency
+        → result ≡ priorities.urgency_part scale.now.low scale.now.high urgency }
 {
     if last.urgency == urgency {
         last.nu
@@ -78,9 +79,9 @@ fn nu_after(scale: Scale, last: &Worked, urgency: u128) -> u64
     }
 }
 
-fn nt_after(scale: Scale, last: &Worked, tickets: u64) -> u64
-    ensures { last.now.nt ≡ priorities.tickets_part scale.most last.now.tickets
-        → result ≡ priorities.tickets_part scale.most tickets }
+fn nt_after(scale: &Scale, last: &Worked, tickets: u64) -> u64
+    ensures { last.now.nt ≡ priorities.tickets_part scale.now.most last.now.tickets
+        → result ≡ priorities.tickets_part scale.now.most tickets }
 {
     if last.tickets == tickets {
         last.nt
@@ -92,31 +93,35 @@ fn nt_after(scale: Scale, last: &Worked, tickets: u64) -> u64
 // The same after another job: a part whose number hasn't changed is kept.
 #[cold]
 #[tactic(auto, using(crate::proofs::Reworked::worked_anew))]
-fn worked_after(sched: &Sched, scale: Scale, last: &Worked, urgent: Urgent, tickets: u64) -> Worked
-    ensures { IsWorked sched.now scale last.now
-        → result ≡ worked_by sched.now scale urgent.priority urgent.urgency tickets }
+fn worked_after(sched: &Sched, scale: &Scale, last: &Worked, candidate: &Candidate) -> Worked
+    ensures { IsWorked sched.now scale.now last.now
+        → result ≡ worked_by sched.now scale.now candidate.now.priority candidate.now.urgency
+        candidate.now.tickets }
 {
-    let np = np_after(last, urgent.priority);
-    let nu = nu_after(scale, last, urgent.urgency);
-    let nt = nt_after(scale, last, tickets);
-    with_parts(sched, urgent, tickets, (np, nu, nt))
+    let np = np_after(last, candidate.priority);
+    let nu = nu_after(scale, last, candidate.urgency);
+    let nt = nt_after(scale, last, candidate.tickets);
+    with_parts(sched, candidate, (np, nu, nt))
 }
 
-fn is_of(last: &Worked, urgent: Urgent, tickets: u64) -> bool
-    ensures priority { IsTrue result → last.now.priority ≡ urgent.priority }
-    ensures urgency { IsTrue result → last.now.urgency ≡ urgent.urgency }
-    ensures tickets { IsTrue result → last.now.tickets ≡ tickets }
+fn is_of(last: &Worked, candidate: &Candidate) -> bool
+    ensures priority { IsTrue result → last.now.priority ≡ candidate.now.priority }
+    ensures urgency { IsTrue result → last.now.urgency ≡ candidate.now.urgency }
+    ensures tickets { IsTrue result → last.now.tickets ≡ candidate.now.tickets }
 {
-    last.tickets == tickets && last.urgency == urgent.urgency && last.priority == urgent.priority
+    last.tickets == candidate.tickets
+        && last.urgency == candidate.urgency
+        && last.priority == candidate.priority
 }
 
-/// Works on to the next job, from what was worked out for the last one.
+/// Works on to the next candidate, from what was worked out for the last one.
 #[tactic(auto, using(crate::proofs::Reworked::worked_again))]
-pub(crate) fn work_on(sched: &Sched, scale: Scale, last: &mut Worked, urgent: Urgent, tickets: u64)
-    ensures { IsWorked sched.now scale last.old
-        → last.new ≡ worked_by sched.now scale urgent.priority urgent.urgency tickets }
+pub(crate) fn work_on(sched: &Sched, scale: &Scale, last: &mut Worked, candidate: &Candidate)
+    ensures { IsWorked sched.now scale.now last.old
+        → last.new ≡ worked_by sched.now scale.now candidate.now.priority candidate.now.urgency
+        candidate.now.tickets }
 {
-    if !is_of(last, urgent, tickets) {
-        *last = worked_after(sched, scale, last, urgent, tickets);
+    if !is_of(last, candidate) {
+        *last = worked_after(sched, scale, last, candidate);
     }
 }

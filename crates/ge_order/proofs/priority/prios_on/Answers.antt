@@ -8,7 +8,7 @@ pub loop-standing-preserved : goal.loop-standing-preserved
 loop-standing-preserved c =
     let before = c.loop-standing.invariant in
     let taken = Zip-more c.loop-standing.standing-iterator c.next.new.self _ _ c.in-Some.is c.next.ensures.steps in (
-      zipped_more (prio_of c.args.sched.now c.args.scale) _ _ _ _ _ _ _ _ _ _ taken.0 taken.1 before.0 c.push_reserved.ensures.items (c.prio_at.ensures.prio before.1),
+      zipped_more (prio_of c.args.sched.now c.args.scale.now) _ _ _ _ _ _ _ _ _ _ taken.0 taken.1 before.0 c.push_reserved.ensures.items (c.prio_at.ensures.prio before.1),
       c.prio_at.ensures.kept before.1,
       omega (arith, ap length taken.0, before.2, c.push_reserved.ensures.len, c.push_reserved.ensures.capacity),
     )
@@ -20,4 +20,4 @@ push_reserved-requires c =
 
 pub returns : goal.returns
 returns c =
-    c.from_vec.ensures ∙ zipped_out (prio_of c.args.sched.now c.args.scale) _ _ _ _ c.loop-standing.invariant.0 (either_empty_from_Zip c.loop-standing.standing-iterator c.next.new.self _ c.in-None.is c.next.ensures.steps)
+    c.from_vec.ensures ∙ zipped_out (prio_of c.args.sched.now c.args.scale.now) _ _ _ _ c.loop-standing.invariant.0 (either_empty_from_Zip c.loop-standing.standing-iterator c.next.new.self _ c.in-None.is c.next.ensures.steps)
