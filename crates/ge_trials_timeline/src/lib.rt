@@ -1,5 +1,5 @@
-//! Tries the indexed timeline: thousands of drawn bookings against plain sums, bookings that are taken out again, ends,
-//! and a hundred thousand bookings with ten times as many windows. Nothing stands on this crate.
+//! Tries the indexed timeline: thousands of drawn bookings against plain sums, bookings that are taken out again, ends, a
+//! hundred thousand bookings with ten times as many windows, and a thousand limits. Nothing stands on this crate.
 #![tactic(auto)]
 
 #[cfg(test)]
@@ -10,3 +10,5 @@ mod making;
 mod many;
 #[cfg(test)]
 mod removing;
+#[cfg(test)]
+mod scattered;
