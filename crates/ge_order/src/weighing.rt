@@ -91,7 +91,6 @@ fn nt_after(scale: &Scale, last: &Worked, tickets: u64) -> u64
 }
 
 // The same after another job: a part whose number hasn't changed is kept.
-#[cold]
 #[tactic(auto, using(crate::proofs::Reworked::worked_anew))]
 fn worked_after(sched: &Sched, scale: &Scale, last: &Worked, candidate: &Candidate) -> Worked
     ensures { IsWorked sched.now scale.now last.now
