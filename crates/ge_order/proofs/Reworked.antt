@@ -1,8 +1,8 @@
 -- What was worked out for one job serves the next.
-use Rattle.std.proofs.Common.{◌≡◌, ap, sym, ◌∙◌}
+use Rattle.std.proofs.Common.{◌≡◌, ◌∙◌}
 use Rattle.std.specs.Prelude.{ℕ, ℤ}
 use Rattle.ge_model_rows.specs.SettingRows.{Sched}
-use Rattle.ge_model_order.specs.Priority.{priority_part, urgency_part, tickets_part, prio_with}
+use Rattle.ge_model_order.specs.Priority.{priority_part, urgency_part, tickets_part}
 use Rattle.ge_order.specs.declared.priority.Scale.{Scale}
 use Rattle.ge_order.specs.declared.weighing.Worked.{Worked}
 use Rattle.ge_order.specs.Weighed.{with_parts, worked_by, IsWorked}
@@ -17,14 +17,3 @@ module _ (sched : Sched) (scale : Scale) where
   pub worked_anew : (priority : ℤ) (urgency tickets np nu nt : ℕ) → np ≡ priority_part priority → nu ≡ urgency_part scale.low scale.high urgency → nt ≡ tickets_part scale.most tickets
       → with_parts sched priority urgency tickets np nu nt ≡ worked_by sched scale priority urgency tickets
   worked_anew priority urgency tickets np nu nt one two three = λ i. with_parts sched priority urgency tickets (one i) (two i) (three i)
-
-  -- what was worked out from some numbers was worked out from its own
-  pub still_worked : (worked : Worked) (priority : ℤ) (urgency tickets : ℕ) → worked ≡ worked_by sched scale priority urgency tickets → IsWorked sched scale worked
-  still_worked worked priority urgency tickets is = is ∙ ap (λ (w : Worked). worked_by sched scale w.priority w.urgency w.tickets) (sym is)
-
-  -- the priority of a job by what was worked out from its numbers
-  pub prio_worked : (worked : Worked) (number : ℕ) (priority : ℤ) (urgency tickets : ℕ) → worked ≡ worked_by sched scale priority urgency tickets
-      → record { job = number; np = worked.np; nu = worked.nu; nt = worked.nt; total = worked.total }
-      ≡ prio_with sched number (priority_part priority) (urgency_part scale.low scale.high urgency) (tickets_part scale.most tickets)
-  prio_worked worked number priority urgency tickets is =
-      ap (λ (w : Worked). record { job = number; np = w.np; nu = w.nu; nt = w.nt; total = w.total }) is
