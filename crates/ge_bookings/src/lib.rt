@@ -11,6 +11,6 @@ mod limits;
 mod sums;
 mod windows;
 
-pub use limits::{is_same_instance, is_same_limit};
+pub use limits::{is_same_instance, is_same_limit, is_same_name};
 pub use sums::sum_at;
 pub use windows::{FOREVER, end_of_window, peak};

@@ -5,6 +5,7 @@ ghost use Rattle.ge_model_place.specs.Placement.{room_of};
 ghost use Rattle.ge_demands.specs.Counts.{counted_as, all_counted};
 ghost use Rattle.ge_place.specs.Spots.{room_as, rooms_as, is_free_at, rooms_at, cell_in, is_in, IsSeen};
 
+use ge_bookings::is_same_name;
 use ge_demands::{Counted, counted_limits};
 use ge_opening::is_open;
 use ge_rows::{Cluster, Groups, InstanceId, Job, LimitId, Text};
@@ -71,7 +72,7 @@ pub(crate) fn has_instance(site: Site<'_>, at: &InstanceId) -> bool
 {
     match site {
         Site::Everywhere => true,
-        Site::Host(host) => at.host == *host,
+        Site::Host(host) => is_same_name(&at.host, host),
     }
 }
 

@@ -9,7 +9,7 @@ ghost use Rattle.ge_scheduling.specs.Vacant.{slots_of};
 
 use crate::setting::Setting;
 use crate::vacancy::slots_at;
-use ge_bookings::is_same_instance;
+use ge_bookings::{is_same_instance, is_same_name};
 use ge_complex::is_consumable;
 use ge_demands::{Counted, capacity};
 use ge_rows::{Decision, Grant, HostRow, InstanceId, LimitId, List, Text, Twin, twins3};
@@ -174,7 +174,9 @@ pub(crate) fn all_rests(
 fn place_of(order: &[InstanceId], instance: &InstanceId) -> Option<usize>
     ensures { result ≡ position (λ other. same_instance other instance.now) order.now }
 {
-    order.iter().position(|other| is_same_instance(other, instance))
+    order
+        .iter()
+        .position(|other| is_same_instance(other, instance))
 }
 
 fn renew_at(
@@ -241,11 +243,11 @@ pub(crate) fn is_of_resource(limit: &LimitId, resource: &Text) -> bool
     ensures { result ≡ is_of limit.now resource.now }
 {
     match limit {
-        LimitId::Instance(_, name) => *name == *resource,
-        LimitId::Host(_, name) => *name == *resource,
-        LimitId::Global(name) => *name == *resource,
+        LimitId::Instance(_, name) => is_same_name(name, resource),
+        LimitId::Host(_, name) => is_same_name(name, resource),
+        LimitId::Global(name) => is_same_name(name, resource),
         LimitId::Pe(_) => false,
-        LimitId::Quota(key) => key.resource == *resource,
+        LimitId::Quota(key) => is_same_name(&key.resource, resource),
         LimitId::Advance(_, _) => false,
     }
 }
