@@ -16,7 +16,7 @@ use ge_scheduling::{
 use std::alloc::{AllocError, Global};
 
 /// How many jobs are put in order before it is asked whether all others wait. Most runs of a full cluster have few slots to
-/// give, and none that has many more loses by it.
+/// give; one that goes on to the others has walked the priorities once more.
 const FEW: usize = 256;
 
 // The run with the tasks of the jobs of these priorities decided too, in their order.
