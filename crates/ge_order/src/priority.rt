@@ -10,7 +10,7 @@ ghost use Rattle.ge_order.specs.Weighed.{IsWorked};
 
 use crate::gathering::{Candidate, gather};
 use crate::standing::{Standing, extremes, standings};
-use crate::weighing::{Worked, work_on, work_out};
+use crate::weighing::{Worked, work_on, work_out, worked_after};
 use ge_rows::{Cluster, List, Prio, Sched};
 use ge_tickets::has_own_alone;
 use std::alloc::{AllocError, Global};
@@ -36,20 +36,33 @@ fn greatest(tickets: &[u64]) -> u64
     most
 }
 
+// The priority of a job for which this was worked out.
+fn prio_by(job: u32, worked: &Worked) -> Prio
+    ensures { result ≡ record {
+      job = job;
+      np = worked.now.np;
+      nu = worked.now.nu;
+      nt = worked.now.nt;
+      total = worked.now.total;
+    } }
+{
+    Prio {
+        job,
+        np: worked.np,
+        nu: worked.nu,
+        nt: worked.nt,
+        total: worked.total,
+    }
+}
+
 // The priority of a candidate, after what was worked out for the last one.
-fn prio_after(sched: &Sched, scale: &Scale, last: &mut Worked, candidate: &Candidate) -> Prio
+fn prio_after(sched: &Sched, scale: &Scale, last: &mut Worked, candidate: Candidate) -> Prio
     ensures prio { IsWorked sched.now scale.now last.old
-        → result ≡ prio_of_candidate sched.now scale.now candidate.now }
+        → result ≡ prio_of_candidate sched.now scale.now candidate }
     ensures kept { IsWorked sched.now scale.now last.old → IsWorked sched.now scale.now last.new }
 {
     work_on(sched, scale, last, candidate);
-    Prio {
-        job: candidate.job,
-        np: last.np,
-        nu: last.nu,
-        nt: last.nt,
-        total: last.total,
-    }
+    prio_by(candidate.job, last)
 }
 
 // The same of a job that may not be there.
@@ -79,7 +92,8 @@ fn prio_at(
         tickets,
         urgency: urgent.urgency,
     };
-    prio_after(sched, scale, last, &candidate)
+    *last = worked_after(sched, scale, last, candidate);
+    prio_by(standing.job, last)
 }
 
 // What is worked out for a job that has nothing, to begin with.
@@ -146,7 +160,7 @@ fn prios_gathered(
     let mut prios = Vec::with_capacity(alloc, candidates.len())?;
     let mut last = first_worked(sched, scale);
     for candidate in candidates {
-        prios.push_reserved(prio_after(sched, scale, &mut last, candidate));
+        prios.push_reserved(prio_after(sched, scale, &mut last, *candidate));
     }
     Ok(List::from_vec(prios))
 }
