@@ -1,17 +1,15 @@
 -- Jobs of one kind ask alike, and short rows tell what is known of jobs.
-use Rattle.std.proofs.Common.{◌≡◌, ℕ, Bool, true, false, List, [], Option, Some, None, cond, refl, sym, ap, ◌∙◌, map}
-use Rattle.std.specs.Prelude.{refl as same}
+use Rattle.std.proofs.Common.{◌≡◌, ◌<◌, ℕ, List, Option, Some, None, refl, sym, ap, ◌∙◌, map, length, get_or, replicate}
+use Rattle.std.specs.Prelude.{slice_set, refl as same}
 use Rattle.std.specs.Ordering.{nat_cmp}
-use Rattle.std.specs.BTreeMap.{is_at}
 use Rattle.std.specs.Option.{option_map}
-use Rattle.std.proofs.lemmas.Map.Lookups.{exact_unsigned}
-use Rattle.ge_collections.specs.Changed.{ChangesAt}
+use Rattle.std.proofs.lemmas.List.Elements.{All-get_or, All-set, All-replicate}
 use Rattle.ge_collections.specs.Keyed.{at_number}
 use Rattle.ge_collections.specs.Short.{AreShort, short_of}
 use Rattle.ge_collections.specs.declared.short_row.ShortRow.{ShortRow}
 use Rattle.ge_model_rows.specs.ClusterRows.{Cluster}
 use Rattle.ge_model_rows.specs.JobRows.{Job}
-use Rattle.ge_model_jobs.proofs.SameKind.{equal_at, one_kind}
+use Rattle.ge_model_jobs.proofs.SameKind.{one_kind}
 use Rattle.ge_model_order.specs.Urgency.{resources_urgency, urgency_of}
 use Rattle.ge_rows.specs.JobShort.{job_facts, job_labels}
 use Rattle.ge_rows.specs.declared.labels.JobFacts.{JobFacts}
@@ -51,22 +49,6 @@ module _ (c : Cluster) (rows : List (ℕ × ShortRow JobFacts)) (bound : ℕ) (a
   rows_tell = record { alike = same_asked; facts = same_facts }
 
 module _ (c : Cluster) (rows : List (ℕ × ShortRow JobFacts)) where
-  -- what is known of kinds, with one more
-  pub kept_more : (before after : List (ℕ × ℕ)) (kind asked number : ℕ) → SameAsked c rows → AreAsked c rows before → kind_in rows number ≡ Some kind → asked ≡ asked_of c number
-      → ChangesAt nat_cmp kind (λ _. Some asked) before after → AreAsked c rows after
-  kept_more before after kind asked number alike are here is changes other found told q of_kind =
-      by (is_at (nat_cmp kind) other) same (sym (changes other) ∙ told)
-    where
-      by : (b : Bool) → is_at (nat_cmp kind) other ≡ b → cond b (Some asked) (at_number before other) ≡ Some found → found ≡ asked_of c q
-      by true at e =
-          let value : asked ≡ found = cc in
-          let one : kind ≡ other = exact_unsigned kind other (equal_at (nat_cmp kind other) at) in
-          sym value ∙ is ∙ alike number q kind here (of_kind ∙ ap (λ k. Some k) (sym one))
-      by false at e = are other found e q of_kind
-
-  pub none_asked : (kinds : List (ℕ × ℕ)) → kinds ≡ [] → AreAsked c rows kinds
-  none_asked kinds none kind asked told number of_kind = absurd (let never : ◌≡◌ {A = Option ℕ} None (Some asked) = sym (ap (λ ks. at_number ks kind) none) ∙ told in cc)
-
   pub none_last : (last : Option (ℕ × ℕ)) → last ≡ None → IsAsked c rows last
   none_last last none kind asked told = absurd (let never : ◌≡◌ {A = Option (ℕ × ℕ)} None (Some (kind, asked)) = sym none ∙ told in cc)
 
@@ -75,6 +57,19 @@ module _ (c : Cluster) (rows : List (ℕ × ShortRow JobFacts)) where
   last_more last kind asked number alike here is kept other found told q of_kind =
       let same_pair : ◌≡◌ {A = ℕ × ℕ} (kind, asked) (other, found) = ap (λ (o : Option (ℕ × ℕ)). elim o as (λ (o : Option (ℕ × ℕ)). ℕ × ℕ) [ None ↦ (kind, asked) | Some pair ↦ pair ]) (sym kept ∙ told) in
       sym (ap (λ (p : ℕ × ℕ). p.1) same_pair) ∙ is ∙ alike number q kind here (of_kind ∙ ap (λ (p : ℕ × ℕ). Some p.0) (sym same_pair))
+
+  -- what is kept at a place is so
+  pub kept_at : (kinds : List (Option (ℕ × ℕ))) (other : Option (ℕ × ℕ)) (place kind asked number : ℕ) → AreAsked c rows kinds → place < length kinds → get_or kinds place other ≡ Some (kind, asked) → kind_in rows number ≡ Some kind
+      → asked ≡ asked_of c number
+  kept_at kinds other place kind asked number are within told here = All-get_or (IsAsked c rows) kinds place other within are kind asked told number here
+
+  -- and still is with another one
+  pub kept_more : (kinds : List (Option (ℕ × ℕ))) (place kind asked number : ℕ) → SameAsked c rows → AreAsked c rows kinds → kind_in rows number ≡ Some kind → asked ≡ asked_of c number
+      → AreAsked c rows (slice_set kinds place (Some (kind, asked)))
+  kept_more kinds place kind asked number alike are here is = All-set (IsAsked c rows) kinds place (Some (kind, asked)) (last_more (Some (kind, asked)) kind asked number alike here is refl) are
+
+  pub none_asked : (places : ℕ) → AreAsked c rows (replicate places None)
+  none_asked places = All-replicate (IsAsked c rows) places None (none_last None refl)
 
   pub kind_of_row : (number : ℕ) (row : ShortRow JobFacts) → at_number rows number ≡ Some row → kind_in rows number ≡ Some row.third
   kind_of_row number row there = ap (λ found. option_map (λ r. r.third) found) there

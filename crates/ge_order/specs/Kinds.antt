@@ -1,5 +1,5 @@
 -- What requests add to urgency, by the kinds of jobs, and what short rows tell of the jobs of a list.
-use Rattle.std.specs.Prelude.{◌≡◌, ℕ, ◌-◌, ◌/◌, ◌^◌, ◌==◌, if◌then◌else◌, min, max, List, Option, Some, None}
+use Rattle.std.specs.Prelude.{◌≡◌, ℕ, ◌-◌, ◌/◌, ◌^◌, ◌==◌, if◌then◌else◌, min, max, List, All, Option, Some, None}
 use Rattle.std.specs.Option.{option_map}
 use Rattle.ge_base.specs.Fixed.{cut_sum, cut_product}
 use Rattle.ge_collections.specs.Keyed.{at_number}
@@ -23,13 +23,13 @@ asked_of c number = elim (at_number c.jobs number) [ None ↦ 0 | Some job ↦ r
 abbrev pub SameAsked : Cluster → List (ℕ × ShortRow JobFacts) → Type 0
 SameAsked c rows = (first second kind : ℕ) → kind_in rows first ≡ Some kind → kind_in rows second ≡ Some kind → asked_of c first ≡ asked_of c second
 
--- each of these kinds has what the requests of its jobs add
-abbrev pub AreAsked : Cluster → List (ℕ × ShortRow JobFacts) → List (ℕ × ℕ) → Type 0
-AreAsked c rows kinds = (kind asked : ℕ) → at_number kinds kind ≡ Some asked → (number : ℕ) → kind_in rows number ≡ Some kind → asked ≡ asked_of c number
-
 -- a kind has what the requests of its jobs add, if one is kept
 abbrev pub IsAsked : Cluster → List (ℕ × ShortRow JobFacts) → Option (ℕ × ℕ) → Type 0
 IsAsked c rows last = (kind asked : ℕ) → last ≡ Some (kind, asked) → (number : ℕ) → kind_in rows number ≡ Some kind → asked ≡ asked_of c number
+
+-- and so has each of these
+abbrev pub AreAsked : Cluster → List (ℕ × ShortRow JobFacts) → List (Option (ℕ × ℕ)) → Type 0
+AreAsked c rows kinds = All (IsAsked c rows) kinds
 
 -- short rows are those of the jobs
 pub record TellJobs (c : Cluster) (rows : List (ℕ × ShortRow JobFacts)) : Type 0 where

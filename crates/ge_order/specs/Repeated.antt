@@ -7,7 +7,7 @@ use Rattle.ge_model_rows.specs.ClusterRows.{Cluster}
 use Rattle.ge_model_rows.specs.ScheduleRows.{Prio}
 use Rattle.ge_model_rows.specs.SettingRows.{Sched}
 use Rattle.ge_rows.specs.declared.labels.JobFacts.{JobFacts}
-use Rattle.ge_order.specs.Kinds.{kind_in, asked_of, AreAsked, IsAsked, urgency_by}
+use Rattle.ge_order.specs.Kinds.{kind_in, asked_of, AreAsked, urgency_by}
 use Rattle.ge_order.specs.Standings.{lesser, urgencies_of}
 use Rattle.ge_order.specs.declared.gathering.Candidate.{Candidate}
 use Rattle.ge_order.specs.declared.priority.Scale.{Scale}
@@ -27,10 +27,9 @@ seen_more seen row urgency = record { last = Some (urged_by row urgency); low = 
 abbrev pub IsUrged : Cluster → List (ℕ × ShortRow JobFacts) → ℕ → Option Urged → Type 0
 IsUrged c rows now last = (urged : Urged) → last ≡ Some urged → (number : ℕ) → kind_in rows number ≡ Some urged.kind → urged.urgency ≡ urgency_by c (asked_of c number) urged.submitted urged.deadline now
 
--- what is kept of kinds, of one kind and of the last job is so of all jobs that are alike
-pub record Knows (c : Cluster) (rows : List (ℕ × ShortRow JobFacts)) (now : ℕ) (kinds : List (ℕ × ℕ)) (asked : Option (ℕ × ℕ)) (last : Option Urged) : Type 0 where
+-- what is kept of kinds and of the last job is so of all jobs that are alike
+pub record Knows (c : Cluster) (rows : List (ℕ × ShortRow JobFacts)) (now : ℕ) (kinds : List (Option (ℕ × ℕ))) (last : Option Urged) : Type 0 where
   pub all : AreAsked c rows kinds
-  pub one : IsAsked c rows asked
   pub alike : IsUrged c rows now last
 
 -- the last urgency changes neither the least nor the greatest one

@@ -7,10 +7,11 @@ ghost use Rattle.ge_order.specs.Told.{chosen};
 
 use crate::asked::slots_complex;
 use crate::choosing::has_task;
+use crate::kinds::no_kinds;
 use crate::parts::cut_at_64;
 use crate::priority::Scale;
 use crate::repeating::{nothing_seen, urgency_again};
-use ge_rows::{Cluster, JobFacts, ShortRow, Table};
+use ge_rows::{Cluster, JobFacts, ShortRow};
 use std::alloc::{AllocError, Global};
 use std::collections::BTreeMap;
 
@@ -61,15 +62,13 @@ pub(crate) fn gather(
         (map standing found.candidates.items) (map (λ x. x.tickets) found.candidates.items)) }
 {
     let unit = slots_complex(c);
-    let (mut kinds, mut asked) = (Table::new(alloc), None);
+    let mut kinds = no_kinds();
     let (mut seen, mut most) = (nothing_seen(), 0);
     let mut candidates = Vec::with_capacity(alloc, rows.len())?;
     for (number, row) in rows.iter() {
         let (number, row) = (*number, *row);
         if has_task(alloc, c, number, &row, now)? {
-            let urgency = urgency_again(
-                c, unit, &mut kinds, &mut asked, &mut seen, number, &row, now,
-            )?;
+            let urgency = urgency_again(c, unit, &mut kinds, &mut seen, number, &row, now);
             let candidate = candidate_by(number, &row, urgency);
             most = most.max(candidate.tickets);
             candidates.push_reserved(candidate);

@@ -1,15 +1,28 @@
-// What requests add to urgency, worked out once for each kind of job.
-ghost use Rattle.std.specs.Prelude.{◌≡◌, ℕ, List as Items, Some, IfOk, IfSome, OnOk, codes};
+// What requests add to urgency, kept for kinds of jobs: a walk meets few of them, and mostly the same ones again.
+ghost use Rattle.std.specs.Prelude.{◌≡◌, ℕ, List as Items, Some, IfSome, codes};
 ghost use Rattle.std.specs.Option.{option_copied};
 ghost use Rattle.ge_collections.specs.declared.short_row.ShortRow.{ShortRow as Short};
 ghost use Rattle.ge_model_value.specs.Complexes.{complex_at};
+ghost use Rattle.ge_model_rows.specs.ClusterRows.{Cluster as Rows};
 ghost use Rattle.ge_rows.specs.declared.labels.JobFacts.{JobFacts as Facts};
-ghost use Rattle.ge_order.specs.Kinds.{kind_in, asked_of, SameAsked, AreAsked, IsAsked};
+ghost use Rattle.ge_order.specs.Kinds.{kind_in, asked_of, SameAsked, AreAsked};
 
 use crate::asked::resources_urgency;
 use ge_jobs::get;
-use ge_rows::{Cluster, ComplexDef, Table};
-use std::alloc::AllocError;
+use ge_rows::{Cluster, ComplexDef};
+
+/// How many kinds are kept.
+const PLACES: usize = 64;
+
+/// Numbers of kinds with what their requests add, each at the place that its number gives.
+pub(crate) type Kinds = [Option<(u32, u128)>; PLACES];
+
+/// What is kept before the first job.
+pub(crate) fn no_kinds() -> Kinds
+    ensures { (c : Rows) (rows : Items (ℕ × Short Facts)) → AreAsked c rows result }
+{
+    [None; PLACES]
+}
 
 // What the request of a job adds.
 fn request_urgency(c: &Cluster, unit: Option<&ComplexDef>, number: u32) -> u128
@@ -22,67 +35,37 @@ fn request_urgency(c: &Cluster, unit: Option<&ComplexDef>, number: u32) -> u128
     }
 }
 
-/// What the request of a job of a kind adds: that of another of its kind, where one was worked out.
-pub(crate) fn kind_urgency(
-    c: &Cluster,
-    unit: Option<&ComplexDef>,
-    kinds: &mut Table<u32, u128>,
-    kind: u32,
-    number: u32,
-) -> Result<u128, AllocError>
-    ensures asked { (rows : Items (ℕ × Short Facts)) → option_copied unit.entry
-        ≡ complex_at c.now (codes "slots") → kind_in rows number ≡ Some kind
-        → AreAsked c.now rows kinds.old → IfOk result (λ asked. asked ≡ asked_of c.now number) }
-    ensures kept { (rows : Items (ℕ × Short Facts)) → option_copied unit.entry
-        ≡ complex_at c.now (codes "slots") → kind_in rows number ≡ Some kind
-        → SameAsked c.now rows → AreAsked c.now rows kinds.old
-        → OnOk result (AreAsked c.now rows kinds.new) }
+fn of_kind(kept: &Option<(u32, u128)>, kind: u32) -> Option<u128>
+    ensures { IfSome result (λ asked. kept.now ≡ Some (kind, asked)) }
 {
-    if let Some(asked) = kinds.get(&kind) {
-        return Ok(*asked);
-    }
-    let asked = request_urgency(c, unit, number);
-    kinds.insert(kind, asked)?;
-    Ok(asked)
-}
-
-fn of_last(last: &Option<(u32, u128)>, kind: u32) -> Option<u128>
-    ensures { IfSome result (λ asked. last.now ≡ Some (kind, asked)) }
-{
-    match last {
+    match kept {
         Some((known, asked)) if *known == kind => Some(*asked),
         _ => None,
     }
 }
 
-/// The same, where the kind that was asked for last is at hand: jobs that follow each other are mostly of one kind.
-pub(crate) fn asked_again(
+/// What the request of a job of a kind adds: that of another of its kind, where one is kept.
+pub(crate) fn kind_urgency(
     c: &Cluster,
     unit: Option<&ComplexDef>,
-    kinds: &mut Table<u32, u128>,
-    last: &mut Option<(u32, u128)>,
+    kinds: &mut Kinds,
     kind: u32,
     number: u32,
-) -> Result<u128, AllocError>
+) -> u128
     ensures asked { (rows : Items (ℕ × Short Facts)) → option_copied unit.entry
         ≡ complex_at c.now (codes "slots") → kind_in rows number ≡ Some kind
-        → AreAsked c.now rows kinds.old → IsAsked c.now rows last.old
-        → IfOk result (λ asked. asked ≡ asked_of c.now number) }
+        → AreAsked c.now rows kinds.old → result ≡ asked_of c.now number }
     ensures kept { (rows : Items (ℕ × Short Facts)) → option_copied unit.entry
         ≡ complex_at c.now (codes "slots") → kind_in rows number ≡ Some kind
-        → SameAsked c.now rows → AreAsked c.now rows kinds.old → IsAsked c.now rows last.old
-        → OnOk result (AreAsked c.now rows kinds.new) }
-    ensures last { (rows : Items (ℕ × Short Facts)) → option_copied unit.entry
-        ≡ complex_at c.now (codes "slots") → kind_in rows number ≡ Some kind
-        → SameAsked c.now rows → AreAsked c.now rows kinds.old → IsAsked c.now rows last.old
-        → OnOk result (IsAsked c.now rows last.new) }
+        → SameAsked c.now rows → AreAsked c.now rows kinds.old → AreAsked c.now rows kinds.new }
 {
-    match of_last(last, kind) {
-        Some(asked) => Ok(asked),
+    let place = kind as usize % PLACES;
+    match of_kind(&kinds[place], kind) {
+        Some(asked) => asked,
         None => {
-            let asked = kind_urgency(c, unit, kinds, kind, number)?;
-            *last = Some((kind, asked));
-            Ok(asked)
+            let asked = request_urgency(c, unit, number);
+            kinds[place] = Some((kind, asked));
+            asked
         }
     }
 }

@@ -1,5 +1,5 @@
 // The urgencies of candidates in a walk over short rows: jobs that follow each other are mostly alike.
-ghost use Rattle.std.specs.Prelude.{◌≡◌, ℕ, List as Items, Some, None, IfOk, IfSome, OnOk, max, codes};
+ghost use Rattle.std.specs.Prelude.{◌≡◌, ℕ, List as Items, Some, None, IfSome, max, codes};
 ghost use Rattle.std.specs.Option.{option_copied};
 ghost use Rattle.ge_collections.specs.Keyed.{at_number};
 ghost use Rattle.ge_collections.specs.declared.short_row.ShortRow.{ShortRow as Short};
@@ -9,10 +9,9 @@ ghost use Rattle.ge_order.specs.Kinds.{asked_of, SameAsked, urgency_by as urgenc
 ghost use Rattle.ge_order.specs.Repeated.{urged_by, seen_more, Knows, IsWithin};
 ghost use Rattle.ge_order.specs.Standings.{lesser as least_of};
 
-use crate::kinds::asked_again;
+use crate::kinds::{Kinds, kind_urgency};
 use crate::urging::urgency_by;
-use ge_rows::{Cluster, ComplexDef, JobFacts, ShortRow, Table};
-use std::alloc::AllocError;
+use ge_rows::{Cluster, ComplexDef, JobFacts, ShortRow};
 
 /// What the urgency of a job at one moment stands on, and that urgency.
 #[derive(Clone, Copy)]
@@ -91,35 +90,32 @@ fn see(seen: &Seen, row: &ShortRow<JobFacts>, urgency: u128) -> Seen
 pub(crate) fn urgency_again(
     c: &Cluster,
     unit: Option<&ComplexDef>,
-    kinds: &mut Table<u32, u128>,
-    asked: &mut Option<(u32, u128)>,
+    kinds: &mut Kinds,
     seen: &mut Seen,
     number: u32,
     row: &ShortRow<JobFacts>,
     now: u64,
-) -> Result<u128, AllocError>
+) -> u128
     ensures urgency { (rows : Items (ℕ × Short Facts)) → option_copied unit.entry
         ≡ complex_at c.now (codes "slots") → at_number rows number ≡ Some row.now
-        → Knows c.now rows now kinds.old asked.old seen.old.last → IfOk result (λ urgency.
-        urgency ≡ urgency_of c.now (asked_of c.now number) row.now.facts.submitted
-        row.now.facts.deadline now) }
+        → Knows c.now rows now kinds.old seen.old.last
+        → result ≡ urgency_of c.now (asked_of c.now number) row.now.facts.submitted
+        row.now.facts.deadline now }
     ensures known { (rows : Items (ℕ × Short Facts)) → option_copied unit.entry
         ≡ complex_at c.now (codes "slots") → at_number rows number ≡ Some row.now
-        → SameAsked c.now rows → Knows c.now rows now kinds.old asked.old seen.old.last
-        → OnOk result (Knows c.now rows now kinds.new asked.new seen.new.last) }
-    ensures low { IsWithin seen.old
-        → IfOk result (λ urgency. seen.new.low ≡ Some (least_of seen.old.low urgency)) }
-    ensures high { IsWithin seen.old
-        → IfOk result (λ urgency. seen.new.high ≡ max seen.old.high urgency) }
-    ensures within { IsWithin seen.old → OnOk result (IsWithin seen.new) }
+        → SameAsked c.now rows → Knows c.now rows now kinds.old seen.old.last
+        → Knows c.now rows now kinds.new seen.new.last }
+    ensures low { IsWithin seen.old → seen.new.low ≡ Some (least_of seen.old.low result) }
+    ensures high { IsWithin seen.old → seen.new.high ≡ max seen.old.high result }
+    ensures within { IsWithin seen.old → IsWithin seen.new }
 {
     match of_like(&seen.last, row) {
-        Some(urgency) => Ok(urgency),
+        Some(urgency) => urgency,
         None => {
-            let found = asked_again(c, unit, kinds, asked, row.third, number)?;
-            let urgency = urgency_by(c, found, row.facts.submitted, row.facts.deadline, now);
+            let asked = kind_urgency(c, unit, kinds, row.third, number);
+            let urgency = urgency_by(c, asked, row.facts.submitted, row.facts.deadline, now);
             *seen = see(seen, row, urgency);
-            Ok(urgency)
+            urgency
         }
     }
 }

@@ -1,5 +1,5 @@
 // What short rows tell of jobs before their priorities can be told.
-ghost use Rattle.std.specs.Prelude.{◌≡◌, ℕ, List as Items, Some, IfOk, OnOk, map, codes};
+ghost use Rattle.std.specs.Prelude.{◌≡◌, ℕ, List as Items, Some, IfOk, map, codes};
 ghost use Rattle.std.specs.Option.{option_copied};
 ghost use Rattle.ge_beside.specs.Met.{AreFound};
 ghost use Rattle.ge_collections.specs.Keyed.{at_number};
@@ -9,11 +9,11 @@ ghost use Rattle.ge_rows.specs.declared.labels.JobFacts.{JobFacts as Facts};
 ghost use Rattle.ge_order.specs.Kinds as kind;
 
 use crate::asked::slots_complex;
-use crate::kinds::asked_again;
+use crate::kinds::{Kinds, kind_urgency, no_kinds};
 use crate::standing::{Standing, Urgent};
 use crate::urging::urgency_by;
 use ge_beside::{row_at, walk};
-use ge_rows::{Cluster, ComplexDef, JobFacts, ShortRow, Table};
+use ge_rows::{Cluster, ComplexDef, JobFacts, ShortRow};
 use std::alloc::{AllocError, Global};
 use std::collections::BTreeMap;
 use std::collections::btree_map::Iter;
@@ -33,38 +33,30 @@ fn standing_told<'a>(
     unit: Option<&ComplexDef>,
     rows: &'a BTreeMap<u32, ShortRow<JobFacts>>,
     left: &mut Iter<'a, u32, ShortRow<JobFacts>>,
-    kinds: &mut Table<u32, u128>,
-    last: &mut Option<(u32, u128)>,
+    kinds: &mut Kinds,
     number: u32,
     now: u64,
-) -> Result<Standing, AllocError>
+) -> Standing
     ensures standing { option_copied unit.entry ≡ complex_at c.now (codes "slots")
         → AreFound rows.now.entries left.old → kind.AreAsked c.now rows.now.entries kinds.old
-        → kind.IsAsked c.now rows.now.entries last.old → IfOk result (λ standing. standing
-        ≡ kind.told_standing c.now rows.now.entries now number) }
+        → result ≡ kind.told_standing c.now rows.now.entries now number }
     ensures others { AreFound rows.now.entries left.old → AreFound rows.now.entries left.new }
     ensures asked { option_copied unit.entry ≡ complex_at c.now (codes "slots")
         → AreFound rows.now.entries left.old → kind.SameAsked c.now rows.now.entries
         → kind.AreAsked c.now rows.now.entries kinds.old
-        → kind.IsAsked c.now rows.now.entries last.old
-        → OnOk result (kind.AreAsked c.now rows.now.entries kinds.new) }
-    ensures last { option_copied unit.entry ≡ complex_at c.now (codes "slots")
-        → AreFound rows.now.entries left.old → kind.SameAsked c.now rows.now.entries
-        → kind.AreAsked c.now rows.now.entries kinds.old
-        → kind.IsAsked c.now rows.now.entries last.old
-        → OnOk result (kind.IsAsked c.now rows.now.entries last.new) }
+        → kind.AreAsked c.now rows.now.entries kinds.new }
 {
     match row_at(rows, left, number) {
-        None => Ok(Standing {
+        None => Standing {
             job: number,
             urgent: None,
-        }),
+        },
         Some(row) => {
-            let asked = asked_again(c, unit, kinds, last, row.third, number)?;
-            Ok(Standing {
+            let asked = kind_urgency(c, unit, kinds, row.third, number);
+            Standing {
                 job: number,
                 urgent: Some(urgent_by(c, now, asked, &row.facts)),
-            })
+            }
         }
     }
 }
@@ -81,14 +73,11 @@ pub(crate) fn standings_told(
         ≡ map (kind.told_standing c.now rows.now.entries now) jobs.now) }
 {
     let unit = slots_complex(c);
-    let mut kinds = Table::new(alloc);
-    let mut last = None;
+    let mut kinds = no_kinds();
     let mut left = walk(rows);
     let mut standings = Vec::with_capacity(alloc, jobs.len())?;
     for number in jobs {
-        let standing = standing_told(
-            c, unit, rows, &mut left, &mut kinds, &mut last, *number, now,
-        )?;
+        let standing = standing_told(c, unit, rows, &mut left, &mut kinds, *number, now);
         standings.push_reserved(standing);
     }
     Ok(standings)

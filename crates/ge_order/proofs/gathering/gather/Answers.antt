@@ -1,4 +1,4 @@
-use Rattle.std.proofs.Common.{◌≡◌, ℕ, ◌++◌, ◌∷◌, [], ◌∙◌, refl, sym, subst, ap, arith, rules, length, map, fold, max, Some, None, unwrap_or}
+use Rattle.std.proofs.Common.{◌≡◌, ℕ, ◌++◌, ◌∷◌, [], ◌∙◌, sym, subst, ap, arith, rules, length, map, fold, max, Some, None, unwrap_or}
 use Rattle.ge_beside.specs.Met.{AreFound}
 use Rattle.ge_beside.proofs.Walked.{all_found}
 use Rattle.ge_model_order.specs.Amounts.{greatest}
@@ -8,7 +8,6 @@ use Rattle.ge_order.specs.Repeated.{standing}
 use Rattle.ge_order.specs.Standings.{lesser, with_lesser, with_greater}
 use Rattle.ge_order.specs.Told.{chosen}
 use Rattle.ge_order.proofs.InOneWalk.{chosen_more, ticket_of_row}
-use Rattle.ge_order.proofs.OneKind.{none_asked, none_last}
 use Rattle.ge_order.proofs.Repeated.{none_urged, none_within, bound_more, map_more, standing_of_row}
 use Rattle.ge_order.proofs.Scaled.{lowest_is, highest_is}
 use Rattle.ge_order.specs.declared.gathering.Candidate.{Candidate}
@@ -24,7 +23,7 @@ loop-number-init c =
     let none = c.in_ok-candidates.ensures.items in (
       (λ alike. (
         (λ i. map standing (none i) ++ map (told_standing c.args.c.now rows c.args.now) (chosen c.args.c.now c.args.now (start i))),
-        record { all = none_asked c.args.c.now rows _ c.new-kinds.ensures; one = none_last c.args.c.now rows _ refl; alike = none_urged c.args.c.now rows c.args.now _ (ap (λ (s : Seen). s.last) seen) },
+        record { all = c.no_kinds-kinds.ensures c.args.c.now rows; alike = none_urged c.args.c.now rows c.args.now _ (ap (λ (s : Seen). s.last) seen) },
       )),
       (λ i. map (λ x. x.tickets) (none i) ++ map (told_tickets rows) (chosen c.args.c.now c.args.now (start i))),
       all_found rows _ start c.iter-number-items.ensures.found,
@@ -55,11 +54,11 @@ loop-number-preserved-then-branch c =
     let more = c.push_reserved.new.self.items in
     let pushed : more ≡ done ++ one ∷ [] = c.push_reserved.ensures.items in
     let greater : c.max-most.result ≡ max c.loop-number.most one.tickets = search rules in
-    let told = c.in_ok-urgency.ensures in (
+    let told = c.urgency_again-urgency.ensures in (
       (λ alike.
           let so_far = before.0 alike in (
             chosen_more (told_standing C rows now) C now (map standing done) (map standing more) _ (standing one) _ _ number row c.in-Some.ensures.steps is so_far.0
-                (ap standing is_one ∙ standing_of_row C rows now number row c.in_ok-urgency.urgency found.0 (told.urgency rows c.slots_complex-unit.ensures found.0 so_far.1)) (map_more standing done more one pushed),
+                (ap standing is_one ∙ standing_of_row C rows now number row c.urgency_again-urgency.result found.0 (told.urgency rows c.slots_complex-unit.ensures found.0 so_far.1)) (map_more standing done more one pushed),
             told.known rows c.slots_complex-unit.ensures found.0 alike so_far.1,
           )),
       chosen_more (told_tickets rows) C now (map tickets done) (map tickets more) _ one.tickets _ _ number row c.in-Some.ensures.steps is before.1

@@ -12,7 +12,7 @@ abbrev pub invariant-loop-number : goal.invariant-loop-number
 invariant-loop-number l =
     (SameAsked l.c l.rows.entries
     → (map standing l.candidates.items ++ map (told_standing l.c l.rows.entries l.now) (chosen l.c l.now l.number-iterator) ≡ map (told_standing l.c l.rows.entries l.now) (chosen l.c l.now l.rows.entries))
-    × Knows l.c l.rows.entries l.now l.kinds l.asked l.seen.last)
+    × Knows l.c l.rows.entries l.now l.kinds l.seen.last)
     × (map (λ x. x.tickets) l.candidates.items ++ map (told_tickets l.rows.entries) (chosen l.c l.now l.number-iterator) ≡ map (told_tickets l.rows.entries) (chosen l.c l.now l.rows.entries))
     × AreFound l.rows.entries l.number-iterator
     × IsWithin l.seen

@@ -1,12 +1,11 @@
-use Rattle.std.proofs.Common.{refl, arith}
+use Rattle.std.proofs.Common.{arith}
 use Rattle.ge_order.specs.Kinds.{told_standing}
 use Rattle.ge_beside.proofs.Turns.{listed_more}
-use Rattle.ge_order.proofs.OneKind.{none_asked, none_last}
 use Rattle.ge_order.proofs.telling.standings_told.Goals as goal
 
 pub loop-number-init : goal.loop-number-init
 loop-number-init c = (
-  (λ alike. (c.in_ok-standings.ensures.items, c.walk-left.ensures, none_asked c.args.c.now c.args.rows.now.entries _ c.new-kinds.ensures, none_last c.args.c.now c.args.rows.now.entries _ refl)),
+  (λ alike. (c.in_ok-standings.ensures.items, c.walk-left.ensures, c.no_kinds-kinds.ensures c.args.c.now c.args.rows.now.entries)),
   c.in_ok-standings.ensures.len,
   omega (arith, c.in_ok-standings.ensures.capacity),
 )
@@ -16,10 +15,9 @@ loop-number-preserved c = (
   (λ alike.
       let before = c.loop-number.invariant.0 alike in (
         listed_more (told_standing c.args.c.now c.args.rows.now.entries c.args.now) c.args.jobs.now c.loop-number.number-index _ _ _ _ c.loop-number-test.true before.0
-            (c.in_ok-standing.ensures.standing c.slots_complex-unit.ensures before.1 before.2 before.3) c.push_reserved.ensures.items,
-        c.in_ok-standing.ensures.others before.1,
-        c.in_ok-standing.ensures.asked c.slots_complex-unit.ensures before.1 alike before.2 before.3,
-        c.in_ok-standing.ensures.last c.slots_complex-unit.ensures before.1 alike before.2 before.3,
+            (c.standing_told-standing.ensures.standing c.slots_complex-unit.ensures before.1 before.2) c.push_reserved.ensures.items,
+        c.standing_told-standing.ensures.others before.1,
+        c.standing_told-standing.ensures.asked c.slots_complex-unit.ensures before.1 alike before.2,
       )),
   omega (arith, c.push_reserved.ensures.len, c.loop-number.invariant.1),
   omega (arith, c.push_reserved.ensures.capacity, c.loop-number.invariant.2),
