@@ -10,7 +10,7 @@ ghost use Rattle.ge_order.specs.Weighed.{IsWorked};
 
 use crate::gathering::{Candidate, gather};
 use crate::standing::{Standing, extremes, standings};
-use crate::weighing::{Worked, work_on, work_out, worked_after};
+use crate::weighing::{Worked, work_after, work_on, work_out};
 use ge_rows::{Cluster, List, Prio, Sched};
 use ge_tickets::has_own_alone;
 use std::alloc::{AllocError, Global};
@@ -56,9 +56,9 @@ fn prio_by(job: u32, worked: &Worked) -> Prio
 }
 
 // The priority of a candidate, after what was worked out for the last one.
-fn prio_after(sched: &Sched, scale: &Scale, last: &mut Worked, candidate: Candidate) -> Prio
+fn prio_after(sched: &Sched, scale: &Scale, last: &mut Worked, candidate: &Candidate) -> Prio
     ensures prio { IsWorked sched.now scale.now last.old
-        → result ≡ prio_of_candidate sched.now scale.now candidate }
+        → result ≡ prio_of_candidate sched.now scale.now candidate.now }
     ensures kept { IsWorked sched.now scale.now last.old → IsWorked sched.now scale.now last.new }
 {
     work_on(sched, scale, last, candidate);
@@ -92,7 +92,7 @@ fn prio_at(
         tickets,
         urgency: urgent.urgency,
     };
-    *last = worked_after(sched, scale, last, candidate);
+    work_after(sched, scale, last, &candidate);
     prio_by(standing.job, last)
 }
 
@@ -160,7 +160,7 @@ fn prios_gathered(
     let mut prios = Vec::with_capacity(alloc, candidates.len())?;
     let mut last = first_worked(sched, scale);
     for candidate in candidates {
-        prios.push_reserved(prio_after(sched, scale, &mut last, *candidate));
+        prios.push_reserved(prio_after(sched, scale, &mut last, candidate));
     }
     Ok(List::from_vec(prios))
 }

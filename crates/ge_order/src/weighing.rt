@@ -92,27 +92,23 @@ fn nt_after(scale: &Scale, last: &Worked, tickets: u64) -> u64
 
 /// The same after another job: a part whose number hasn't changed is kept.
 #[tactic(auto, using(crate::proofs::Reworked::worked_anew))]
-pub(crate) fn worked_after(
-    sched: &Sched,
-    scale: &Scale,
-    last: &Worked,
-    candidate: Candidate,
-) -> Worked
-    ensures { IsWorked sched.now scale.now last.now
-        → result ≡ worked_by sched.now scale.now candidate.priority candidate.urgency
-        candidate.tickets }
+pub(crate) fn work_after(sched: &Sched, scale: &Scale, last: &mut Worked, candidate: &Candidate)
+    ensures { IsWorked sched.now scale.now last.old
+        → last.new ≡ worked_by sched.now scale.now candidate.now.priority candidate.now.urgency
+        candidate.now.tickets }
 {
     let np = np_after(last, candidate.priority);
     let nu = nu_after(scale, last, candidate.urgency);
     let nt = nt_after(scale, last, candidate.tickets);
-    with_parts(sched, &candidate, (np, nu, nt))
+    *last = with_parts(sched, candidate, (np, nu, nt));
 }
 
-fn is_of(last: &Worked, candidate: Candidate) -> bool
-    ensures priority { IsTrue result → last.now.priority ≡ candidate.priority }
-    ensures urgency { IsTrue result → last.now.urgency ≡ candidate.urgency }
-    ensures tickets { IsTrue result → last.now.tickets ≡ candidate.tickets }
+fn is_of(last: &Worked, candidate: &Candidate) -> bool
+    ensures priority { IsTrue result → last.now.priority ≡ candidate.now.priority }
+    ensures urgency { IsTrue result → last.now.urgency ≡ candidate.now.urgency }
+    ensures tickets { IsTrue result → last.now.tickets ≡ candidate.now.tickets }
 {
+    let candidate = *candidate;
     last.tickets == candidate.tickets
         && last.urgency == candidate.urgency
         && last.priority == candidate.priority
@@ -120,12 +116,12 @@ fn is_of(last: &Worked, candidate: Candidate) -> bool
 
 /// Works on to the next candidate, from what was worked out for the last one.
 #[tactic(auto, using(crate::proofs::Reworked::worked_again))]
-pub(crate) fn work_on(sched: &Sched, scale: &Scale, last: &mut Worked, candidate: Candidate)
+pub(crate) fn work_on(sched: &Sched, scale: &Scale, last: &mut Worked, candidate: &Candidate)
     ensures { IsWorked sched.now scale.now last.old
-        → last.new ≡ worked_by sched.now scale.now candidate.priority candidate.urgency
-        candidate.tickets }
+        → last.new ≡ worked_by sched.now scale.now candidate.now.priority candidate.now.urgency
+        candidate.now.tickets }
 {
     if !is_of(last, candidate) {
-        *last = worked_after(sched, scale, last, candidate);
+        work_after(sched, scale, last, candidate);
     }
 }
