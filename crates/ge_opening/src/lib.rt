@@ -11,6 +11,7 @@
 
 mod admitting;
 mod asking;
+mod looking;
 mod matching;
 mod offering;
 mod opening;

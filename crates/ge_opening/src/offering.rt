@@ -1,57 +1,18 @@
 //! What an instance offers of what jobs ask for (complex, `requestable`; queue_conf and host_conf, `complex_values`).
 
-ghost use Rattle.std.specs.Prelude.{◌≡◌, ◌&&◌, codes};
+ghost use Rattle.std.specs.Prelude.{◌≡◌, ◌&&◌, ◌||◌, codes};
 ghost use Rattle.std.specs.List.{list_all};
 ghost use Rattle.std.specs.Option.{option_copied};
-ghost use Rattle.ge_collections.specs.Keyed.{at_text};
+ghost use Rattle.ge_collections.specs.Keyed.{text_eq};
+ghost use Rattle.ge_model_value.specs.Complexes.{has_consumable};
 ghost use Rattle.ge_model_place.specs.Opening.{admits_value, has_value, host_names, is_configured, consumes_what_is, is_forced, asks_for, meets_forced};
 
+use crate::looking::Instance;
 use crate::matching::is_met;
-use ge_complex::{complex_at, is_consumable};
+use ge_complex::{complex_at, is_consumed};
 use ge_pieces::is_word;
 use ge_queues::{at_host, resolved_at};
-use ge_rows::{
-    Cluster, ComplexDef, Groups, HostRow, InstanceId, Job, QueueRow, Requestable, Table, Text,
-    Value,
-};
-
-// Whether an attribute that is no consumable is there, and admits what is asked.
-fn offers_value(
-    cluster: &Cluster,
-    groups: &Groups,
-    global: Option<&HostRow>,
-    at: &InstanceId,
-    name: &Text,
-    asked: &Value,
-) -> bool
-    requires { option_copied global ≡ at_text cluster.now.hosts (codes "global") }
-    ensures { result ≡ admits_value cluster.now groups.now at.now (name.now, asked.now) }
-{
-    is_consumable(cluster, name)
-        || is_met(
-            asked,
-            complex_at(cluster, name),
-            resolved_at(cluster, groups, global, at, name),
-        )
-}
-
-fn offers_values(
-    cluster: &Cluster,
-    groups: &Groups,
-    global: Option<&HostRow>,
-    at: &InstanceId,
-    asked: &Table<Text, Value>,
-) -> bool
-    requires { option_copied global ≡ at_text cluster.now.hosts (codes "global") }
-    ensures { result ≡ list_all (admits_value cluster.now groups.now at.now) asked.now }
-{
-    for (name, value) in asked.iter() {
-        if !offers_value(cluster, groups, global, at, name, value) {
-            return false;
-        }
-    }
-    true
-}
+use ge_rows::{ComplexDef, HostRow, Job, Requestable, Table, Text, Value};
 
 fn names(values: &Table<Text, Value>, name: &Text) -> bool
     ensures { result ≡ has_value values.now name.now }
@@ -69,37 +30,57 @@ fn is_named_on(host: Option<&HostRow>, name: &Text) -> bool
 }
 
 // Whether the queue there, its host or the host of all has an amount of it.
-fn has_amount(
-    cluster: &Cluster,
-    groups: &Groups,
-    global: Option<&HostRow>,
-    at: &InstanceId,
-    queue: &QueueRow,
-    name: &Text,
-) -> bool
-    requires { option_copied global ≡ at_text cluster.now.hosts (codes "global") }
-    ensures { result ≡ is_configured cluster.now groups.now at.now queue.now name.now }
+fn has_amount(here: &Instance<'_>, name: &Text) -> bool
+    ensures { result ≡ is_configured here.now.cluster.now here.now.groups.now here.now.at.now
+        here.now.queue.now name.now }
 {
     is_word(name.bytes(), b"slots")
-        || names(at_host(&queue.values, groups, &at.host), name)
-        || is_named_on(cluster.hosts.get(&at.host), name)
-        || is_named_on(global, name)
+        || names(
+            at_host(&here.queue.values, here.groups, &here.at.host),
+            name,
+        )
+        || names(&here.host.values, name)
+        || is_named_on(here.global, name)
 }
 
-fn offers_amounts(
-    cluster: &Cluster,
-    groups: &Groups,
-    global: Option<&HostRow>,
-    at: &InstanceId,
-    queue: &QueueRow,
-    asked: &Table<Text, Value>,
-) -> bool
-    requires { option_copied global ≡ at_text cluster.now.hosts (codes "global") }
+// Whether the row of a name makes it a consumable.
+fn is_consumable_by(name: &Text, complex: Option<&ComplexDef>) -> bool
     ensures { result
-        ≡ list_all (consumes_what_is cluster.now groups.now at.now queue.now) asked.now }
+        ≡ (text_eq name.now (codes "slots") || has_consumable (option_copied complex.entry)) }
 {
-    for (name, _value) in asked.iter() {
-        if is_consumable(cluster, name) && !has_amount(cluster, groups, global, at, queue, name) {
+    if is_word(name.bytes(), b"slots") {
+        return true;
+    }
+    match complex {
+        None => false,
+        Some(complex) => is_consumed(complex.consumable),
+    }
+}
+
+// Whether an attribute that is asked for is there: an amount of a consumable, of any other a value that admits what is asked.
+fn offers_one(here: &Instance<'_>, name: &Text, asked: &Value) -> bool
+    ensures { result
+        ≡ (admits_value here.now.cluster.now here.now.groups.now here.now.at.now (name.now, asked.now)
+        && consumes_what_is here.now.cluster.now here.now.groups.now here.now.at.now
+        here.now.queue.now (name.now, asked.now)) }
+{
+    let complex = complex_at(here.cluster, name);
+    if is_consumable_by(name, complex) {
+        has_amount(here, name)
+    } else {
+        let there = resolved_at(here.cluster, here.groups, here.global, here.at, name);
+        is_met(asked, complex, there)
+    }
+}
+
+fn offers_each(here: &Instance<'_>, asked: &Table<Text, Value>) -> bool
+    ensures { result ≡ list_all (λ one.
+        admits_value here.now.cluster.now here.now.groups.now here.now.at.now one
+        && consumes_what_is here.now.cluster.now here.now.groups.now here.now.at.now
+        here.now.queue.now one) asked.now }
+{
+    for (name, value) in asked.iter() {
+        if !offers_one(here, name, value) {
             return false;
         }
     }
@@ -123,22 +104,14 @@ fn is_asking_for(job: &Job, name: &Text) -> bool
 }
 
 // Whether the job asks for each attribute that is there only for those who do.
-fn asks_for_all(
-    cluster: &Cluster,
-    groups: &Groups,
-    global: Option<&HostRow>,
-    job: &Job,
-    at: &InstanceId,
-    queue: &QueueRow,
-) -> bool
-    requires { option_copied global ≡ at_text cluster.now.hosts (codes "global") }
-    ensures { result ≡ list_all (meets_forced cluster.now groups.now job.now at.now queue.now)
-        cluster.now.complexes }
+fn asks_for_all(here: &Instance<'_>, job: &Job) -> bool
+    ensures { result ≡ list_all (meets_forced here.now.cluster.now here.now.groups.now job.now
+        here.now.at.now here.now.queue.now) here.now.cluster.now.complexes }
 {
-    for (name, complex) in cluster.complexes.iter() {
+    for (name, complex) in here.cluster.complexes.iter() {
         if is_only_for_askers(complex.requestable)
             && !is_asking_for(job, name)
-            && has_amount(cluster, groups, global, at, queue, name)
+            && has_amount(here, name)
         {
             return false;
         }
@@ -149,21 +122,14 @@ fn asks_for_all(
 /// Whether an instance has what a job asks for, and keeps nothing for jobs that ask for it, where this one doesn't: each
 /// attribute that is asked for admits the value, each consumable that is asked for is configured, and each that is `FORCED` and
 /// configured is asked for (complex).
-pub(crate) fn offers(
-    cluster: &Cluster,
-    groups: &Groups,
-    global: Option<&HostRow>,
-    job: &Job,
-    at: &InstanceId,
-    queue: &QueueRow,
-) -> bool
-    requires { option_copied global ≡ at_text cluster.now.hosts (codes "global") }
-    ensures { result ≡ (list_all (admits_value cluster.now groups.now at.now) job.now.request.asked
-        && list_all (consumes_what_is cluster.now groups.now at.now queue.now) job.now.request.asked
-        && list_all (meets_forced cluster.now groups.now job.now at.now queue.now)
-        cluster.now.complexes) }
+pub(crate) fn offers(here: &Instance<'_>, job: &Job) -> bool
+    ensures { result
+        ≡ (list_all (admits_value here.now.cluster.now here.now.groups.now here.now.at.now)
+        job.now.request.asked
+        && list_all (consumes_what_is here.now.cluster.now here.now.groups.now here.now.at.now
+        here.now.queue.now) job.now.request.asked
+        && list_all (meets_forced here.now.cluster.now here.now.groups.now job.now here.now.at.now
+        here.now.queue.now) here.now.cluster.now.complexes) }
 {
-    offers_values(cluster, groups, global, at, &job.request.asked)
-        && offers_amounts(cluster, groups, global, at, queue, &job.request.asked)
-        && asks_for_all(cluster, groups, global, job, at, queue)
+    offers_each(here, &job.request.asked) && asks_for_all(here, job)
 }

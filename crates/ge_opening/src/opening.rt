@@ -1,25 +1,29 @@
 //! Open instances.
 
-ghost use Rattle.std.specs.Prelude.{◌≡◌, IfOk, codes};
+ghost use Rattle.std.specs.Prelude.{◌≡◌, IfOk, Some, codes};
 ghost use Rattle.std.specs.Option.{option_copied};
 ghost use Rattle.ge_collections.specs.Keyed.{at_text};
-ghost use Rattle.ge_model_place.specs.Opening.{has_host, is_open_in};
+ghost use Rattle.ge_model_place.specs.Opening.{is_open_in};
 ghost use Rattle.ge_model_place.specs.Opening as opening;
 
 use crate::admitting::takes_job;
+use crate::looking::Instance;
 use crate::offering::offers;
-use crate::thresholds::threshold_reached;
+use crate::thresholds::is_reached_here;
 use ge_queues::global_host;
 use ge_rows::{Cluster, Groups, HostRow, InstanceId, Job, QueueRow};
 use std::alloc::{AllocError, Global};
 
-fn is_host_there(cluster: &Cluster, at: &InstanceId) -> bool
-    ensures { result ≡ has_host cluster.now at.now }
+// The thresholds are few, and are looked at before all complexes are gone through.
+fn is_open_here(here: &Instance<'_>, job: &Job) -> bool
+    ensures { result ≡ is_open_in here.now.cluster.now here.now.groups.now job.now here.now.at.now
+        (Some here.now.queue.now) }
 {
-    cluster.hosts.get(&at.host).is_some()
+    takes_job(here.cluster, here.groups, job, here.at, here.queue)
+        && !is_reached_here(here)
+        && offers(here, job)
 }
 
-// The thresholds are few, and are looked at before all complexes are gone through.
 fn is_open_under(
     cluster: &Cluster,
     groups: &Groups,
@@ -27,19 +31,27 @@ fn is_open_under(
     job: &Job,
     at: &InstanceId,
     queue: Option<&QueueRow>,
+    host: Option<&HostRow>,
 ) -> bool
-    requires { option_copied global ≡ at_text cluster.now.hosts (codes "global") }
+    requires global { option_copied global ≡ at_text cluster.now.hosts (codes "global") }
+    requires queue { option_copied queue ≡ at_text cluster.now.queues at.now.queue }
+    requires host { option_copied host ≡ at_text cluster.now.hosts at.now.host }
     ensures { result
         ≡ is_open_in cluster.now groups.now job.now at.now (option_copied queue.entry) }
 {
-    match queue {
-        None => false,
-        Some(queue) => {
-            is_host_there(cluster, at)
-                && takes_job(cluster, groups, job, at, queue)
-                && !threshold_reached(cluster, groups, at)
-                && offers(cluster, groups, global, job, at, queue)
+    match (queue, host) {
+        (Some(queue), Some(host)) => {
+            let here = Instance {
+                cluster,
+                groups,
+                at,
+                queue,
+                host,
+                global,
+            };
+            is_open_here(&here, job)
         }
+        _ => false,
     }
 }
 
@@ -63,6 +75,7 @@ pub fn is_open_beside(
         job,
         at,
         cluster.queues.get(&at.queue),
+        cluster.hosts.get(&at.host),
     )
 }
 

@@ -1,27 +1,25 @@
 //! Load thresholds (queue_conf, `load_thresholds`).
 
-ghost use Rattle.std.specs.Prelude.{◌≡◌, IfOk};
+ghost use Rattle.std.specs.Prelude.{◌≡◌, IfOk, Some};
 ghost use Rattle.std.specs.List.{list_any};
 ghost use Rattle.std.specs.Option.{option_copied};
 ghost use Rattle.ge_model_value.specs.Complexes.{complex_at as complex_in};
 ghost use Rattle.ge_model_place.specs.Opening.{reaches, reaches_one_of};
 ghost use Rattle.ge_model_place.specs.Opening as opening;
 
+use crate::looking::Instance;
 use ge_complex::{complex_at, holds_between};
 use ge_queues::at_host;
 use ge_rows::{Cluster, ComplexDef, Groups, HostRow, InstanceId, QueueRow, Table, Text, Value};
 use std::alloc::{AllocError, Global};
 
 // Whether what is reported reaches a threshold, as its complex compares them.
-fn is_reached(threshold: &Value, complex: Option<&ComplexDef>, there: Option<&Value>) -> bool
-    ensures { result ≡ reaches threshold.now (option_copied complex.entry)
-        (option_copied there.entry) }
+fn is_reached(threshold: &Value, complex: Option<&ComplexDef>, there: &Value) -> bool
+    ensures { result ≡ reaches threshold.now (option_copied complex.entry) (Some there.now) }
 {
-    match (complex, there) {
-        (Some(complex), Some(there)) => {
-            holds_between(complex.kind, complex.relop, there, threshold)
-        }
-        _ => false,
+    match complex {
+        Some(complex) => holds_between(complex.kind, complex.relop, there, threshold),
+        None => false,
     }
 }
 
@@ -35,6 +33,17 @@ pub(crate) fn reported_load<'a>(row: Option<&'a HostRow>, name: &Text) -> Option
     }
 }
 
+// Whether what a host reports reaches a threshold. Of a name that it reports nothing of, no complex is looked up.
+fn reaches_there(cluster: &Cluster, row: Option<&HostRow>, name: &Text, threshold: &Value) -> bool
+    ensures { result ≡ reaches threshold.now (complex_in cluster.now name.now)
+        (opening.reported_load (option_copied row.entry) name.now) }
+{
+    match reported_load(row, name) {
+        None => false,
+        Some(there) => is_reached(threshold, complex_at(cluster, name), there),
+    }
+}
+
 // Whether what a host reports reaches one of these thresholds.
 fn one_is_reached(cluster: &Cluster, row: Option<&HostRow>, thresholds: &Table<Text, Value>) -> bool
     ensures { result ≡ list_any (λ threshold. reaches threshold.1
@@ -42,15 +51,21 @@ fn one_is_reached(cluster: &Cluster, row: Option<&HostRow>, thresholds: &Table<T
         (opening.reported_load (option_copied row.entry) threshold.0)) thresholds.now }
 {
     for (name, threshold) in thresholds.iter() {
-        if is_reached(
-            threshold,
-            complex_at(cluster, name),
-            reported_load(row, name),
-        ) {
+        if reaches_there(cluster, row, name, threshold) {
             return true;
         }
     }
     false
+}
+
+/// Whether a load threshold of an instance is reached, as [`threshold_reached`] tells.
+#[tactic(auto, unfolding(ge_model_place::specs::Opening::reaches_threshold))]
+pub(crate) fn is_reached_here(here: &Instance<'_>) -> bool
+    ensures { result
+        ≡ opening.reaches_threshold here.now.cluster.now here.now.groups.now here.now.at.now }
+{
+    let thresholds = at_host(&here.queue.thresholds, here.groups, &here.at.host);
+    one_is_reached(here.cluster, Some(here.host), thresholds)
 }
 
 fn is_reached_in(
