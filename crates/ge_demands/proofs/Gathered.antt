@@ -1,14 +1,14 @@
 -- Each limit once, gathered as what counts of it.
-use Rattle.std.proofs.Common.{◌≡◌, ℕ, ◌==◌, inl, inr, Bool, true, false, cond, ◌||◌, List, [], ◌∷◌, ◌++◌, Option, Some, None, refl, sym, ap, subst, ◌∙◌}
+use Rattle.std.proofs.Common.{◌≡◌, ℕ, ◌==◌, inl, inr, true, false, cond, ◌||◌, List, [], ◌∷◌, ◌++◌, Option, Some, None, refl, sym, ap, subst, ◌∙◌, append_assoc}
 use Rattle.std.specs.Prelude.{flat_map, filter, fold, not, map}
 use Rattle.std.specs.List.{list_any}
 use Rattle.std.specs.Map.{keys_of}
-use Rattle.std.proofs.lemmas.Bool.{cases_Bool, cond-true, cond-false, or_parts, true≢false, false_from_ne_true, ne_eqb}
+use Rattle.std.proofs.lemmas.Bool.{cases_Bool, cond-true, cond-false, or_parts, true≢false, false_from_ne_true}
 use Rattle.std.proofs.lemmas.List.{append-nil, map-append}
 use Rattle.std.proofs.lemmas.List.Concat.{flat_map-cons}
 use Rattle.std.proofs.lemmas.List.Sums.{fold-append}
 use Rattle.std.proofs.lemmas.Grind.{flat_map-append}
-use Rattle.ge_collections.specs.Keyed.{text_eq, at_text}
+use Rattle.ge_collections.specs.Keyed.{text_eq}
 use Rattle.ge_model_bookings.specs.Bookings.{same_limit}
 use Rattle.ge_model_value.specs.Complexes.{complex_at, is_consumable, has_consumable}
 use Rattle.ge_model_site.specs.Queues.{attr_at}
@@ -16,15 +16,14 @@ use Rattle.ge_model_rows.specs.ClusterRows.{Cluster}
 use Rattle.ge_model_rows.specs.HostRows.{HostRow, Groups, InstanceId}
 use Rattle.ge_model_rows.specs.JobRows.{Job}
 use Rattle.ge_model_rows.specs.QueueRows.{QueueRow}
-use Rattle.ge_model_rows.specs.ScheduleRows.{LimitId, Instance, Host, Global, Quota}
+use Rattle.ge_model_rows.specs.ScheduleRows.{LimitId, Instance, Host, Global}
 use Rattle.ge_model_rows.specs.ValueRows.{Value, ComplexDef}
 use Rattle.ge_model_place.proofs.Same.{limits_equal}
-use Rattle.ge_model_place.specs.Limits.{Counted as Limited, counted, capacity_of, per_slot, is_per_job, resource_of, consumables, is_other, instance_limits, host_limits, pe_limits, configured_limits, who_at, with_limit_once, asked_or_default}
-use Rattle.ge_model_place.specs.Opening.{slots_name, global_name}
-use Rattle.ge_model_place.specs.Quotas.{quota_keys}
+use Rattle.ge_model_place.specs.Limits.{Counted as Limited, counted, capacity_of, per_slot, is_per_job, resource_of, consumables, is_other, instance_limits, host_limits, with_limit_once, asked_or_default}
+use Rattle.ge_model_place.specs.Opening.{slots_name}
 use Rattle.ge_demands.specs.declared.counting.Counted.{Counted}
 use Rattle.ge_demands.specs.Counts.{counted_as, all_counted}
-use Rattle.ge_demands.specs.Found.{amount_or_default, is_found, found_with, with_limit, with_instance_value, with_host_value}
+use Rattle.ge_demands.specs.Found.{amount_or_default, is_found, found_with, with_limit, with_limit_unless_found, with_instance_value, with_host_value}
 
 pub asked_is : (c : Cluster) (name : List ℕ) (complex : ComplexDef) (asked : Option Value) → complex_at c name ≡ Some complex → asked_or_default c name asked ≡ amount_or_default complex asked
 asked_is c name complex None e = rw e refl
@@ -67,7 +66,7 @@ module _ (c : Cluster) (groups : Groups) (job : Job) where
   pushed : (seen : List LimitId) (x : LimitId) → all (seen ++ x ∷ []) ≡ all seen ++ counted c groups job x
   pushed seen x = flat_map-append (counted c groups job) seen (x ∷ []) ∙ ap (λ l. all seen ++ l) (flat_map-cons (counted c groups job) x [] ∙ append-nil (counted c groups job x))
 
-  one_more : (seen : List LimitId) (x : LimitId) → all (with_limit_once seen x) ≡ with_limit c groups job (all seen) x
+  one_more : (seen : List LimitId) (x : LimitId) → all (with_limit_once seen x) ≡ with_limit_unless_found c groups job (all seen) x
   one_more seen x =
       elim (cases_Bool (per_slot c job (resource_of x) == 0)) [
         | inl none ↦
@@ -81,16 +80,22 @@ module _ (c : Cluster) (groups : Groups) (job : Job) where
         | inr some ↦
             let here = something x some in
             let is = found_is x some seen in
-            let right : with_limit c groups job (all seen) x ≡ cond (list_any (same_limit x) seen) (all seen) (all seen ++ row x ∷ []) = ap (λ l. found_with (all seen) l) here ∙ ap (λ b. cond b (all seen) (all seen ++ row x ∷ [])) is in
+            let right : with_limit_unless_found c groups job (all seen) x ≡ cond (list_any (same_limit x) seen) (all seen) (all seen ++ row x ∷ []) = ap (λ l. found_with (all seen) l) here ∙ ap (λ b. cond b (all seen) (all seen ++ row x ∷ [])) is in
             elim (cases_Bool (list_any (same_limit x) seen)) [
               | inl there ↦ ap all (cond-true _ _ _ there) ∙ sym (right ∙ cond-true _ _ _ there)
               | inr new ↦ ap all (cond-false _ _ _ new) ∙ pushed seen x ∙ ap (λ l. all seen ++ l) here ∙ sym (right ∙ cond-false _ _ _ new)
             ]
       ]
 
-  pub gathered_behind : (limits seen : List LimitId) → all (fold with_limit_once seen limits) ≡ fold (with_limit c groups job) (all seen) limits
+  pub gathered_behind : (limits seen : List LimitId) → all (fold with_limit_once seen limits) ≡ fold (with_limit_unless_found c groups job) (all seen) limits
   gathered_behind [] seen = refl
-  gathered_behind (x ∷ limits) seen = gathered_behind limits (with_limit_once seen x) ∙ ap (λ found. fold (with_limit c groups job) found limits) (one_more seen x)
+  gathered_behind (x ∷ limits) seen = gathered_behind limits (with_limit_once seen x) ∙ ap (λ found. fold (with_limit_unless_found c groups job) found limits) (one_more seen x)
+
+  -- what counts of limits, behind what was found
+  pub counted_behind : (limits : List LimitId) (found : List Limited) → fold (with_limit c groups job) found limits ≡ found ++ all limits
+  counted_behind [] found = sym (append-nil found)
+  counted_behind (x ∷ limits) found =
+      let here = counted c groups job x in counted_behind limits (found ++ here) ∙ append_assoc found here (all limits) ∙ ap (λ l. found ++ l) (sym (flat_map-cons (counted c groups job) x limits))
 
   -- nothing is asked of what is no consumable
   skipped : (limit : LimitId) (name : List ℕ) (found : List Limited) → resource_of limit ≡ name → is_consumable c name ≡ false → with_limit c groups job found limit ≡ found
@@ -98,7 +103,7 @@ module _ (c : Cluster) (groups : Groups) (job : Job) where
       let parts = or_parts (text_eq name slots_name) (has_consumable (complex_at c name)) isnt in
       let zero : per_slot c job name ≡ 0 = cond-false _ _ _ parts.0 ∙ cond-false _ _ _ isnt in
       let none : (per_slot c job (resource_of limit) == 0) ≡ true = ap (λ n. per_slot c job n == 0) named ∙ ap (λ n. n == 0) zero in
-      ap (λ l. found_with found l) (nothing limit none)
+      ap (λ l. found ++ l) (nothing limit none) ∙ append-nil found
 
   named : (limit : List ℕ → LimitId) → ((n : List ℕ) → resource_of (limit n) ≡ n) → (names : List (List ℕ)) (found : List Limited)
       → fold (with_limit c groups job) found (map limit (filter (is_consumable c) names)) ≡ fold (with_host_value c groups job limit) found names
@@ -131,20 +136,6 @@ module _ (c : Cluster) (groups : Groups) (job : Job) where
             ∙ ap (λ f. fold (with_instance_value c groups job at) f names) (sym (cond-false _ _ _ other ∙ skipped (Instance at n) n found refl isnt))
       ]
 
-pub gathered : (c : Cluster) (groups : Groups) (job : Job) (limits : List LimitId) → flat_map (counted c groups job) (fold with_limit_once [] limits) ≡ fold (with_limit c groups job) [] limits
-gathered c groups job limits = gathered_behind c groups job limits []
-
--- what counts of a limit, from its parts
-pub counts : (c : Cluster) (groups : Groups) (job : Job) (found : List Limited) (limit : LimitId) (capacity amount : ℕ) (once : Bool) → capacity ≡ capacity_of c groups limit → amount ≡ per_slot c job (resource_of limit)
-    → once ≡ is_per_job c (resource_of limit) → (amount ≡ 0 → ⊥) → found_with found (record { limit = limit; capacity = capacity; amount = amount; once = once } ∷ []) ≡ with_limit c groups job found limit
-counts c groups job found limit capacity amount once there asked per_job some =
-    let same : (record { limit = limit; capacity = capacity; amount = amount; once = once }) ≡ row c groups job limit = λ i. record { limit = limit; capacity = there i; amount = asked i; once = per_job i } in
-    ap (λ (more : Limited). found_with found (more ∷ [])) same ∙ sym (ap (λ l. found_with found l) (something c groups job limit (ne_eqb (per_slot c job (resource_of limit)) 0 (λ zero. some (asked ∙ zero)))))
-
--- a limit of which nothing is asked doesn't count
-pub counts_not : (c : Cluster) (groups : Groups) (job : Job) (found : List Limited) (limit : LimitId) (amount : ℕ) → amount ≡ per_slot c job (resource_of limit) → amount ≡ 0 → found ≡ with_limit c groups job found limit
-counts_not c groups job found limit amount asked none = sym (ap (λ l. found_with found l) (nothing c groups job limit (ap (λ n. n == 0) (sym asked ∙ none))))
-
 pub of_instance : (c : Cluster) (groups : Groups) (job : Job) (at : InstanceId) (q : QueueRow) (found : List Limited)
     → fold (with_limit c groups job) found (instance_limits c groups at (Some q))
     ≡ with_limit c groups job (fold (with_instance_value c groups job at) found (keys_of (attr_at q.values groups at.host))) (Instance at slots_name)
@@ -159,9 +150,3 @@ of_host c groups job host row found = named c groups job (Host host) (λ n. refl
 pub of_all : (c : Cluster) (groups : Groups) (job : Job) (row : HostRow) (found : List Limited)
     → fold (with_limit c groups job) found (host_limits c Global (Some row)) ≡ fold (with_host_value c groups job Global) found (keys_of row.values)
 of_all c groups job row found = named c groups job Global (λ n. refl) (keys_of row.values) found
-
-pub of_parts : (c : Cluster) (groups : Groups) (job : Job) (at : InstanceId) (found : List Limited)
-    → fold (with_limit c groups job) found (configured_limits c groups job at)
-    ≡ fold (with_limit c groups job) (fold (with_limit c groups job) (fold (with_limit c groups job) (fold (with_limit c groups job) (fold (with_limit c groups job) found
-    (instance_limits c groups at (at_text c.queues at.queue))) (host_limits c (Host at.host) (at_text c.hosts at.host))) (host_limits c Global (at_text c.hosts global_name))) (pe_limits job.request.pe)) (map Quota (quota_keys c groups (who_at job at)))
-of_parts c groups job at found = simp fold-append

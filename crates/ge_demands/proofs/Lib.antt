@@ -1,3 +1,4 @@
 pub mod Demanded
 pub mod Gathered
+pub mod Once
 pub mod Placed

@@ -1,18 +1,18 @@
 //! The limits that a grant counts for.
 
-ghost use Rattle.std.specs.Prelude.{◌≡◌, ◌++◌, [], ◌∷◌, IfOk, OnOk, Some, None, fold, map};
+ghost use Rattle.std.specs.Prelude.{◌≡◌, ◌++◌, [], ◌∷◌, IfOk, OnOk, Some, None, false, fold, map, flat_map};
 ghost use Rattle.std.specs.Map.{keys_of};
 ghost use Rattle.std.specs.List.{list_any};
 ghost use Rattle.std.specs.Option.{option_copied};
-ghost use Rattle.ge_collections.specs.Keyed.{at_text};
+ghost use Rattle.ge_collections.specs.Keyed.{at_text, at_number};
 ghost use Rattle.ge_model_bookings.specs.Bookings.{same_limit};
-ghost use Rattle.ge_model_rows.specs.ScheduleRows.{Global as Everywhere, Host, Instance, Pe, Quota};
+ghost use Rattle.ge_model_rows.specs.ScheduleRows.{Advance as Reserved, Global as Everywhere, Host, Instance, Pe, Quota};
 ghost use Rattle.ge_model_site.specs.Queues.{attr_at};
 ghost use Rattle.ge_model_place.specs.Opening.{global_name, slots_name};
-ghost use Rattle.ge_model_place.specs.Limits.{configured_limits, counted_at, host_limits, instance_limits, limits_at, pe_limits, who_at};
+ghost use Rattle.ge_model_place.specs.Limits.{advance_capacity, configured_limits, counted, counted_at, each_limit_once, host_limits, instance_limits, pe_limits, who_at};
 ghost use Rattle.ge_model_place.specs.Quotas.{quota_keys};
 ghost use Rattle.ge_demands.specs.Counts.{all_counted, counted_as};
-ghost use Rattle.ge_demands.specs.Found.{found_with, with_host_value, with_instance_value, with_limit};
+ghost use Rattle.ge_demands.specs.Found.{AllRise, AreRising, AreRisingAt, AreRisingOn, named_limits, with_host_value, with_instance_value, with_limit, with_limit_unless_found};
 
 use crate::asking::{Asked, ONE_SLOT, asked_of};
 use crate::capacities::{in_advance, in_environment, in_queue, in_quota, is_slots, on_host};
@@ -38,14 +38,7 @@ pub struct Counted {
     pub once: bool,
 }
 
-fn is_there(found: &[Counted], limit: &LimitId) -> bool
-    ensures { result ≡ list_any (λ more. same_limit limit.now more.limit) found.now }
-{
-    found.iter().any(|more| is_same_limit(limit, &more.limit))
-}
-
-// What counts of a limit, behind what was found, unless the limit was.
-#[tactic(auto, using(crate::proofs::Gathered::found_anywhere))]
+// What counts of a limit, behind what was found.
 fn add(
     found: &mut Vec<Counted>,
     limit: LimitId,
@@ -53,12 +46,9 @@ fn add(
     asked: Asked,
 ) -> Result<(), AllocError>
     ensures { OnOk result (all_counted found.new.items
-        ≡ found_with (all_counted found.old.items)
-        (record { limit = limit; capacity = capacity; amount = asked.amount; once = asked.once } ∷ [])) }
+        ≡ all_counted found.old.items
+        ++ record { limit = limit; capacity = capacity; amount = asked.amount; once = asked.once } ∷ []) }
 {
-    if is_there(found.as_slice(), &limit) {
-        return Ok(());
-    }
     found.push(Counted {
         limit,
         capacity,
@@ -102,9 +92,10 @@ fn add_values_of_instance(
     found: &mut Vec<Counted>,
 ) -> Result<(), AllocError>
     requires { at_text cluster.now.queues at.now.queue ≡ Some queue.now }
-    ensures { OnOk result (all_counted found.new.items
+    ensures found { OnOk result (all_counted found.new.items
         ≡ fold (with_instance_value cluster.now groups.now job.now at.now) (all_counted found.old.items)
         (keys_of (attr_at queue.now.values groups.now at.now.host))) }
+    ensures rising { OnOk result (AreRising (attr_at queue.now.values groups.now at.now.host)) }
 {
     for name in at_host(&queue.values, groups, &at.host).keys() {
         if !is_slots(name) {
@@ -145,9 +136,10 @@ fn add_instance(
     at: &InstanceId,
     found: &mut Vec<Counted>,
 ) -> Result<(), AllocError>
-    ensures { OnOk result (all_counted found.new.items
+    ensures found { OnOk result (all_counted found.new.items
         ≡ fold (with_limit cluster.now groups.now job.now) (all_counted found.old.items)
         (instance_limits cluster.now groups.now at.now (at_text cluster.now.queues at.now.queue))) }
+    ensures rising { OnOk result (AreRisingAt groups.now at.now (at_text cluster.now.queues at.now.queue)) }
 {
     match cluster.queues.get(&at.queue) {
         Some(queue) => {
@@ -191,9 +183,10 @@ fn add_values_of_host(
     found: &mut Vec<Counted>,
 ) -> Result<(), AllocError>
     requires { at_text cluster.now.hosts host.now ≡ Some row.now }
-    ensures { OnOk result (all_counted found.new.items
+    ensures found { OnOk result (all_counted found.new.items
         ≡ fold (with_host_value cluster.now groups.now job.now (Host host.now)) (all_counted found.old.items)
         (keys_of row.now.values)) }
+    ensures rising { OnOk result (AreRising row.now.values) }
 {
     for name in row.values.keys() {
         add_of_host(alloc, cluster, groups, job, host, row, found, name)?;
@@ -211,9 +204,10 @@ fn add_host(
     host: &Text,
     found: &mut Vec<Counted>,
 ) -> Result<(), AllocError>
-    ensures { OnOk result (all_counted found.new.items
+    ensures found { OnOk result (all_counted found.new.items
         ≡ fold (with_limit cluster.now groups.now job.now) (all_counted found.old.items)
         (host_limits cluster.now (Host host.now) (at_text cluster.now.hosts host.now))) }
+    ensures rising { OnOk result (AreRisingOn (at_text cluster.now.hosts host.now)) }
 {
     match cluster.hosts.get(host) {
         Some(row) => add_values_of_host(alloc, cluster, groups, job, host, row, found),
@@ -251,9 +245,10 @@ fn add_values_of_all(
     found: &mut Vec<Counted>,
 ) -> Result<(), AllocError>
     requires { at_text cluster.now.hosts global_name ≡ Some row.now }
-    ensures { OnOk result (all_counted found.new.items
+    ensures found { OnOk result (all_counted found.new.items
         ≡ fold (with_host_value cluster.now groups.now job.now Everywhere) (all_counted found.old.items)
         (keys_of row.now.values)) }
+    ensures rising { OnOk result (AreRising row.now.values) }
 {
     for name in row.values.keys() {
         add_of_all(alloc, cluster, groups, job, row, found, name)?;
@@ -270,9 +265,10 @@ fn add_all(
     job: &Job,
     found: &mut Vec<Counted>,
 ) -> Result<(), AllocError>
-    ensures { OnOk result (all_counted found.new.items
+    ensures found { OnOk result (all_counted found.new.items
         ≡ fold (with_limit cluster.now groups.now job.now) (all_counted found.old.items)
         (host_limits cluster.now Everywhere (at_text cluster.now.hosts global_name))) }
+    ensures rising { OnOk result (AreRisingOn (at_text cluster.now.hosts global_name)) }
 {
     match global_host(alloc, cluster)? {
         Some(row) => add_values_of_all(alloc, cluster, groups, job, row, found),
@@ -302,6 +298,14 @@ fn add_environment(
     }
 }
 
+fn is_there(found: &[Counted], limit: &LimitId) -> bool
+    ensures { result ≡ list_any (λ more. same_limit limit.now more.limit) found.now }
+{
+    found.iter().any(|more| is_same_limit(limit, &more.limit))
+}
+
+// A quota may come twice, which the names in a table don't.
+#[tactic(auto, using(crate::proofs::Gathered::found_anywhere))]
 fn add_quota(
     cluster: &Cluster,
     groups: &Groups,
@@ -310,14 +314,18 @@ fn add_quota(
     key: QuotaKey,
 ) -> Result<(), AllocError>
     ensures { OnOk result (all_counted found.new.items
-        ≡ with_limit cluster.now groups.now job.now (all_counted found.old.items) (Quota key)) }
+        ≡ with_limit_unless_found cluster.now groups.now job.now (all_counted found.old.items) (Quota key)) }
 {
     let asked = asked_of(cluster, job, &key.resource);
     if asked.amount == 0 {
         return Ok(());
     }
     let capacity = u128::from(in_quota(&key, cluster.quotas.get(&key.set)));
-    add(found, LimitId::Quota(key), capacity, asked)
+    let limit = LimitId::Quota(key);
+    if is_there(found.as_slice(), &limit) {
+        return Ok(());
+    }
+    add(found, limit, capacity, asked)
 }
 
 fn add_quotas(
@@ -328,7 +336,8 @@ fn add_quotas(
     quotas: List<QuotaKey>,
 ) -> Result<(), AllocError>
     ensures { OnOk result (all_counted found.new.items
-        ≡ fold (with_limit cluster.now groups.now job.now) (all_counted found.old.items) (map Quota quotas)) }
+        ≡ fold (with_limit_unless_found cluster.now groups.now job.now) (all_counted found.old.items)
+        (map Quota quotas)) }
 {
     for key in quotas.into_vec() {
         add_quota(cluster, groups, job, found, key)?;
@@ -361,9 +370,9 @@ fn quotas_at(
     keys(alloc, cluster, groups, &who)
 }
 
-// All limits that are configured.
-#[tactic(auto, using(crate::proofs::Gathered::of_parts))]
-fn add_configured(
+// The limits by name: those of the instance, of its host, of all hosts and of the parallel environment. No two of them are
+// one, since the names in a table differ.
+fn add_named(
     alloc: Global,
     cluster: &Cluster,
     groups: &Groups,
@@ -371,43 +380,64 @@ fn add_configured(
     at: &InstanceId,
     found: &mut Vec<Counted>,
 ) -> Result<(), AllocError>
-    ensures { OnOk result (all_counted found.new.items
+    ensures found { OnOk result (all_counted found.new.items
         ≡ fold (with_limit cluster.now groups.now job.now) (all_counted found.old.items)
-        (configured_limits cluster.now groups.now job.now at.now)) }
+        (named_limits cluster.now groups.now job.now at.now)) }
+    ensures rising { OnOk result (AllRise cluster.now groups.now at.now) }
 {
     add_instance(alloc, cluster, groups, job, at, found)?;
     add_host(alloc, cluster, groups, job, &at.host, found)?;
     add_all(alloc, cluster, groups, job, found)?;
-    add_environment(alloc, cluster, groups, job, found)?;
-    let quotas = quotas_at(alloc, cluster, groups, job, at)?;
-    add_quotas(cluster, groups, job, found, quotas)
+    add_environment(alloc, cluster, groups, job, found)
 }
 
-fn add_limits(
+// All limits that are configured.
+#[tactic(auto, using(crate::proofs::Once::configured_once))]
+fn configured(
     alloc: Global,
     cluster: &Cluster,
     groups: &Groups,
     job: &Job,
     at: &InstanceId,
-    found: &mut Vec<Counted>,
-) -> Result<(), AllocError>
-    ensures { OnOk result (all_counted found.new.items
-        ≡ fold (with_limit cluster.now groups.now job.now) (all_counted found.old.items)
-        (limits_at cluster.now groups.now job.now at.now)) }
+) -> Result<Vec<Counted>, AllocError>
+    ensures { IfOk result (λ limits. all_counted limits.items
+        ≡ flat_map (counted cluster.now groups.now job.now)
+        (each_limit_once (configured_limits cluster.now groups.now job.now at.now))) }
 {
-    if job.advance == 0 {
-        return add_configured(alloc, cluster, groups, job, at, found);
-    }
+    let mut found = Vec::new(alloc);
+    add_named(alloc, cluster, groups, job, at, &mut found)?;
+    let quotas = quotas_at(alloc, cluster, groups, job, at)?;
+    add_quotas(cluster, groups, job, &mut found, quotas)?;
+    Ok(found)
+}
+
+// The slots of a job's reservation at an instance.
+fn reserved(
+    alloc: Global,
+    cluster: &Cluster,
+    job: &Job,
+    at: &InstanceId,
+) -> Result<Vec<Counted>, AllocError>
+    ensures { IfOk result (λ limits. all_counted limits.items
+        ≡ record {
+          limit = Reserved job.now.advance at.now;
+          capacity = advance_capacity at.now (at_number cluster.now.advances job.now.advance);
+          amount = 1;
+          once = false;
+        } ∷ []) }
+{
+    let mut found = Vec::new(alloc);
     let capacity = in_advance(at, cluster.advances.get(&job.advance));
-    let at = at.twin(alloc)?;
-    add(found, LimitId::Advance(job.advance, at), capacity, ONE_SLOT)
+    let limit = LimitId::Advance(job.advance, at.twin(alloc)?);
+    add(&mut found, limit, capacity, ONE_SLOT)?;
+    Ok(found)
 }
 
 /// The limits that a grant of a job at an instance counts for, each once, with what is asked of it for one slot, which is
 /// above 0: those of the instance by name, its slots, those of its host and of all hosts, the slots of the job's parallel
 /// environment, and the quotas that count the job there. For a job that was sent into a reservation they are the
 /// reservation's slots at the instance, alone (queue_conf, host_conf, sge_pe, sge_resource_quota, qsub `-ar`).
-#[tactic(auto, unfolding(ge_model_place::specs::Limits::counted_at), using(crate::proofs::Gathered::gathered))]
+#[tactic(auto, unfolding(ge_model_place::specs::Limits::counted_at))]
 pub fn counted_limits(
     alloc: Global,
     cluster: &Cluster,
@@ -418,7 +448,8 @@ pub fn counted_limits(
     ensures { IfOk result (λ limits. all_counted limits.items
         ≡ counted_at cluster.now groups.now job.now at.now) }
 {
-    let mut found = Vec::new(alloc);
-    add_limits(alloc, cluster, groups, job, at, &mut found)?;
-    Ok(found)
+    if job.advance == 0 {
+        return configured(alloc, cluster, groups, job, at);
+    }
+    reserved(alloc, cluster, job, at)
 }
