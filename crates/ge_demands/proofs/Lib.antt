@@ -2,3 +2,4 @@ pub mod Demanded
 pub mod Gathered
 pub mod Once
 pub mod Placed
+pub mod Sets

@@ -1,28 +1,21 @@
 //! The limits that a grant counts for.
 
-ghost use Rattle.std.specs.Prelude.{◌≡◌, ◌++◌, [], ◌∷◌, IfOk, OnOk, Some, None, false, fold, map, flat_map};
+ghost use Rattle.std.specs.Prelude.{◌≡◌, ◌++◌, [], ◌∷◌, IfOk, OnOk, Some, None, false, fold, flat_map};
 ghost use Rattle.std.specs.Map.{keys_of};
-ghost use Rattle.std.specs.List.{list_any};
 ghost use Rattle.std.specs.Option.{option_copied};
 ghost use Rattle.ge_collections.specs.Keyed.{at_text, at_number};
-ghost use Rattle.ge_model_bookings.specs.Bookings.{same_limit};
-ghost use Rattle.ge_model_rows.specs.ScheduleRows.{Advance as Reserved, Global as Everywhere, Host, Instance, Pe, Quota};
+ghost use Rattle.ge_model_rows.specs.ScheduleRows.{Advance as Reserved, Global as Everywhere, Host, Instance, Pe};
 ghost use Rattle.ge_model_site.specs.Queues.{attr_at};
 ghost use Rattle.ge_model_place.specs.Opening.{global_name, slots_name};
-ghost use Rattle.ge_model_place.specs.Limits.{advance_capacity, configured_limits, counted, counted_at, each_limit_once, host_limits, instance_limits, pe_limits, who_at};
-ghost use Rattle.ge_model_place.specs.Quotas.{quota_keys};
+ghost use Rattle.ge_model_place.specs.Limits.{advance_capacity, configured_limits, counted, counted_at, each_limit_once, host_limits, instance_limits, pe_limits};
 ghost use Rattle.ge_demands.specs.Counts.{all_counted, counted_as};
-ghost use Rattle.ge_demands.specs.Found.{AllRise, AreRising, AreRisingAt, AreRisingOn, named_limits, with_host_value, with_instance_value, with_limit, with_limit_unless_found};
+ghost use Rattle.ge_demands.specs.Found.{AllRise, AreRising, AreRisingAt, AreRisingOn, named_limits, with_host_value, with_instance_value, with_limit};
 
 use crate::asking::{Asked, ONE_SLOT, asked_of};
-use crate::capacities::{in_advance, in_environment, in_queue, in_quota, is_slots, on_host};
-use ge_bookings::is_same_limit;
+use crate::capacities::{in_advance, in_environment, in_queue, is_slots, on_host};
+use crate::quotas::add_quotas;
 use ge_queues::{at_host, global_host, slots_at};
-use ge_quota::{Who, keys};
-use ge_rows::{
-    Cluster, Groups, HostRow, InstanceId, Job, LimitId, List, QueueRow, QuotaKey, Text, Twin,
-    twins2,
-};
+use ge_rows::{Cluster, Groups, HostRow, InstanceId, Job, LimitId, QueueRow, Text, Twin, twins2};
 use std::alloc::{AllocError, Global};
 
 /// A limit that a grant counts for. Contracts see the model's `Counted`.
@@ -38,8 +31,8 @@ pub struct Counted {
     pub once: bool,
 }
 
-// What counts of a limit, behind what was found.
-fn add(
+/// What counts of a limit, behind what was found.
+pub(crate) fn add(
     found: &mut Vec<Counted>,
     limit: LimitId,
     capacity: u128,
@@ -139,7 +132,8 @@ fn add_instance(
     ensures found { OnOk result (all_counted found.new.items
         ≡ fold (with_limit cluster.now groups.now job.now) (all_counted found.old.items)
         (instance_limits cluster.now groups.now at.now (at_text cluster.now.queues at.now.queue))) }
-    ensures rising { OnOk result (AreRisingAt groups.now at.now (at_text cluster.now.queues at.now.queue)) }
+    ensures rising { OnOk result
+        (AreRisingAt groups.now at.now (at_text cluster.now.queues at.now.queue)) }
 {
     match cluster.queues.get(&at.queue) {
         Some(queue) => {
@@ -298,78 +292,6 @@ fn add_environment(
     }
 }
 
-fn is_there(found: &[Counted], limit: &LimitId) -> bool
-    ensures { result ≡ list_any (λ more. same_limit limit.now more.limit) found.now }
-{
-    found.iter().any(|more| is_same_limit(limit, &more.limit))
-}
-
-// A quota may come twice, which the names in a table don't.
-#[tactic(auto, using(crate::proofs::Gathered::found_anywhere))]
-fn add_quota(
-    cluster: &Cluster,
-    groups: &Groups,
-    job: &Job,
-    found: &mut Vec<Counted>,
-    key: QuotaKey,
-) -> Result<(), AllocError>
-    ensures { OnOk result (all_counted found.new.items
-        ≡ with_limit_unless_found cluster.now groups.now job.now (all_counted found.old.items) (Quota key)) }
-{
-    let asked = asked_of(cluster, job, &key.resource);
-    if asked.amount == 0 {
-        return Ok(());
-    }
-    let capacity = u128::from(in_quota(&key, cluster.quotas.get(&key.set)));
-    let limit = LimitId::Quota(key);
-    if is_there(found.as_slice(), &limit) {
-        return Ok(());
-    }
-    add(found, limit, capacity, asked)
-}
-
-fn add_quotas(
-    cluster: &Cluster,
-    groups: &Groups,
-    job: &Job,
-    found: &mut Vec<Counted>,
-    quotas: List<QuotaKey>,
-) -> Result<(), AllocError>
-    ensures { OnOk result (all_counted found.new.items
-        ≡ fold (with_limit_unless_found cluster.now groups.now job.now) (all_counted found.old.items)
-        (map Quota quotas)) }
-{
-    for key in quotas.into_vec() {
-        add_quota(cluster, groups, job, found, key)?;
-    }
-    Ok(())
-}
-
-// The keys of the quotas that count a job's grant at an instance.
-fn quotas_at(
-    alloc: Global,
-    cluster: &Cluster,
-    groups: &Groups,
-    job: &Job,
-    at: &InstanceId,
-) -> Result<List<QuotaKey>, AllocError>
-    ensures { IfOk result (λ keys. keys ≡ quota_keys cluster.now groups.now (who_at job.now at.now)) }
-{
-    let none = Text::new(alloc);
-    let who = Who {
-        user: &job.owner,
-        group: &job.group,
-        project: &job.project,
-        pe: match &job.request.pe {
-            Some(request) => &request.name,
-            None => &none,
-        },
-        queue: &at.queue,
-        host: &at.host,
-    };
-    keys(alloc, cluster, groups, &who)
-}
-
 // The limits by name: those of the instance, of its host, of all hosts and of the parallel environment. No two of them are
 // one, since the names in a table differ.
 fn add_named(
@@ -406,8 +328,7 @@ fn configured(
 {
     let mut found = Vec::new(alloc);
     add_named(alloc, cluster, groups, job, at, &mut found)?;
-    let quotas = quotas_at(alloc, cluster, groups, job, at)?;
-    add_quotas(cluster, groups, job, &mut found, quotas)?;
+    add_quotas(alloc, cluster, groups, job, at, &mut found)?;
     Ok(found)
 }
 

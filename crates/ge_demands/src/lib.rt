@@ -14,6 +14,7 @@ mod capacities;
 mod counting;
 mod demanding;
 mod indexing;
+mod quotas;
 
 pub use capacities::capacity;
 pub use counting::{Counted, counted_limits};

@@ -9,20 +9,19 @@ use crate::ruling::{Numbered, matching_rule};
 use ge_rows::{Cluster, Filter, Groups, List, QuotaKey, QuotaRow, Rule, Text, Twin};
 use std::alloc::{AllocError, Global};
 
-// What a filter keeps of a name: in braces each name counts apart.
-fn kept<'a>(filter: &Option<Filter>, name: &'a Text) -> &'a [u8]
-    ensures { result.now ≡ kept_name filter.now name.now }
+// What a filter keeps of a name: in braces each name counts apart. Most filters keep none, which takes no memory.
+fn kept(alloc: Global, filter: &Option<Filter>, name: &Text) -> Result<Text, AllocError>
+    ensures { IfOk result (λ kept. kept ≡ kept_name filter.now name.now) }
 {
     match filter {
-        Some(filter) => { if filter.braces { name.bytes() } else { &[] } }
-        None => &[],
+        Some(filter) => {
+            if filter.braces {
+                return name.twin(alloc);
+            }
+            Ok(Text::new(alloc))
+        }
+        None => Ok(Text::new(alloc)),
     }
-}
-
-fn copied(alloc: Global, filter: &Option<Filter>, name: &Text) -> Result<Text, AllocError>
-    ensures { IfOk result (λ copy. copy ≡ kept_name filter.now name.now) }
-{
-    Text::from_bytes(alloc, kept(filter, name))
 }
 
 fn asker(alloc: Global, who: &Who<'_>, rule: &Rule) -> Result<(Text, Text, Text), AllocError>
@@ -33,9 +32,9 @@ fn asker(alloc: Global, who: &Who<'_>, rule: &Rule) -> Result<(Text, Text, Text)
           kept_name rule.now.pes who.now.pe.now,
         )) }
 {
-    let user = copied(alloc, &rule.users, who.user)?;
-    let project = copied(alloc, &rule.projects, who.project)?;
-    let pe = copied(alloc, &rule.pes, who.pe)?;
+    let user = kept(alloc, &rule.users, who.user)?;
+    let project = kept(alloc, &rule.projects, who.project)?;
+    let pe = kept(alloc, &rule.pes, who.pe)?;
     Ok((user, project, pe))
 }
 
@@ -43,8 +42,8 @@ fn place(alloc: Global, who: &Who<'_>, rule: &Rule) -> Result<(Text, Text), Allo
     ensures { IfOk result (λ names. names
         ≡ (kept_name rule.now.queues who.now.queue.now, kept_name rule.now.hosts who.now.host.now)) }
 {
-    let queue = copied(alloc, &rule.queues, who.queue)?;
-    let host = copied(alloc, &rule.hosts, who.host)?;
+    let queue = kept(alloc, &rule.queues, who.queue)?;
+    let host = kept(alloc, &rule.hosts, who.host)?;
     Ok((queue, host))
 }
 
@@ -55,7 +54,8 @@ fn number_in_key(number: usize) -> u32
     number.min(4_294_967_295) as u32
 }
 
-fn key(
+/// What a rule of a set counts a resource by, for who asks.
+pub fn key(
     alloc: Global,
     set: &Text,
     who: &Who<'_>,

@@ -5,6 +5,7 @@
 //!
 //! - [`limit_key`]: the key of one rule set, by the first of its rules that matches.
 //! - [`keys`]: the keys of all rule sets, one for each resource that the first rule names.
+//! - [`matching_rule`] and [`key`]: the first rule of one rule set that matches, and its key of one resource.
 #![tactic(auto)]
 
 mod asking;
@@ -13,4 +14,5 @@ mod filtering;
 mod ruling;
 
 pub use asking::Who;
-pub use counting::{keys, limit_key};
+pub use counting::{key, keys, limit_key};
+pub use ruling::{Numbered, matching_rule};

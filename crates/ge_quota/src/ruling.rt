@@ -62,9 +62,11 @@ fn is_match(
 
 /// A rule with its number in its set, from 1.
 #[derive(Clone, Copy)]
-pub(crate) struct Numbered<'a> {
-    pub(crate) number: usize,
-    pub(crate) rule: &'a Rule,
+pub struct Numbered<'a> {
+    /// The number.
+    pub number: usize,
+    /// The rule.
+    pub rule: &'a Rule,
 }
 
 fn first_match<'a>(
@@ -86,8 +88,8 @@ fn first_match<'a>(
     Ok(None)
 }
 
-/// The first rule of a rule set that matches; one that isn't enabled has none.
-pub(crate) fn matching_rule<'a>(
+/// The first rule of a rule set that matches; one that isn't enabled has none (sge_resource_quota).
+pub fn matching_rule<'a>(
     alloc: Global,
     cluster: &Cluster,
     groups: &Groups,
