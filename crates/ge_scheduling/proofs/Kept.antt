@@ -21,9 +21,8 @@ use Rattle.ge_collections.specs.declared.short_row.ShortRow.{ShortRow}
 use Rattle.ge_rows.specs.declared.labels.JobFacts.{JobFacts}
 use Rattle.ge_scheduling.specs.KindNotes.{kind_in, is_noted, noted_with, kind_after, started_by, NoneStarts, AreShut}
 use Rattle.ge_scheduling.specs.Passing.{passed_by, Waits, Follows}
-use Rattle.ge_scheduling.specs.declared.rests.Rest.{Rest}
+use Rattle.ge_scheduling.specs.declared.rests.Room.{Room}
 use Rattle.ge_scheduling.specs.Rests.{AreLeft}
-use Rattle.ge_scheduling.specs.Vacant.{AreVacant}
 use Rattle.ge_scheduling.specs.Verdicts.{grants_at, can_be_placed, reserved_from, reserved, waiting, placed_with, decision_by, decision_at}
 use Rattle.ge_scheduling.proofs.Bridged.{by_parts, model_by_parts, may_same, decision_tallied}
 use Rattle.ge_scheduling.proofs.Shut.{must_wait, shut_later, shut_after}
@@ -164,13 +163,13 @@ module _ (c : Cluster) (groups : Groups) (order : List InstanceId) (now : ℕ) w
       sym (decision_tallied c groups order now booked (decisions ++ Skip skipped ∷ []) tally (tallied_skip c decisions skipped tally is) u)
       ∙ decision_tallied c groups order now booked decisions tally is u ∙ waits u same
 
-  pub weighed_follows : (rows : List (ℕ × ShortRow JobFacts)) (booked more : List Booking) (decisions longer : List Decision) (tally next : Tally) (passed noted : Option ℕ) (full now_full : BTreeSet ℕ) (vacant fewer : List InstanceId) (rests less : List (List Rest)) (task : TaskId) (made : Decision)
-      → Follows c groups order now rows booked decisions tally noted full vacant rests
+  pub weighed_follows : (rows : List (ℕ × ShortRow JobFacts)) (booked more : List Booking) (decisions longer : List Decision) (tally next : Tally) (passed noted : Option ℕ) (full now_full : BTreeSet ℕ) (room less : Room) (task : TaskId) (made : Decision)
+      → Follows c groups order now rows booked decisions tally noted full room
       → made ≡ decision_of c groups order now booked decisions task → more ≡ booked ++ booked_by c groups now made → longer ≡ decisions ++ made ∷ []
       → IsTallied c (decisions ++ made ∷ []) next → passed ≡ passed_by task.job made
       → ((other : ℕ) → contains nat_cmp now_full other ≡ noted_with full (kind_after made (at_number c.jobs task.job) (kind_in rows task.job)) other)
-      → AreVacant c groups now more order fewer → AreLeft c groups now more order less → Follows c groups order now rows more longer next passed now_full fewer less
-  weighed_follows rows booked more decisions longer tally next passed noted full now_full vacant fewer rests less task made follows made_is books pushes counted passes notes are room =
+      → AreLeft c groups now more order less → Follows c groups order now rows more longer next passed now_full less
+  weighed_follows rows booked more decisions longer tally next passed noted full now_full room less task made follows made_is books pushes counted passes notes are =
       record {
         told = follows.told;
         tallied = subst (λ ds. IsTallied c ds next) (sym pushes) counted;
@@ -182,16 +181,15 @@ module _ (c : Cluster) (groups : Groups) (order : List InstanceId) (now : ℕ) w
             (subst (λ ds. AreShut c groups order now (booked ++ booked_by c groups now made) ds rows now_full) (sym pushes)
             (shut_after c groups order now rows follows.told booked decisions full now_full task made follows.shut made_is notes));
         left = are;
-        room = room;
       }
 
-  module _ (rows : List (ℕ × ShortRow JobFacts)) (booked : List Booking) (decisions longer : List Decision) (tally : Tally) (passed : Option ℕ) (full : BTreeSet ℕ) (vacant : List InstanceId) (rests : List (List Rest)) (task : TaskId)
-      (follows : Follows c groups order now rows booked decisions tally passed full vacant rests) (waits : Waits c groups order now booked decisions task.job) (pushes : longer ≡ decisions ++ Skip task ∷ []) where
+  module _ (rows : List (ℕ × ShortRow JobFacts)) (booked : List Booking) (decisions longer : List Decision) (tally : Tally) (passed : Option ℕ) (full : BTreeSet ℕ) (room : Room) (task : TaskId)
+      (follows : Follows c groups order now rows booked decisions tally passed full room) (waits : Waits c groups order now booked decisions task.job) (pushes : longer ≡ decisions ++ Skip task ∷ []) where
     -- a task of a job whose tasks wait
     pub passed_decides : (booked, longer) ≡ decide c groups order now (booked, decisions) task
     passed_decides = weighed_decides booked booked decisions longer task (Skip task) (sym (waits task refl)) (sym (append-nil booked)) pushes
 
-    pub passed_follows : Follows c groups order now rows booked longer tally passed full vacant rests
+    pub passed_follows : Follows c groups order now rows booked longer tally passed full room
     passed_follows =
         record {
           told = follows.told;
@@ -200,5 +198,4 @@ module _ (c : Cluster) (groups : Groups) (order : List InstanceId) (now : ℕ) w
           shut = subst (λ ds. AreShut c groups order now booked ds rows full) (sym pushes)
               (subst (λ bs. AreShut c groups order now bs (decisions ++ Skip task ∷ []) rows full) (append-nil booked) (shut_later c groups order now rows booked [] decisions (Skip task) full follows.shut));
           left = follows.left;
-          room = follows.room;
         }

@@ -1,25 +1,23 @@
--- Instances all of whose slots are booked: they take nothing of a job that asks for one slot, now and as bookings grow.
-use Rattle.std.proofs.Common.{◌≡◌, ℕ, ◌+◌, ◌≤◌, ◌<◌, ◌==◌, inl, inr, Bool, true, false, not, ◌&&◌, cond, min, max, List, [], ◌∷◌, ◌++◌, filter, fold, Option, Some, None, refl, sym, subst, ap, ◌∙◌, arith}
+-- Instances all of whose slots are booked: they take nothing of a job that asks for one slot.
+use Rattle.std.proofs.Common.{◌≡◌, ℕ, ◌+◌, ◌≤◌, ◌<◌, ◌==◌, inl, inr, Bool, true, false, min, max, List, [], ◌∷◌, filter, fold, Option, Some, None, refl, sym, subst, ap, ◌∙◌, arith}
 use Rattle.std.specs.List.{list_any}
 use Rattle.std.specs.Prelude.{nat_lt}
-use Rattle.std.proofs.lemmas.Bool.{cond_both, cond-true, cond-false, cases_Bool, and_parts, and_cases, or_from, leb-true, ltb-true, eqb-true, not-false}
+use Rattle.std.proofs.lemmas.Bool.{cond_both, cond-true, cond-false, cases_Bool, and_parts, or_from, leb-true, ltb-true, eqb-true, not-false}
 use Rattle.ge_collections.specs.Keyed.{at_number}
 use Rattle.ge_model_rows.specs.ClusterRows.{Cluster}
 use Rattle.ge_model_rows.specs.HostRows.{Groups, InstanceId}
 use Rattle.ge_model_rows.specs.JobRows.{Job, Advance}
 use Rattle.ge_model_rows.specs.ScheduleRows.{LimitId, Booking}
 use Rattle.ge_model_rows.specs.ValueRows.{infinity}
-use Rattle.ge_model_bookings.specs.Bookings.{forever, same_instance, window_end, plain_sum, begins_inside, raised, peak}
+use Rattle.ge_model_bookings.specs.Bookings.{forever, window_end, plain_sum, begins_inside, raised, peak}
 use Rattle.ge_model_place.specs.Limits.{capacity_of}
 use Rattle.ge_model_place.specs.Placement.{placement_of}
 use Rattle.ge_model_place.specs.Windows.{duration_of, advance_of, no_later_than, window_end_from, lasts_at, next_moment}
 use Rattle.ge_model_place.proofs.Admitted.{out_of_time}
 use Rattle.ge_model_place.proofs.First.{takes_one}
-use Rattle.ge_model_place.proofs.Same.{instances_equal}
 use Rattle.ge_timeline.specs.Looks.{window_peak}
-use Rattle.ge_scheduling.specs.Vacant.{goes_on, slots_of, is_used_up, is_occupied, is_vacant, IsOccupied, AreVacant}
+use Rattle.ge_scheduling.specs.Vacant.{goes_on, slots_of, is_used_up, is_occupied, is_vacant}
 use Rattle.ge_scheduling.proofs.Admitting.{takes_none}
-use Rattle.ge_scheduling.proofs.Grown.{sum_grows}
 use Rattle.ge_scheduling.proofs.Nowhere.{none_placed}
 
 -- lists
@@ -33,15 +31,6 @@ any_kept keeps test out (x ∷ xs) none =
           absurd cc
       | inr gone ↦
           or_from (test x) (list_any test xs) (out x gone) (any_kept keeps test out xs (none ∙ cond-false (keeps x) (x ∷ filter keeps xs) (filter keeps xs) gone))
-    ]
-
-filter_both : {X : Type 0} (first second : X → Bool) (xs : List X) → filter second (filter first xs) ≡ filter (λ x. first x && second x) xs
-filter_both first second [] = refl
-filter_both first second (x ∷ xs) =
-    let rest = filter_both first second xs in
-    elim (cases_Bool (first x)) [
-      | inl one ↦ rw one (ap (λ ys. cond (second x) (x ∷ ys) ys) rest)
-      | inr other ↦ rw other rest
     ]
 
 -- the greatest sum at one moment is the sum there
@@ -84,51 +73,27 @@ peak_there booked limit now =
     (λ _. omega arith)
 
 module _ (c : Cluster) (groups : Groups) (now : ℕ) (booked : List Booking) where
-  pub occupied_is : (at : InstanceId) → is_occupied c groups now booked at ≡ true → IsOccupied c groups now booked at
-  occupied_is at e =
+  -- an instance all of whose slots are booked takes no slot of a job that asks for one slot
+  refuses : (job : Job) (at : InstanceId) → (job.advance == 0) ≡ true → is_occupied c groups now booked at ≡ true → takes_one c groups job booked now at ≡ false
+  refuses job at free e =
       let parts = and_parts (goes_on c now) (is_used_up c groups now booked (slots_of at)) e in
       let used = leb-true (capacity_of c groups (slots_of at)) (window_peak booked (slots_of at) now (next_moment now)) parts.1 in
       let most = peak_there booked (slots_of at) now in
-      record { on = parts.0; used = omega (arith, used, most) }
-
-  -- such an instance takes no slot of a job that asks for one slot
-  refuses : (job : Job) (at : InstanceId) → (job.advance == 0) ≡ true → IsOccupied c groups now booked at → takes_one c groups job booked now at ≡ false
-  refuses job at free is = takes_none c groups job at booked now (lasts_on c job now is.on free) free is.used
+      takes_none c groups job at booked now (lasts_on c job now parts.0 free) free (omega (arith, used, most))
 
   module _ (order : List InstanceId) where
-    pub vacant_first : (vacant : List InstanceId) → vacant ≡ filter (is_vacant c groups now booked) order → AreVacant c groups now booked order vacant
-    vacant_first vacant are =
-        record { keeps = is_vacant c groups now booked; are = are; others = λ at gone. occupied_is at (not-false (is_occupied c groups now booked at) gone) }
-
-    -- one that is occupied is left out
-    pub vacant_less : (vacant fewer : List InstanceId) (at : InstanceId) → AreVacant c groups now booked order vacant → is_occupied c groups now booked at ≡ true
-        → fewer ≡ filter (λ other. not (same_instance other at)) vacant → AreVacant c groups now booked order fewer
-    vacant_less vacant fewer at were occupied less =
-        record {
-          keeps = λ other. were.keeps other && not (same_instance other at);
-          are = less ∙ ap (λ xs. filter (λ other. not (same_instance other at)) xs) were.are ∙ filter_both were.keeps (λ other. not (same_instance other at)) order;
-          others = λ other gone. elim (and_cases (were.keeps other) (not (same_instance other at)) gone) [
-            | inl before ↦ were.others other before
-            | inr same ↦ subst (λ x. IsOccupied c groups now booked x) (sym (instances_equal other at (not-false (same_instance other at) same))) (occupied_is at occupied)
-          ];
-        }
-
-    -- where none is left, and there is no reservation that a job may be sent into, nothing is placed
-    pub nothing_placed : AreVacant c groups now booked order [] → c.advances ≡ [] → (job : Job) → placement_of c groups order booked job now ≡ None
-    nothing_placed are none job =
+    -- where no instance takes a slot of a job that asks for one, and there is no reservation that a job may be sent into, nothing is placed
+    pub nothing_placed : ((job : Job) → (job.advance == 0) ≡ true → list_any (takes_one c groups job booked now) order ≡ false) → c.advances ≡ [] → (job : Job)
+        → placement_of c groups order booked job now ≡ None
+    nothing_placed refused none job =
         elim (cases_Bool (job.advance == 0)) [
-          | inl free ↦ none_placed c groups job booked now order (any_kept are.keeps (takes_one c groups job booked now) (λ at gone. refuses job at free (are.others at gone)) order are.are)
+          | inl free ↦ none_placed c groups job booked now order (refused job free)
           | inr sent ↦ out_of_time c groups job booked now order
               (or_from (job.advance == 0) (lasts_at now (advance_of c job)) sent (ap (λ (rows : List (ℕ × Advance)). lasts_at now (at_number rows job.advance)) none))
         ]
 
-module _ (c : Cluster) (groups : Groups) (now : ℕ) (booked more : List Booking) where
-  occupied_later : (at : InstanceId) → IsOccupied c groups now booked at → IsOccupied c groups now (booked ++ more) at
-  occupied_later at is =
-      let used = is.used in
-      let grows = sum_grows (slots_of at) now booked more in
-      record { on = is.on; used = omega (arith, used, grows) }
-
-  -- they stay so as bookings grow
-  pub vacant_later : (order vacant : List InstanceId) → AreVacant c groups now booked order vacant → AreVacant c groups now (booked ++ more) order vacant
-  vacant_later order vacant were = record { keeps = were.keeps; are = were.are; others = λ at gone. occupied_later at (were.others at gone) }
+    -- as where none has a slot left
+    pub none_vacant : [] ≡ filter (is_vacant c groups now booked) order → (job : Job) → (job.advance == 0) ≡ true → list_any (takes_one c groups job booked now) order ≡ false
+    none_vacant none job free =
+        any_kept (is_vacant c groups now booked) (takes_one c groups job booked now)
+        (λ at gone. refuses job at free (not-false (is_occupied c groups now booked at) gone)) order none

@@ -9,6 +9,7 @@ pub mod Nowhere
 pub mod Thinned
 pub mod Everywhere
 pub mod LeftOut
+pub mod Open
 pub mod Remaining
 pub mod Singly
 pub mod Kept

@@ -1,5 +1,5 @@
 -- What a run under way has decided.
-use Rattle.std.proofs.Common.{◌≡◌, ℕ, false, List, [], ◌∷◌, ◌++◌, fold, map, sym, subst, ap, ◌∙◌, arith}
+use Rattle.std.proofs.Common.{◌≡◌, ℕ, false, List, [], ◌++◌, fold, map, sym, ap, ◌∙◌, arith}
 use Rattle.std.proofs.lemmas.List.Sums.{fold-append}
 use Rattle.ge_model_rows.specs.ClusterRows.{Cluster}
 use Rattle.ge_model_rows.specs.DecisionRows.{Decision}
@@ -15,8 +15,8 @@ use Rattle.ge_model_place.proofs.Laws.{decides_each}
 use Rattle.ge_scheduling.specs.declared.underway.Run.{Run}
 use Rattle.ge_scheduling.specs.Bases.{may_keep}
 use Rattle.ge_scheduling.specs.UnderWay.{IsUnderWay, OthersWait, tasks_decided}
-use Rattle.ge_scheduling.specs.Vacant.{AreVacant}
 use Rattle.ge_scheduling.proofs.LeftOut.{nothing_placed}
+use Rattle.ge_scheduling.proofs.Remaining.{none_open}
 use Rattle.ge_scheduling.proofs.Waiting.{each_waits}
 
 module _ (c : Cluster) (groups : Groups) (order : List InstanceId) (now : ℕ) where
@@ -57,12 +57,11 @@ module _ (c : Cluster) (run : Run) (is : IsUnderWay c run) where
   run_made = ap (λ (so_far : List Booking × List Decision). so_far.1) is.made ∙ of_run c run.groups run.order run.moment is.spelled is.ordered (tasks_decided run)
 
   -- where no slot is left, and none may be kept
-  pub others_waiting : run.so_far.vacant ≡ [] → c.advances ≡ [] → may_keep c run.so_far.tally.reserved ≡ false → OthersWait c run
+  pub others_waiting : run.so_far.room.vacant ≡ [] → c.advances ≡ [] → may_keep c run.so_far.tally.reserved ≡ false → OthersWait c run
   others_waiting none_left no_advances none_kept others =
-      let are = subst (λ vacant. AreVacant c run.groups run.moment run.so_far.booked run.order vacant) none_left is.left in
       let kept = is.tallied.kept in
       sym (of_run c run.groups run.order run.moment is.spelled is.ordered (tasks_decided run ++ others))
       ∙ ap (λ (so_far : List Booking × List Decision). so_far.1) (fold-append (decide c run.groups run.order run.moment) (base_bookings c run.groups run.moment, []) (tasks_decided run) others)
       ∙ ap (λ (so_far : List Booking × List Decision). (fold (decide c run.groups run.order run.moment) so_far others).1) (sym is.made)
       ∙ each_waits c run.so_far.tally.reserved none_kept run.groups run.order run.moment run.so_far.booked
-      (λ job. nothing_placed c run.groups run.moment run.so_far.booked run.order are no_advances job) run.so_far.decisions (omega (arith, kept)) others
+      (nothing_placed c run.groups run.moment run.so_far.booked run.order (none_open c run.groups run.moment run.so_far.booked run.order run.so_far.room is.left none_left) no_advances) run.so_far.decisions (omega (arith, kept)) others

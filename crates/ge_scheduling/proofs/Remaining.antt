@@ -1,22 +1,20 @@
 -- What is left at instances: one that has too little takes no slot, now and as bookings grow.
-use Rattle.std.proofs.Common.{◌≡◌, ℕ, suc, ◌+◌, ◌-◌, ◌≤◌, ◌<◌, ◌==◌, inl, inr, Bool, true, false, ◌||◌, cond, min, All, List, [], ◌∷◌, ◌++◌, map, filter, length, get_or, position, slice_set, slice_index_or, Option, Some, None, refl, sym, subst, ap, ◌∙◌, is_some, arith, get_or-set_same, get_or-set_other, below_more}
+use Rattle.std.proofs.Common.{◌≡◌, ℕ, suc, ◌+◌, ◌-◌, ◌≤◌, ◌<◌, ◌==◌, inl, inr, Bool, true, false, ◌||◌, cond, min, All, List, [], ◌∷◌, ◌++◌, map, filter, length, get_or, slice_set, slice_index_or, drop, remove, Option, Some, None, refl, sym, subst, ap, ◌∙◌, arith, get_or-set_same, get_or-set_other, below_more}
+use Rattle.std.proofs.Math.ListN.{drop_of_length-le}
+use Rattle.std.proofs.Math.Seq.{drop-cons}
 use Rattle.std.specs.List.{list_any}
-use Rattle.std.specs.BTreeMap.{is_at}
 use Rattle.std.specs.Prelude.{nat_lt}
-use Rattle.std.proofs.lemmas.Bool.{cond-true, cond-false, cases_Bool, eqb-true, and_parts, or_parts, or_cases, or_from, or_left, or_right, cases_eq, true≢false, false_from_ne_true, ltb-true}
-use Rattle.std.proofs.lemmas.List.{length-map, length-set, get_or-map, get_or_read}
-use Rattle.std.proofs.lemmas.List.Elements.{All-nil, All-cons, All-head, All-tail}
-use Rattle.std.proofs.lemmas.List.Quantifiers.{position-Some}
-use Rattle.std.proofs.lemmas.Map.Text.{is_eq-slice_cmp}
-use Rattle.ge_collections.specs.Changed.{ChangesAt}
-use Rattle.ge_collections.specs.Keyed.{text_eq, text_cmp, at_text}
+use Rattle.std.proofs.lemmas.Bool.{cond-true, cond-false, cases_Bool, cases_lt, cond_both, eqb-true, and_parts, or_cases, or_from, or_left, or_right, cases_eq, true≢false, false_from_ne_true, ltb-true}
+use Rattle.std.proofs.lemmas.List.{length-map, length-set, get_or-map, get_or_default, get_or_read}
+use Rattle.std.proofs.lemmas.List.Elements.{All-map, All-nil, All-cons, All-head, All-tail}
+use Rattle.ge_collections.specs.Keyed.{at_text}
 use Rattle.ge_demands.specs.declared.counting.Counted.{Counted}
 use Rattle.ge_model_rows.specs.ClusterRows.{Cluster}
 use Rattle.ge_model_rows.specs.HostRows.{HostRow, Groups, InstanceId}
 use Rattle.ge_model_rows.specs.JobRows.{Job}
 use Rattle.ge_model_rows.specs.ScheduleRows.{LimitId, Instance, Host, Global, Pe, Quota, Booking}
 use Rattle.ge_model_rows.specs.ScheduleRows.{Advance as Booked}
-use Rattle.ge_model_bookings.specs.Bookings.{same_instance, same_limit, plain_sum}
+use Rattle.ge_model_bookings.specs.Bookings.{same_limit, plain_sum}
 use Rattle.ge_model_bookings.proofs.Peaks.{within_peak}
 use Rattle.ge_model_place.specs.Limits.{greatest_demand, capacity_of, consumables, instance_limits, host_limits, pe_limits, who_at, configured_limits, limits_at, per_slot, resource_of}
 use Rattle.ge_model_place.specs.Opening.{global_name, is_open}
@@ -27,21 +25,24 @@ use Rattle.ge_model_place.specs.Windows.{window_end_from, next_moment}
 use Rattle.ge_model_place.proofs.First.{takes_one}
 use Rattle.ge_model_place.proofs.Moments.{admissible_is}
 use Rattle.ge_model_place.proofs.Once.{Each}
-use Rattle.ge_model_place.proofs.Same.{texts_equal, text_same, instances_equal, limit_same}
+use Rattle.ge_model_place.proofs.Same.{texts_equal, limit_same}
 use Rattle.ge_timeline.specs.Looks.{window_peak}
 use Rattle.ge_scheduling.specs.declared.rests.Rest.{Rest}
+use Rattle.ge_scheduling.specs.declared.rests.Left.{Left}
+use Rattle.ge_scheduling.specs.declared.rests.Room.{Room}
 use Rattle.ge_scheduling.specs.Common.{IsAsked}
-use Rattle.ge_scheduling.specs.Rests.{rest_of, host_rests, rests_at, is_of, asks_more, is_short, is_short_now, are_short, left_then, is_short_then, are_short_then, are_short_at, has_host, AreKept, IsLeft, AreLeft}
+use Rattle.ge_scheduling.specs.Rests.{rest_of, host_rests, rests_at, number_in, numbered_at, is_full, renewed_rest, renewed_left, AreOpen, ArePassed, is_of, asks_more, is_short, is_short_now, are_short, left_then, is_short_then, are_short_then, are_short_at, is_kept, AreKept, IsLeft, AreLeft}
 use Rattle.ge_scheduling.specs.Vacant.{goes_on, slots_of}
 use Rattle.ge_scheduling.proofs.Admitting.{any_first, any_second, counts_here, slots_count, has_room_for}
 use Rattle.ge_scheduling.proofs.Grown.{sum_grows}
 use Rattle.ge_scheduling.proofs.LeftOut.{peak_there, lasts_on}
 use Rattle.ge_scheduling.proofs.Nowhere.{none_placed}
+use Rattle.ge_scheduling.proofs.Open.{open_on, open_within, open_less}
 use Rattle.ge_scheduling.proofs.Thinned.{placed_thinned}
 
 -- lists
 
-none_any : {X : Type 0} (test : X → Bool) (xs : List X) → ((i : ℕ) (d : X) → i < length xs → test (get_or xs i d) ≡ false) → list_any test xs ≡ false
+pub none_any : {X : Type 0} (test : X → Bool) (xs : List X) → ((i : ℕ) (d : X) → i < length xs → test (get_or xs i d) ≡ false) → list_any test xs ≡ false
 none_any test [] refused = refl
 none_any test (x ∷ xs) refused = or_from (test x) (list_any test xs) (refused 0 x (omega arith)) (none_any test xs (λ i d less. refused (suc i) d (omega (arith, less))))
 
@@ -107,51 +108,80 @@ module _ (c : Cluster) (groups : Groups) (now : ℕ) (booked : List Booking) whe
         (record { of_it = refl; whole = refl; counts = λ job opened free. slots_count c groups job at opened free; within = within_rest (slots_of at); least = λ job. omega arith })
         (host_left (at_text c.hosts at.host) refl)
 
-  pub all_left : (order : List InstanceId) (rests : List (List Rest)) → rests ≡ map (rests_at c groups now booked) order → AreLeft c groups now booked order rests
-  all_left order rests are =
+  pub all_left : (hosts : List (List ℕ × ℕ)) (order : List InstanceId) (lefts : List Left) (vacant : List ℕ) → lefts ≡ map (numbered_at c groups now booked hosts) order
+      → AreOpen (is_full c now) lefts (length lefts) 0 vacant → AreLeft c groups now booked order (record { lefts = lefts; vacant = vacant })
+  all_left hosts order lefts vacant are others =
+      let here : (k : ℕ) (at : InstanceId) (none : Left) → k < length order → slice_index_or lefts k none ≡ numbered_at c groups now booked hosts (slice_index_or order k at) =
+      λ k at none inside. ap (λ rs. slice_index_or rs k none) are ∙ get_or-map (numbered_at c groups now booked hosts) order k at none inside in
       record {
-        long = ap (λ rs. length rs) are ∙ length-map order (rests_at c groups now booked);
-        each = λ k at none inside.
-            subst (λ rs. All (IsLeft c groups now booked (slice_index_or order k at)) rs) (sym (ap (λ rs. slice_index_or rs k none) are ∙ get_or-map (rests_at c groups now booked) order k at none inside))
-            (left_here (slice_index_or order k at));
+        number = number_in hosts;
+        hosts = record { each = λ k at none inside. ap (λ (left : Left). left.host) (here k at none inside) };
+        long = ap (λ rs. length rs) are ∙ length-map order (numbered_at c groups now booked hosts);
+        each = λ k at none inside. subst (λ (left : Left). All (IsLeft c groups now booked (slice_index_or order k at)) left.rests) (sym (here k at none inside)) (left_here (slice_index_or order k at));
+        others = others;
       }
 
-  -- what is left at one instance is taken anew
-  pub renewed : (order : List InstanceId) (rests new : List (List Rest)) (at : InstanceId) (place : ℕ) → AreLeft c groups now booked order rests → Some place ≡ position (λ other. same_instance other at) order
-      → new ≡ slice_set rests place (rests_at c groups now booked at) → AreLeft c groups now booked order new
-  renewed order rests new at place are found sets =
-      let there = position-Some (λ other. same_instance other at) order place at (sym found) in
+  still_left : (at : InstanceId) (rest : Rest) → IsLeft c groups now booked at rest → IsLeft c groups now booked at (renewed_rest now booked rest)
+  still_left at rest is =
+      let whole = is.whole in
+      let most = within_rest rest.limit in
+      record { of_it = is.of_it; counts = is.counts; whole = is.whole; within = omega (arith, whole, most); least = is.least }
+
+  -- what is left at a vacant place is taken anew
+  pub renewed : (order : List InstanceId) (room new : Room) (place index : ℕ) (left : Left) → AreLeft c groups now booked order room → index < length room.vacant → place ≡ slice_index_or room.vacant index 0
+      → is_full c now (slice_index_or room.lefts place left) ≡ false → left ≡ renewed_left now booked (slice_index_or room.lefts place left) → new.lefts ≡ slice_set room.lefts place left
+      → new.vacant ≡ cond (is_full c now left) (remove room.vacant index) room.vacant → AreLeft c groups now booked order new
+  renewed order room new place index left are within place_is unfull is sets leaves =
+      let long : place < length room.lefts = subst (λ n. n < length room.lefts) (sym place_is) (open_within (is_full c now) room.lefts (length room.lefts) 0 room.vacant index within are.others) in
+      let was = are.long in
+      let inside : place < length order = omega (arith, long, was) in
+      let put : (none : Left) → slice_index_or new.lefts place none ≡ left = λ none. ap (λ rs. slice_index_or rs place none) sets ∙ get_or-set_same room.lefts place left none long in
+      let stays : (k : ℕ) (none : Left) → (k ≡ place → ⊥) → slice_index_or new.lefts k none ≡ slice_index_or room.lefts k none = λ k none other. ap (λ rs. slice_index_or rs k none) sets ∙ get_or-set_other room.lefts place k left none other in
+      let length_is : length new.lefts ≡ length room.lefts = ap (λ rs. length rs) sets ∙ length-set room.lefts place left in
+      let full : (k : ℕ) (none : Left) → is_full c now (slice_index_or room.lefts k none) ≡ true → is_full c now (slice_index_or new.lefts k none) ≡ true =
+      λ k none e.
+      elim (cases_eq k place) [
+        | inl this ↦
+            absurd (true≢false (sym e ∙ ap (λ n. is_full c now (slice_index_or room.lefts n none)) this ∙ ap (λ (l : Left). is_full c now l) (get_or_default room.lefts place none left long) ∙ unfull))
+        | inr other ↦ ap (λ (l : Left). is_full c now l) (stays k none other) ∙ e
+      ] in
+      let still : AreOpen (is_full c now) new.lefts (length new.lefts) 0 room.vacant =
+      subst (λ n. AreOpen (is_full c now) new.lefts n 0 room.vacant) (sym length_is) (open_on (is_full c now) room.lefts new.lefts (length room.lefts) 0 room.vacant full are.others) in
       record {
-        long = ap (λ rs. length rs) sets ∙ length-set rests place (rests_at c groups now booked at) ∙ are.long;
-        each = λ k d none inside.
+        number = are.number;
+        hosts = record {
+          each = λ k d none inside_k.
+              elim (cases_eq k place) [
+                | inl this ↦
+                    subst (λ n. (slice_index_or new.lefts n none).host ≡ are.number (slice_index_or order n d).host) (sym this)
+                    (ap (λ (l : Left). l.host) (put none ∙ is) ∙ are.hosts.each place d left inside)
+                | inr other ↦ ap (λ (l : Left). l.host) (stays k none other) ∙ are.hosts.each k d none inside_k
+              ];
+        };
+        long = length_is ∙ are.long;
+        each = λ k d none inside_k.
             elim (cases_eq k place) [
-              | inl same ↦
-                  let here : slice_index_or order k d ≡ at = instances_equal (slice_index_or order k d) at (subst (λ n. same_instance (slice_index_or order n d) at ≡ true) (sym same) (position-Some (λ other. same_instance other at) order place d (sym found)).1) in
-                  let is : slice_index_or new k none ≡ rests_at c groups now booked at =
-                  ap (λ rs. slice_index_or rs k none) sets ∙ ap (λ n. slice_index_or (slice_set rests place (rests_at c groups now booked at)) n none) same ∙ get_or-set_same rests place (rests_at c groups now booked at) none (long_there there.0) in
-                  subst (λ rs. All (IsLeft c groups now booked (slice_index_or order k d)) rs) (sym is) (subst (λ x. All (IsLeft c groups now booked x) (rests_at c groups now booked at)) (sym here) (left_here at))
-              | inr other ↦
-                  let is : slice_index_or new k none ≡ slice_index_or rests k none = ap (λ rs. slice_index_or rs k none) sets ∙ get_or-set_other rests place k (rests_at c groups now booked at) none other in
-                  subst (λ rs. All (IsLeft c groups now booked (slice_index_or order k d)) rs) (sym is) (are.each k d none inside)
+              | inl this ↦
+                  subst (λ n. All (IsLeft c groups now booked (slice_index_or order n d)) (slice_index_or new.lefts n none).rests) (sym this)
+                  (subst (λ (l : Left). All (IsLeft c groups now booked (slice_index_or order place d)) l.rests) (sym (put none ∙ is))
+                  (All-map (IsLeft c groups now booked (slice_index_or order place d)) (renewed_rest now booked) (slice_index_or room.lefts place left).rests
+                  (λ i e under. still_left (slice_index_or order place d) (slice_index_or (slice_index_or room.lefts place left).rests i e) (are.each place d left inside i e under))))
+              | inr other ↦ subst (λ (l : Left). All (IsLeft c groups now booked (slice_index_or order k d)) l.rests) (sym (stays k none other)) (are.each k d none inside_k)
             ];
+        others =
+            subst (λ places. AreOpen (is_full c now) new.lefts (length new.lefts) 0 places) (sym leaves)
+            (cond_both (is_full c now left) (remove room.vacant index) room.vacant (λ places. AreOpen (is_full c now) new.lefts (length new.lefts) 0 places)
+            (λ e. open_less (is_full c now) new.lefts (length new.lefts) 0 room.vacant index within
+            (λ none. ap (λ n. is_full c now (slice_index_or new.lefts n none)) (sym place_is) ∙ ap (λ (l : Left). is_full c now l) (put none) ∙ e) still)
+            (λ _. still));
       }
-    where
-      long_there : place < length order → place < length rests
-      long_there inside = let long = are.long in omega (arith, inside, long)
 
   -- at one place
-  pub left_at : (order : List InstanceId) (rests all : List (List Rest)) (place : ℕ) (at : InstanceId) (left : List Rest) → AreLeft c groups now booked order rests → all ≡ rests
-      → place < length order → at ≡ slice_index_or order place at → left ≡ slice_index_or all place left → All (IsLeft c groups now booked at) left
-  left_at order rests all place at left are same inside at_is left_is =
-      subst (λ x. All (IsLeft c groups now booked x) left) (sym at_is)
-      (subst (λ rs. All (IsLeft c groups now booked (slice_index_or order place at)) rs) (sym (left_is ∙ ap (λ xs. slice_index_or xs place left) same)) (are.each place at left inside))
-
-  -- one more that takes no slot
-  pub refused_more : (test : InstanceId → Bool) (order : List InstanceId) (place : ℕ) (at : InstanceId) → place < length order → at ≡ slice_index_or order place at → test at ≡ false
-      → ((k : ℕ) (d : InstanceId) → k < place → test (slice_index_or order k d) ≡ false) → (k : ℕ) (d : InstanceId) → k < place + 1 → test (slice_index_or order k d) ≡ false
-  refused_more test order place at inside at_is isnt before k d less =
-      below_more (λ (n : ℕ). (e : InstanceId) → test (slice_index_or order n e) ≡ false) place (λ n below e. before n e below)
-      (λ e. ap test (sym (get_or_read order place at inside at_is e)) ∙ isnt) k less d
+  pub left_at : (order : List InstanceId) (room : Room) (all : List Left) (place : ℕ) (at : InstanceId) (left : Left) → AreLeft c groups now booked order room → all ≡ room.lefts
+      → place < length order → at ≡ slice_index_or order place at → left ≡ slice_index_or all place left → All (IsLeft c groups now booked at) left.rests
+  left_at order room all place at left are same inside at_is left_is =
+      subst (λ x. All (IsLeft c groups now booked x) left.rests) (sym at_is)
+      (subst (λ (l : Left). All (IsLeft c groups now booked (slice_index_or order place at)) l.rests) (sym (left_is ∙ ap (λ xs. slice_index_or xs place left) same)) (are.each place at left inside))
 
   -- an instance of which more is asked than is left takes no slot
   module _ (job : Job) (at : InstanceId) (on : goes_on c now ≡ true) (free : (job.advance == 0) ≡ true) where
@@ -247,56 +277,98 @@ module _ (c : Cluster) (groups : Groups) (now : ℕ) (booked more : List Booking
       record { of_it = is.of_it; counts = is.counts; whole = is.whole; within = omega (arith, within, grows); least = is.least }
 
   -- no more is left as bookings grow
-  pub all_left_later : (order : List InstanceId) (rests : List (List Rest)) → AreLeft c groups now booked order rests → AreLeft c groups now (booked ++ more) order rests
-  all_left_later order rests are =
+  pub all_left_later : (order : List InstanceId) (room : Room) → AreLeft c groups now booked order room → AreLeft c groups now (booked ++ more) order room
+  all_left_later order room are =
       record {
+        number = are.number;
+        hosts = are.hosts;
         long = are.long;
-        each = λ k at none inside i d within. left_later (slice_index_or order k at) (slice_index_or (slice_index_or rests k none) i d) (are.each k at none inside i d within);
+        each = λ k at none inside i d within. left_later (slice_index_or order k at) (slice_index_or (slice_index_or room.lefts k none).rests i d) (are.each k at none inside i d within);
+        others = are.others;
       }
+
+-- where nothing is left
+
+module _ (c : Cluster) (groups : Groups) (now : ℕ) (booked : List Booking) (order : List InstanceId) (room : Room) (are : AreLeft c groups now booked order room) where
+  abbrev pub ArePassedBy : Job → List ℕ → Type 0
+  ArePassedBy job places = ArePassed (takes_one c groups job booked now) (is_full c now) order room.lefts places
+
+  pub vacant_within : (items : List ℕ) → items ≡ room.vacant → (index : ℕ) → index < length room.vacant → slice_index_or items index 0 < length room.lefts
+  vacant_within items same index inside =
+      subst (λ places. slice_index_or places index 0 < length room.lefts) (sym same) (open_within (is_full c now) room.lefts (length room.lefts) 0 room.vacant index inside are.others)
+
+  -- an instance where nothing is left takes no slot
+  full_takes : (job : Job) → (job.advance == 0) ≡ true → (k : ℕ) (d : InstanceId) (none : Left) → k < length room.lefts → is_full c now (slice_index_or room.lefts k none) ≡ true
+      → takes_one c groups job booked now (slice_index_or order k d) ≡ false
+  full_takes job free k d none inside e =
+      let long = are.long in
+      let parts = and_parts (goes_on c now) (are_short [] (slice_index_or room.lefts k none).rests) e in
+      refused_short c groups now booked job (slice_index_or order k d) parts.0 free (slice_index_or room.lefts k none).rests [] (are.each k d none (omega (arith, inside, long))) (All-nil (IsAsked c groups job)) parts.1
+
+  module _ (job : Job) (free : (job.advance == 0) ≡ true) where
+    pub passed_none : ArePassedBy job room.vacant
+    passed_none = record { from = 0; none = λ k at less. absurd (omega (arith, less)); rest = are.others }
+
+    passed_to : (places : List ℕ) (place : ℕ) (rest : List ℕ) → places ≡ place ∷ rest → ArePassedBy job places
+        → (place < length order) × ((k : ℕ) (d : InstanceId) → k < place → takes_one c groups job booked now (slice_index_or order k d) ≡ false) × AreOpen (is_full c now) room.lefts (length room.lefts) (place + 1) rest
+    passed_to places place rest is were =
+        let open_ = subst (λ ps. AreOpen (is_full c now) room.lefts (length room.lefts) were.from ps) is were.rest in
+        let inside = open_.1 in
+        let long = are.long in (
+          omega (arith, inside, long),
+          λ k d less. elim (cases_lt k were.from) [
+            | inl below ↦ were.none k d below
+            | inr behind ↦ let none : Left = record { host = 0; rests = [] } in full_takes job free k d none (omega (arith, less, inside)) (open_.2 k none behind less)
+          ],
+          open_.3,
+        )
+
+    -- none is left to be asked
+    passed_all : (places : List ℕ) → places ≡ [] → ArePassedBy job places → (k : ℕ) (d : InstanceId) → k < length order → takes_one c groups job booked now (slice_index_or order k d) ≡ false
+    passed_all places is were k d inside =
+        let open_ = subst (λ ps. AreOpen (is_full c now) room.lefts (length room.lefts) were.from ps) is were.rest in
+        let long = are.long in
+        let none : Left = record { host = 0; rests = [] } in
+        elim (cases_lt k were.from) [
+          | inl below ↦ were.none k d below
+          | inr behind ↦ full_takes job free k d none (omega (arith, inside, long)) (open_ k none behind (omega (arith, inside, long)))
+        ]
+
+    module _ (items : List ℕ) (same : items ≡ room.vacant) (index : ℕ) (were : ArePassedBy job (drop index room.vacant)) where
+      -- at a place, with those behind it
+      pub passed_at : index < length items
+          → (slice_index_or items index 0 < length order) × ((k : ℕ) (d : InstanceId) → k < slice_index_or items index 0 → takes_one c groups job booked now (slice_index_or order k d) ≡ false) × AreOpen (is_full c now) room.lefts (length room.lefts) (slice_index_or items index 0 + 1) (drop (index + 1) room.vacant)
+      passed_at inside =
+          let next : suc index ≡ index + 1 = omega arith in
+          passed_to (drop index room.vacant) (slice_index_or items index 0) (drop (index + 1) room.vacant)
+          (ap (λ xs. drop index xs) (sym same) ∙ drop-cons items index 0 inside ∙ ap (λ xs. slice_index_or items index 0 ∷ drop (suc index) xs) same
+          ∙ ap (λ n. slice_index_or items index 0 ∷ drop n room.vacant) next) were
+
+      -- one more that takes no slot
+      pub passed_more : (at : InstanceId) → index < length items → at ≡ slice_index_or order (slice_index_or items index 0) at → takes_one c groups job booked now at ≡ false → ArePassedBy job (drop (index + 1) room.vacant)
+      passed_more at inside at_is isnt =
+          let here = passed_at inside in
+          record {
+            from = slice_index_or items index 0 + 1;
+            none = λ k d less.
+                below_more (λ (n : ℕ). (e : InstanceId) → takes_one c groups job booked now (slice_index_or order n e) ≡ false) (slice_index_or items index 0) (λ n below e. here.1 n e below)
+                (λ e. ap (takes_one c groups job booked now) (sym (get_or_read order (slice_index_or items index 0) at here.0 at_is e)) ∙ isnt) k less d;
+            rest = here.2;
+          }
+
+      -- none is left to be asked
+      pub passed_end : length items ≤ index → (k : ℕ) (d : InstanceId) → k < length order → takes_one c groups job booked now (slice_index_or order k d) ≡ false
+      passed_end past = passed_all (drop index room.vacant) (ap (λ xs. drop index xs) (sym same) ∙ drop_of_length-le items past) were
+
+  -- where no place is vacant, no instance takes a slot of a job that asks for one
+  pub none_open : room.vacant ≡ [] → (job : Job) → (job.advance == 0) ≡ true → list_any (takes_one c groups job booked now) order ≡ false
+  none_open none job free = none_any (takes_one c groups job booked now) order (passed_all job free room.vacant none (passed_none job free))
 
 -- hosts that are kept
 
 each_at : {X : Type 0} (P : X → Type 0) (xs : List X) → ((k : ℕ) (d : X) → k < length xs → P (get_or xs k d)) → Each P xs
 each_at P [] all = tt
 each_at P (x ∷ xs) all = (all 0 x (omega arith), each_at P xs (λ k d less. all (suc k) d (omega (arith, less))))
-
--- one more is kept
-pub host_put : (old new : List (List ℕ × ℕ)) (host key : List ℕ) (n : ℕ) → key ≡ host → ChangesAt text_cmp key (λ _. Some n) old new → (q : List ℕ) → has_host new q ≡ (text_eq host q || has_host old q)
-host_put old new host key n same changes q =
-    ap (λ (v : Option ℕ). is_some v) (changes q)
-    ∙ ap (λ (k : List ℕ). is_some (cond (is_at (text_cmp k) q) (Some n) (at_text old q))) same
-    ∙ ap (λ (b : Bool). is_some (cond b (Some n) (at_text old q))) (is_eq-slice_cmp host q)
-    ∙ here (text_eq host q)
-  where
-    here : (alike : Bool) → is_some (cond alike (Some n) (at_text old q)) ≡ (alike || has_host old q)
-    here true = refl
-    here false = refl
-
-module _ (old new : List (List ℕ × ℕ)) (host : List ℕ) (put : (q : List ℕ) → has_host new q ≡ (text_eq host q || has_host old q)) where
-  pub fewer_hosts : (q : List ℕ) → has_host new q ≡ false → has_host old q ≡ false
-  fewer_hosts q away = (or_parts (text_eq host q) (has_host old q) (sym (put q) ∙ away)).1
-
-  pub own_host : has_host new host ≡ true
-  own_host = put host ∙ or_left (text_eq host host) (has_host old host) (text_same host)
-
-module _ (now : ℕ) (booked : List Booking) (moment : ℕ) (asked : List Counted) (order : List InstanceId) (rests : List (List Rest)) where
-  pub none_kept : (hosts : List (List ℕ × ℕ)) → AreKept now booked moment asked order rests 0 hosts
-  none_kept hosts = record { short = λ k at none less gone. absurd (omega (arith, less)) }
-
-  -- one more instance: its host is kept, or something is short there
-  pub kept_more : (old new : List (List ℕ × ℕ)) (place : ℕ) (at : InstanceId) (left : List Rest) (all : List (List Rest)) → place < length order → place < length rests → all ≡ rests → at ≡ slice_index_or order place at → left ≡ slice_index_or all place left
-      → ((q : List ℕ) → has_host new q ≡ false → has_host old q ≡ false) → (has_host new at.host ≡ false → are_short_at now booked moment asked left ≡ true)
-      → AreKept now booked moment asked order rests place old → AreKept now booked moment asked order rests (place + 1) new
-  kept_more old new place at left all inside long same at_is left_is fewer here were =
-      record {
-        short = λ k d none less gone.
-            below_more (λ (n : ℕ). (e : InstanceId) (nothing : List Rest) → has_host new (slice_index_or order n e).host ≡ false → are_short_at now booked moment asked (slice_index_or rests n nothing) ≡ true) place
-            (λ n below e nothing away. were.short n e nothing below (fewer (slice_index_or order n e).host away))
-            (λ e nothing away.
-            let this : slice_index_or order place e ≡ at = sym (get_or_read order place at inside at_is e) in
-            let those : slice_index_or rests place nothing ≡ left = sym (get_or_read rests place left long (left_is ∙ ap (λ xs. slice_index_or xs place left) same) nothing) in
-            ap (λ rs. are_short_at now booked moment asked rs) those ∙ here (sym (ap (λ (x : InstanceId). has_host new x.host) this) ∙ away)) k less d none gone;
-      }
 
 module _ (c : Cluster) (groups : Groups) (now moment : ℕ) (booked : List Booking) (job : Job) (on : goes_on c moment ≡ true) (free : (job.advance == 0) ≡ true) where
   -- at the moment of the run by what is known to be left, at another by what is booked there
@@ -314,11 +386,14 @@ module _ (c : Cluster) (groups : Groups) (now moment : ℕ) (booked : List Booki
       ]
 
   -- where hosts are left out at which each instance is short of something
-  pub placed_on_hosts : (asked : List Counted) (order left : List InstanceId) (rests : List (List Rest)) (hosts : List (List ℕ × ℕ)) → AreLeft c groups now booked order rests → All (IsAsked c groups job) asked
-      → AreKept now booked moment asked order rests (length order) hosts → left ≡ filter (λ (at : InstanceId). has_host hosts at.host) order
+  pub placed_on_hosts : (asked : List Counted) (order left : List InstanceId) (room : Room) (kept : List Bool) → (are : AreLeft c groups now booked order room) → All (IsAsked c groups job) asked
+      → AreKept now booked moment asked room.lefts (length room.lefts) kept → left ≡ filter (λ (at : InstanceId). is_kept kept (are.number at.host)) order
       → placement_of c groups left booked job moment ≡ placement_of c groups order booked job moment
-  placed_on_hosts asked order left rests hosts are is kept left_is =
+  placed_on_hosts asked order left room kept are is keeps left_is =
+      let long = are.long in
       ap (λ ats. placement_of c groups ats booked job moment) left_is
-      ∙ placed_thinned c groups job booked moment (has_host hosts) order
-      (each_at (λ (at : InstanceId). has_host hosts at.host ≡ false → takes_one c groups job booked moment at ≡ false) order (λ k d less gone.
-      refused_at (slice_index_or order k d) (slice_index_or rests k []) asked (are.each k d [] less) is (kept.short k d [] less gone)))
+      ∙ placed_thinned c groups job booked moment (λ host. is_kept kept (are.number host)) order
+      (each_at (λ (at : InstanceId). is_kept kept (are.number at.host) ≡ false → takes_one c groups job booked moment at ≡ false) order (λ k d less gone.
+      let none : Left = record { host = 0; rests = [] } in
+      refused_at (slice_index_or order k d) (slice_index_or room.lefts k none).rests asked (are.each k d none less) is
+      (keeps.short k none (omega (arith, less, long)) (ap (λ n. is_kept kept n) (are.hosts.each k d none less) ∙ gone))))

@@ -1,5 +1,5 @@
 -- Where nothing can be placed and no task may have slots kept, each task waits, in whatever order the tasks are.
-use Rattle.std.proofs.Common.{◌==◌, ◌&&◌, ◌≡◌, ◌≤◌, ℕ, inl, inr, Bool, true, false, cond, List, [], ◌∷◌, ◌++◌, fold, map, None, Some, refl, sym, subst, ap, ◌∙◌, append_assoc, arith}
+use Rattle.std.proofs.Common.{◌==◌, ◌&&◌, ◌≡◌, ◌≤◌, ℕ, inl, inr, Bool, true, false, cond, List, [], ◌∷◌, ◌++◌, fold, map, None, Some, refl, sym, ap, ◌∙◌, append_assoc, arith}
 use Rattle.std.specs.Prelude.{nat_lt, count_by}
 use Rattle.std.specs.List.{list_any}
 use Rattle.std.specs.BTreeMap.{is_at}
@@ -20,9 +20,8 @@ use Rattle.ge_model_place.specs.Running.{is_reserve, may_reserve, decide, run_of
 use Rattle.ge_model_place.specs.Windows.{base_bookings}
 use Rattle.ge_scheduling.specs.declared.basis.Basis.{Basis}
 use Rattle.ge_scheduling.specs.Bases.{asks_to_keep, may_keep, IsBasis, AllWait}
-use Rattle.ge_scheduling.specs.Vacant.{AreVacant}
 use Rattle.ge_scheduling.proofs.Kept.{must_each_wait, weighed_decides}
-use Rattle.ge_scheduling.proofs.LeftOut.{vacant_first, nothing_placed}
+use Rattle.ge_scheduling.proofs.LeftOut.{nothing_placed, none_vacant}
 
 -- no job of a table asks for slots to be kept
 none_asks : (rows : List (ℕ × Job)) → list_any asks_to_keep rows ≡ false → (number : ℕ) (job : Job) → at_number rows number ≡ Some job → job.reserve ≡ false
@@ -68,8 +67,7 @@ module _ (c : Cluster) (basis : Basis) (is : IsBasis c basis) (none_left : basis
   pub all_waiting : AllWait c basis.moment
   unfolding run_of
   all_waiting tasks =
-      let are = subst (λ vacant. AreVacant c basis.groups basis.moment basis.booked basis.order vacant) none_left (vacant_first c basis.groups basis.moment basis.booked basis.order basis.vacant is.left) in
-      let here = each_waits c 0 none_kept basis.groups basis.order basis.moment basis.booked (λ job. nothing_placed c basis.groups basis.moment basis.booked basis.order are no_advances job) [] (omega arith) tasks in
+      let here = each_waits c 0 none_kept basis.groups basis.order basis.moment basis.booked (nothing_placed c basis.groups basis.moment basis.booked basis.order (none_vacant c basis.groups basis.moment basis.booked basis.order (sym none_left ∙ is.left)) no_advances) [] (omega arith) tasks in
       sym ((λ i. run_by basis.groups (is.ordered i) (is.taken i)) ∙ (λ i. run_by (is.spelled i) (instance_order c (is.spelled i)) (base_bookings c (is.spelled i) basis.moment))) ∙ here
     where
       run_by : Groups → List InstanceId → List Booking → List Decision

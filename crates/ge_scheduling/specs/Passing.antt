@@ -12,9 +12,8 @@ use Rattle.ge_rows.specs.declared.labels.JobFacts.{JobFacts}
 use Rattle.ge_scheduling.specs.declared.counting.Tally.{Tally}
 use Rattle.ge_scheduling.specs.Counts.{IsTallied}
 use Rattle.ge_scheduling.specs.KindNotes.{TellKinds, AreShut}
-use Rattle.ge_scheduling.specs.declared.rests.Rest.{Rest}
+use Rattle.ge_scheduling.specs.declared.rests.Room.{Room}
 use Rattle.ge_scheduling.specs.Rests.{AreLeft}
-use Rattle.ge_scheduling.specs.Vacant.{AreVacant}
 
 -- the job of which a decision makes a task wait
 abbrev pub passed_by : ℕ → Decision → Option ℕ
@@ -27,11 +26,10 @@ module _ (c : Cluster) (groups : Groups) (order : List InstanceId) (now : ℕ) w
   abbrev pub Waits : List Booking → List Decision → ℕ → Type 0
   Waits booked decisions number = (task : TaskId) → task.job ≡ number → decision_of c groups order now booked decisions task ≡ Decision.Skip task
 
-  -- what is kept beside the bookings and the decisions so far belongs to them: what is counted, a job whose tasks wait, kinds of jobs of which no task can start, the instances that have a slot left, and what is left at each
-  pub record Follows (rows : List (ℕ × ShortRow JobFacts)) (booked : List Booking) (decisions : List Decision) (tally : Tally) (passed : Option ℕ) (full : BTreeSet ℕ) (vacant : List InstanceId) (rests : List (List Rest)) : Type 0 where
+  -- what is kept beside the bookings and the decisions so far belongs to them: what is counted, a job whose tasks wait, kinds of jobs of which no task can start, what is left at each instance
+  pub record Follows (rows : List (ℕ × ShortRow JobFacts)) (booked : List Booking) (decisions : List Decision) (tally : Tally) (passed : Option ℕ) (full : BTreeSet ℕ) (room : Room) : Type 0 where
     pub told : TellKinds c.jobs rows
     pub tallied : IsTallied c decisions tally
     pub waits : IfSome passed (Waits booked decisions)
     pub shut : AreShut c groups order now booked decisions rows full
-    pub left : AreVacant c groups now booked order vacant
-    pub room : AreLeft c groups now booked order rests
+    pub left : AreLeft c groups now booked order room

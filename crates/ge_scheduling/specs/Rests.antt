@@ -1,5 +1,5 @@
 -- What is left at the moment of a run of an instance's slots and of its host's values, at most.
-use Rattle.std.specs.Prelude.{◌≡◌, ℕ, ◌+◌, ◌-◌, ◌≤◌, ◌<◌, ◌==◌, Bool, true, false, ◌&&◌, ◌||◌, is_some, nat_lt, cond, min, All, List, [], ◌∷◌, map, length, slice_index_or, Option, Some, None}
+use Rattle.std.specs.Prelude.{◌≡◌, ℕ, ◌+◌, ◌-◌, ◌≤◌, ◌<◌, ◌==◌, Bool, true, false, ◌&&◌, ◌||◌, nat_lt, cond, min, All, List, [], ◌∷◌, map, length, slice_index_or, Option, Some, None, unwrap_or}
 use Rattle.std.specs.List.{list_any}
 use Rattle.ge_collections.specs.Keyed.{text_eq, at_text}
 use Rattle.ge_model_bookings.specs.Bookings.{plain_sum}
@@ -15,7 +15,9 @@ use Rattle.ge_model_place.specs.Windows.{next_moment}
 use Rattle.ge_timeline.specs.Looks.{window_peak}
 use Rattle.ge_demands.specs.declared.counting.Counted.{Counted}
 use Rattle.ge_scheduling.specs.declared.rests.Rest.{Rest}
-use Rattle.ge_scheduling.specs.Vacant.{slots_of}
+use Rattle.ge_scheduling.specs.declared.rests.Left.{Left}
+use Rattle.ge_scheduling.specs.declared.rests.Room.{Room}
+use Rattle.ge_scheduling.specs.Vacant.{goes_on, slots_of}
 
 -- what is left of a limit, of which no task takes less than the least
 abbrev pub rest_of : Cluster → Groups → ℕ → List Booking → LimitId → ℕ → Rest
@@ -29,6 +31,13 @@ host_rests c groups now booked host (Some row) = map (λ name. rest_of c groups 
 -- of the slots of an instance, of which each task takes one, and of the values of its host: host_conf, complex_values
 abbrev pub rests_at : Cluster → Groups → ℕ → List Booking → InstanceId → List Rest
 rests_at c groups now booked at = rest_of c groups now booked (slots_of at) 1 ∷ host_rests c groups now booked at.host (at_text c.hosts at.host)
+
+-- the number of a host, and what is left at an instance with that of its host
+abbrev pub number_in : List (List ℕ × ℕ) → List ℕ → ℕ
+number_in hosts host = unwrap_or (at_text hosts host) 0
+
+abbrev pub numbered_at : Cluster → Groups → ℕ → List Booking → List (List ℕ × ℕ) → InstanceId → Left
+numbered_at c groups now booked hosts at = record { host = number_in hosts at.host; rests = rests_at c groups now booked at }
 
 -- whether a limit counts a resource by its name
 abbrev pub is_of : LimitId → List ℕ → Bool
@@ -57,6 +66,13 @@ are_short asked rests = list_any (is_short_now asked) rests
 abbrev pub left_then : List Booking → ℕ → Rest → ℕ
 left_then booked moment rest = rest.there - window_peak booked rest.limit moment (next_moment moment)
 
+-- what is left of it taken anew, at an instance too
+abbrev pub renewed_rest : ℕ → List Booking → Rest → Rest
+renewed_rest now booked rest = record rest { most = left_then booked now rest }
+
+abbrev pub renewed_left : ℕ → List Booking → Left → Left
+renewed_left now booked left = record left { rests = map (renewed_rest now booked) left.rests }
+
 abbrev pub is_short_then : List Booking → ℕ → List Counted → Rest → Bool
 is_short_then booked moment asked rest = nat_lt (left_then booked moment rest) rest.least || is_short asked rest.resource (left_then booked moment rest)
 
@@ -67,13 +83,33 @@ are_short_then booked moment asked rests = list_any (is_short_then booked moment
 abbrev pub are_short_at : ℕ → List Booking → ℕ → List Counted → List Rest → Bool
 are_short_at now booked moment asked rests = cond (moment == now) (are_short asked rests) (are_short_then booked moment asked rests)
 
--- whether a host is among those that are kept
-abbrev pub has_host : List (List ℕ × ℕ) → List ℕ → Bool
-has_host hosts host = is_some (at_text hosts host)
+-- whether too little is left at an instance for any task
+abbrev pub is_full : Cluster → ℕ → Left → Bool
+is_full c now left = goes_on c now && are_short [] left.rests
 
--- hosts that were kept are still kept, and those of instances before a place at which nothing is short
-pub record AreKept (now : ℕ) (booked : List Booking) (moment : ℕ) (asked : List Counted) (order : List InstanceId) (rests : List (List Rest)) (place : ℕ) (hosts : List (List ℕ × ℕ)) : Type 0 where
-  pub short : (k : ℕ) (at : InstanceId) (none : List Rest) → k < place → has_host hosts (slice_index_or order k at).host ≡ false → are_short_at now booked moment asked (slice_index_or rests k none) ≡ true
+-- these places rise from one to an end, and at the others between them nothing is left
+abbrev pub AreOpen : (Left → Bool) → List Left → ℕ → ℕ → List ℕ → Type 0
+AreOpen full lefts end from [] = (k : ℕ) (none : Left) → from ≤ k → k < end → full (slice_index_or lefts k none) ≡ true
+AreOpen full lefts end from (place ∷ places) =
+    (from ≤ place) × (place < end) × ((k : ℕ) (none : Left) → from ≤ k → k < place → full (slice_index_or lefts k none) ≡ true) × AreOpen full lefts end (place + 1) places
+
+-- instances before a place take nothing, and these places are open behind it
+pub record ArePassed (takes : InstanceId → Bool) (full : Left → Bool) (order : List InstanceId) (lefts : List Left) (places : List ℕ) : Type 0 where
+  pub from : ℕ
+  pub none : (k : ℕ) (at : InstanceId) → k < from → takes (slice_index_or order k at) ≡ false
+  pub rest : AreOpen full lefts (length lefts) from places
+
+-- whether the host of a number is among those that are kept
+abbrev pub is_kept : List Bool → ℕ → Bool
+is_kept kept host = slice_index_or kept host true
+
+-- the hosts of instances before a place are kept at which nothing is short
+pub record AreKept (now : ℕ) (booked : List Booking) (moment : ℕ) (asked : List Counted) (rests : List Left) (place : ℕ) (kept : List Bool) : Type 0 where
+  pub short : (k : ℕ) (none : Left) → k < place → is_kept kept (slice_index_or rests k none).host ≡ false → are_short_at now booked moment asked (slice_index_or rests k none).rests ≡ true
+
+-- hosts have numbers by their names
+pub record AreNumbered (number : List ℕ → ℕ) (order : List InstanceId) (rests : List Left) : Type 0 where
+  pub each : (k : ℕ) (at : InstanceId) (none : Left) → k < length order → (slice_index_or rests k none).host ≡ number (slice_index_or order k at).host
 
 module _ (c : Cluster) (groups : Groups) (now : ℕ) (booked : List Booking) where
   -- no more of a resource is left of a limit that each job counts for to which the instance is open and that is sent into no reservation
@@ -84,7 +120,10 @@ module _ (c : Cluster) (groups : Groups) (now : ℕ) (booked : List Booking) whe
     pub within : capacity_of c groups rest.limit ≤ plain_sum booked rest.limit now + rest.most
     pub least : (job : Job) → rest.least ≤ min (per_slot c job (resource_of rest.limit)) greatest_demand
 
-  -- for each instance what is left there
-  pub record AreLeft (order : List InstanceId) (rests : List (List Rest)) : Type 0 where
-    pub long : length rests ≡ length order
-    pub each : (k : ℕ) (at : InstanceId) (none : List Rest) → k < length order → All (IsLeft (slice_index_or order k at)) (slice_index_or rests k none)
+  -- for each instance what is left there, and where something may be
+  pub record AreLeft (order : List InstanceId) (room : Room) : Type 0 where
+    pub number : List ℕ → ℕ
+    pub hosts : AreNumbered number order room.lefts
+    pub long : length room.lefts ≡ length order
+    pub each : (k : ℕ) (at : InstanceId) (none : Left) → k < length order → All (IsLeft (slice_index_or order k at)) (slice_index_or room.lefts k none).rests
+    pub others : AreOpen (is_full c now) room.lefts (length room.lefts) 0 room.vacant

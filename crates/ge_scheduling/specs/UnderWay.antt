@@ -12,7 +12,6 @@ use Rattle.ge_scheduling.specs.Bases.{may_keep}
 use Rattle.ge_scheduling.specs.Counts.{IsTallied}
 use Rattle.ge_scheduling.specs.Passing.{Waits}
 use Rattle.ge_scheduling.specs.Rests.{AreLeft}
-use Rattle.ge_scheduling.specs.Vacant.{AreVacant}
 
 -- the tasks that are decided, in their order
 abbrev pub tasks_decided : Run → List TaskId
@@ -25,12 +24,11 @@ pub record IsUnderWay (c : Cluster) (run : Run) : Type 0 where
   pub made : (run.so_far.booked, run.so_far.decisions) ≡ decided c run.groups run.order run.moment (tasks_decided run)
   pub tallied : IsTallied c run.so_far.decisions run.so_far.tally
   pub waits : IfSome run.so_far.passed (Waits c run.groups run.order run.moment run.so_far.booked run.so_far.decisions)
-  pub left : AreVacant c run.groups run.moment run.so_far.booked run.order run.so_far.vacant
-  pub room : AreLeft c run.groups run.moment run.so_far.booked run.order run.so_far.rests
+  pub left : AreLeft c run.groups run.moment run.so_far.booked run.order run.so_far.room
 
 -- whether no more tasks can start or have slots kept: no instance has a slot left, and there is no reservation that a job may be sent into
 abbrev pub leaves_nothing : Cluster → Run → Bool
-leaves_nothing c run = is_empty run.so_far.vacant && is_empty c.advances && not (may_keep c run.so_far.tally.reserved)
+leaves_nothing c run = is_empty run.so_far.room.vacant && is_empty c.advances && not (may_keep c run.so_far.tally.reserved)
 
 -- each task beside those that are decided waits, in whatever order they are
 abbrev pub OthersWait : Cluster → Run → Type 0

@@ -1,7 +1,7 @@
 -- Instances that have a slot left at the moment of a run.
-use Rattle.std.specs.Prelude.{◌≡◌, ℕ, ◌≤◌, Bool, true, false, not, ◌&&◌, nat_lt, nat_le, List, filter}
+use Rattle.std.specs.Prelude.{ℕ, Bool, not, ◌&&◌, nat_lt, nat_le, List}
 use Rattle.ge_collections.specs.Keyed.{at_number}
-use Rattle.ge_model_bookings.specs.Bookings.{forever, plain_sum}
+use Rattle.ge_model_bookings.specs.Bookings.{forever}
 use Rattle.ge_model_rows.specs.ClusterRows.{Cluster}
 use Rattle.ge_model_rows.specs.HostRows.{Groups, InstanceId}
 use Rattle.ge_model_rows.specs.ScheduleRows.{LimitId, Instance, Booking}
@@ -27,15 +27,3 @@ is_occupied c groups now booked at = goes_on c now && is_used_up c groups now bo
 
 abbrev pub is_vacant : Cluster → Groups → ℕ → List Booking → InstanceId → Bool
 is_vacant c groups now booked at = not (is_occupied c groups now booked at)
-
-module _ (c : Cluster) (groups : Groups) (now : ℕ) (booked : List Booking) where
-  -- all slots of an instance are booked at a moment
-  pub record IsOccupied (at : InstanceId) : Type 0 where
-    pub on : goes_on c now ≡ true
-    pub used : capacity_of c groups (slots_of at) ≤ plain_sum booked (slots_of at) now
-
-  -- these instances are those in the order but for some that are occupied
-  pub record AreVacant (order vacant : List InstanceId) : Type 0 where
-    pub keeps : InstanceId → Bool
-    pub are : vacant ≡ filter keeps order
-    pub others : (at : InstanceId) → keeps at ≡ false → IsOccupied at

@@ -4,22 +4,21 @@ ghost use Rattle.ge_model_place.specs.Windows.{base_bookings};
 ghost use Rattle.ge_model_place.specs.Running.{decide as with_task};
 ghost use Rattle.ge_scheduling.specs.KindNotes.{TellKinds};
 ghost use Rattle.ge_scheduling.specs.Passing.{passed_by as job_passed, Waits, Follows};
-ghost use Rattle.ge_scheduling.specs.Vacant.{AreVacant};
 
 use crate::bookings::book;
 use crate::counting::{Tally, count, first_tally, may_reserve};
 use crate::deciding::decision;
 use crate::kinds::{is_noted, note};
-use crate::rests::{Rest, all_rests, renew_started};
+use crate::rests::{Room, renew_started, room_at};
 use crate::setting::Setting;
-use crate::vacancy::{leave_out_started, no_slot_is_left};
-use ge_rows::{Decision, InstanceId, List, TaskId};
+use crate::vacancy::no_slot_is_left;
+use ge_rows::{Decision, List, TaskId};
 use ge_timeline::Timeline;
 use std::alloc::{AllocError, Global};
 use std::collections::BTreeSet;
 
 /// What is booked and decided so far, what is counted of that, a job whose tasks all wait until something is booked, kinds of
-/// jobs of which no task can start any more, the instances but for some all of whose slots are booked, and what is left at each.
+/// jobs of which no task can start any more, and what is left at each instance.
 #[derive(Drop)]
 pub(crate) struct Progress {
     pub(crate) booked: Timeline,
@@ -27,39 +26,33 @@ pub(crate) struct Progress {
     pub(crate) tally: Tally,
     pub(crate) passed: Option<u32>,
     pub(crate) full: BTreeSet<u32>,
-    pub(crate) vacant: List<InstanceId>,
-    pub(crate) rests: List<List<Rest>>,
+    pub(crate) room: Room,
 }
 
-/// Before any task is decided: with what running tasks and advance reservations book, and the instances that have a slot left.
+/// Before any task is decided: with what running tasks and advance reservations book.
 pub(crate) fn begin(
     alloc: Global,
     at: &Setting<'_>,
     booked: Timeline,
-    vacant: List<InstanceId>,
 ) -> Result<Progress, AllocError>
     requires told { TellKinds at.now.cluster.now.jobs at.now.kinds.now.entries }
     requires taken { booked ≡ base_bookings at.now.cluster.now at.now.groups.now at.now.moment }
-    requires left { AreVacant at.now.cluster.now at.now.groups.now at.now.moment booked
-        at.now.order.now vacant }
     ensures booked { IfOk result (λ so_far. so_far.booked
         ≡ base_bookings at.now.cluster.now at.now.groups.now at.now.moment) }
     ensures decisions { IfOk result (λ so_far. so_far.decisions ≡ []) }
     ensures follows { IfOk result (λ so_far. Follows at.now.cluster.now at.now.groups.now
         at.now.order.now at.now.moment at.now.kinds.now.entries so_far.booked so_far.decisions
-        so_far.tally so_far.passed so_far.full so_far.vacant
-        so_far.rests) }
+        so_far.tally so_far.passed so_far.full so_far.room) }
 {
     let tally = first_tally(alloc, at.cluster)?;
-    let rests = all_rests(alloc, at, &booked)?;
+    let room = room_at(alloc, at, &booked)?;
     Ok(Progress {
         booked,
         decisions: List::new(alloc),
         tally,
         passed: None,
         full: BTreeSet::new(alloc),
-        vacant,
-        rests,
+        room,
     })
 }
 
@@ -76,8 +69,7 @@ fn is_passed(passed: Option<u32>, number: u32) -> bool
 fn is_shut(at: &Setting<'_>, so_far: &Progress, number: u32) -> bool
     requires { Follows at.now.cluster.now at.now.groups.now at.now.order.now
         at.now.moment at.now.kinds.now.entries so_far.now.booked so_far.now.decisions
-        so_far.now.tally so_far.now.passed so_far.now.full so_far.now.vacant
-        so_far.now.rests }
+        so_far.now.tally so_far.now.passed so_far.now.full so_far.now.room }
     ensures { IsTrue result → Waits at.now.cluster.now at.now.groups.now at.now.order.now
         at.now.moment so_far.now.booked so_far.now.decisions number }
 {
@@ -87,7 +79,7 @@ fn is_shut(at: &Setting<'_>, so_far: &Progress, number: u32) -> bool
     if may_reserve(&at.cluster.sched, &so_far.tally, job) {
         return false;
     }
-    if no_slot_is_left(at.cluster, &so_far.vacant) {
+    if no_slot_is_left(at.cluster, &so_far.room.vacant) {
         return true;
     }
     is_noted(at.kinds, &so_far.full, number)
@@ -95,19 +87,18 @@ fn is_shut(at: &Setting<'_>, so_far: &Progress, number: u32) -> bool
 
 // Whether no task can start any more, and none may have slots kept, since as many have as may.
 fn nothing_is_left(at: &Setting<'_>, so_far: &Progress) -> bool
-    ensures { IsTrue result → (so_far.now.vacant ≡ []) × (at.now.cluster.now.advances ≡ [])
+    ensures { IsTrue result → (so_far.now.room.vacant ≡ []) × (at.now.cluster.now.advances ≡ [])
         × (at.now.cluster.now.sched.max_reservation ≤ so_far.now.tally.reserved) }
 {
     at.cluster.sched.max_reservation <= so_far.tally.reserved
-        && no_slot_is_left(at.cluster, &so_far.vacant)
+        && no_slot_is_left(at.cluster, &so_far.room.vacant)
 }
 
 // Whether the tasks of a job are known to wait.
 fn waits(at: &Setting<'_>, so_far: &Progress, number: u32) -> bool
     requires { Follows at.now.cluster.now at.now.groups.now at.now.order.now
         at.now.moment at.now.kinds.now.entries so_far.now.booked so_far.now.decisions
-        so_far.now.tally so_far.now.passed so_far.now.full so_far.now.vacant
-        so_far.now.rests }
+        so_far.now.tally so_far.now.passed so_far.now.full so_far.now.room }
     ensures { IsTrue result → Waits at.now.cluster.now at.now.groups.now at.now.order.now
         at.now.moment so_far.now.booked so_far.now.decisions number }
 {
@@ -138,29 +129,19 @@ fn weigh(
 ) -> Result<(), AllocError>
     requires { Follows at.now.cluster.now at.now.groups.now at.now.order.now
         at.now.moment at.now.kinds.now.entries so_far.old.booked so_far.old.decisions
-        so_far.old.tally so_far.old.passed so_far.old.full so_far.old.vacant
-        so_far.old.rests }
+        so_far.old.tally so_far.old.passed so_far.old.full so_far.old.room }
     ensures decided { OnOk result ((so_far.new.booked, so_far.new.decisions)
         ≡ with_task at.now.cluster.now at.now.groups.now at.now.order.now at.now.moment
         (so_far.old.booked, so_far.old.decisions) task) }
     ensures follows { OnOk result (Follows at.now.cluster.now at.now.groups.now at.now.order.now
         at.now.moment at.now.kinds.now.entries so_far.new.booked so_far.new.decisions
-        so_far.new.tally so_far.new.passed so_far.new.full so_far.new.vacant
-        so_far.new.rests) }
+        so_far.new.tally so_far.new.passed so_far.new.full so_far.new.room) }
 {
-    let made = decision(
-        alloc,
-        at,
-        &so_far.booked,
-        &so_far.tally,
-        &so_far.rests,
-        task,
-    )?;
+    let made = decision(alloc, at, &so_far.booked, &so_far.tally, &so_far.room, task)?;
     book(alloc, at, &mut so_far.booked, &made)?;
     count(alloc, at.cluster, &mut so_far.tally, &made)?;
     note(at.cluster, at.kinds, &mut so_far.full, task.job, &made)?;
-    leave_out_started(alloc, at, &so_far.booked, &mut so_far.vacant, &made)?;
-    renew_started(alloc, at, &so_far.booked, &mut so_far.rests, &made)?;
+    renew_started(alloc, at, &so_far.booked, &mut so_far.room, &made);
     so_far.passed = passed_by(task.job, &made);
     so_far.decisions.push(made)?;
     Ok(())
@@ -175,15 +156,13 @@ fn advance(
 ) -> Result<(), AllocError>
     requires { Follows at.now.cluster.now at.now.groups.now at.now.order.now
         at.now.moment at.now.kinds.now.entries so_far.old.booked so_far.old.decisions
-        so_far.old.tally so_far.old.passed so_far.old.full so_far.old.vacant
-        so_far.old.rests }
+        so_far.old.tally so_far.old.passed so_far.old.full so_far.old.room }
     ensures decided { OnOk result ((so_far.new.booked, so_far.new.decisions)
         ≡ with_task at.now.cluster.now at.now.groups.now at.now.order.now at.now.moment
         (so_far.old.booked, so_far.old.decisions) task) }
     ensures follows { OnOk result (Follows at.now.cluster.now at.now.groups.now at.now.order.now
         at.now.moment at.now.kinds.now.entries so_far.new.booked so_far.new.decisions
-        so_far.new.tally so_far.new.passed so_far.new.full so_far.new.vacant
-        so_far.new.rests) }
+        so_far.new.tally so_far.new.passed so_far.new.full so_far.new.room) }
 {
     if waits(at, so_far, task.job) {
         so_far.decisions.push(Decision::Skip(task))?;
@@ -201,15 +180,13 @@ pub(crate) fn advance_all(
 ) -> Result<Progress, AllocError>
     requires { Follows at.now.cluster.now at.now.groups.now at.now.order.now
         at.now.moment at.now.kinds.now.entries start.booked start.decisions
-        start.tally start.passed start.full start.vacant
-        start.rests }
+        start.tally start.passed start.full start.room }
     ensures decided { IfOk result (λ so_far. (so_far.booked, so_far.decisions)
         ≡ fold (with_task at.now.cluster.now at.now.groups.now at.now.order.now at.now.moment)
         (start.booked, start.decisions) order.now) }
     ensures follows { IfOk result (λ so_far. Follows at.now.cluster.now at.now.groups.now
         at.now.order.now at.now.moment at.now.kinds.now.entries so_far.booked so_far.decisions
-        so_far.tally so_far.passed so_far.full so_far.vacant
-        so_far.rests) }
+        so_far.tally so_far.passed so_far.full so_far.room) }
 {
     let mut so_far = start;
     for task in order {

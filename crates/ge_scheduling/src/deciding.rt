@@ -11,7 +11,7 @@ use crate::asking::asked_limits;
 use crate::counting::{Tally, is_full, may_reserve};
 use crate::placing::place_now;
 use crate::reserving::reserve;
-use crate::rests::Rest;
+use crate::rests::Room;
 use crate::setting::Setting;
 use ge_demands::Counted;
 use ge_limits::LAST_SERIAL;
@@ -40,20 +40,20 @@ fn keep_waiting(
     at: &Setting<'_>,
     booked: &Timeline,
     tally: &Tally,
-    rests: &List<List<Rest>>,
+    room: &Room,
     asked: &List<Counted>,
     job: &Job,
     task: TaskId,
 ) -> Result<Decision, AllocError>
     requires left { AreLeft at.now.cluster.now at.now.groups.now at.now.moment booked.now
-        at.now.order.now rests.now }
+        at.now.order.now room.now }
     requires asked { All (IsAsked at.now.cluster.now at.now.groups.now job.now) asked.now }
     ensures { IfOk result (λ decision. decision
         ≡ waiting at.now.cluster.now at.now.groups.now at.now.order.now at.now.moment
         booked.now (may_be_reserved at.now.cluster.now.sched tally.now job.now) (Some job.now) task) }
 {
     if may_reserve(&at.cluster.sched, tally, job) {
-        reserve(alloc, at, booked, rests, asked, job, task)
+        reserve(alloc, at, booked, room, asked, job, task)
     } else {
         Ok(Decision::Skip(task))
     }
@@ -65,12 +65,12 @@ fn decision_for(
     at: &Setting<'_>,
     booked: &Timeline,
     tally: &Tally,
-    rests: &List<List<Rest>>,
+    room: &Room,
     job: &Job,
     task: TaskId,
 ) -> Result<Decision, AllocError>
     requires { AreLeft at.now.cluster.now at.now.groups.now at.now.moment booked.now
-        at.now.order.now rests.now }
+        at.now.order.now room.now }
     ensures { IfOk result (λ decision. decision
         ≡ decision_by at.now.cluster.now at.now.groups.now at.now.order.now at.now.moment
         booked.now (is_over at.now.cluster.now.sched tally.now job.now.owner)
@@ -81,9 +81,9 @@ fn decision_for(
         return Ok(Decision::Skip(task));
     }
     let asked = asked_limits(alloc, at, job)?;
-    match place_now(alloc, at, booked, rests, &asked, job)? {
+    match place_now(alloc, at, booked, room, &asked, job)? {
         Some(grants) => Ok(start_with(task, tally.serial, grants)),
-        None => keep_waiting(alloc, at, booked, tally, rests, &asked, job, task),
+        None => keep_waiting(alloc, at, booked, tally, room, &asked, job, task),
     }
 }
 
@@ -96,17 +96,17 @@ pub(crate) fn decision(
     at: &Setting<'_>,
     booked: &Timeline,
     tally: &Tally,
-    rests: &List<List<Rest>>,
+    room: &Room,
     task: TaskId,
 ) -> Result<Decision, AllocError>
     requires { AreLeft at.now.cluster.now at.now.groups.now at.now.moment booked.now
-        at.now.order.now rests.now }
+        at.now.order.now room.now }
     ensures { IfOk result (λ decision. decision
         ≡ decision_at at.now.cluster.now at.now.groups.now at.now.order.now at.now.moment
         booked.now tally.now (at_number at.now.cluster.now.jobs task.job) task) }
 {
     match at.cluster.jobs.get(&task.job) {
-        Some(job) => decision_for(alloc, at, booked, tally, rests, job, task),
+        Some(job) => decision_for(alloc, at, booked, tally, room, job, task),
         None => Ok(Decision::Skip(task)),
     }
 }

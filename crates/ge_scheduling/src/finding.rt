@@ -1,4 +1,4 @@
-// The first instance that may take a slot now.
+// Whether an instance may take a slot now.
 ghost use Rattle.std.specs.Prelude.{◌≡◌, ℕ, ◌≤◌, ◌<◌, ◌==◌, true, false, length, slice_index_or, IfOk, IsTrue, All};
 ghost use Rattle.ge_model_place.specs.Placement.{are_admissible, placement_of};
 ghost use Rattle.ge_model_place.specs.Runs.{one_slot};
@@ -7,7 +7,7 @@ ghost use Rattle.ge_scheduling.specs.Common.{IsAsked};
 ghost use Rattle.ge_scheduling.specs.Rests.{IsLeft, AreLeft};
 ghost use Rattle.ge_scheduling.specs.Vacant.{goes_on as has_moment};
 
-use crate::rests::{Rest, are_short};
+use crate::rests::{Rest, Room, are_short};
 use crate::setting::Setting;
 use ge_demands::Counted;
 use ge_opening::is_open;
@@ -40,35 +40,32 @@ fn may_take(
     Ok(opened)
 }
 
-/// The place of the first instance that may take a slot of a job now, or the number of instances. None before it takes one.
-pub(crate) fn first_candidate(
+/// Whether some instance may take a slot of a job now.
+pub(crate) fn has_candidate(
     alloc: Global,
     at: &Setting<'_>,
     booked: &Timeline,
-    rests: &List<List<Rest>>,
+    room: &Room,
     asked: &List<Counted>,
     job: &Job,
-) -> Result<usize, AllocError>
+) -> Result<bool, AllocError>
     requires goes_on { has_moment at.now.cluster.now at.now.moment ≡ true }
     requires free { (job.now.advance == 0) ≡ true }
     requires left { AreLeft at.now.cluster.now at.now.groups.now at.now.moment booked.now
-        at.now.order.now rests.now }
+        at.now.order.now room.now }
     requires asked { All (IsAsked at.now.cluster.now at.now.groups.now job.now) asked.now }
-    ensures within { IfOk result (λ place. place ≤ length at.now.order.now) }
-    ensures none { IfOk result (λ place. (k : ℕ) (d : Instance) → k < place
+    ensures { IfOk result (λ has. has ≡ false → (k : ℕ) (d : Instance) → k < length at.now.order.now
         → are_admissible at.now.cluster.now at.now.groups.now job.now booked.now at.now.moment
         (one_slot (slice_index_or at.now.order.now k d)) ≡ false) }
 {
     let order = at.order;
-    let lefts = rests.items();
-    let mut place = 0;
-    while place < order.len() {
-        let instance = &order[place];
-        let left = &lefts[place];
+    let lefts = room.lefts.items();
+    for place in room.vacant.items() {
+        let instance = &order[*place];
+        let left = &lefts[*place].rests;
         if may_take(alloc, at, booked, left, asked, job, instance)? {
-            return Ok(place);
+            return Ok(true);
         }
-        place += 1;
     }
-    Ok(place)
+    Ok(false)
 }

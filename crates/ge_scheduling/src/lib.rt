@@ -6,9 +6,9 @@
 //!
 //! - `setting`: what stays the same during a run. `counting`: what is counted of the decisions so far. `kinds`: the kinds of jobs
 //!   of which no task can start any more. `vacancy`: the instances that have a slot left.
-//! - `rests`: what is left at each instance. `holding`: where each value of hosts is.
+//! - `rests`: what is left at each instance, and where nothing is. `holding`: where each value of hosts is; hosts' numbers.
 //! - `asking`: what one slot of a job asks of limits, and which of them count at whatever instance.
-//! - `finding`: the first instance that may take a slot now. `single`: the start of a task that takes one slot. `thinning`: a
+//! - `finding`: whether an instance may take a slot now. `single`: the start of a task that takes one slot. `thinning`: a
 //!   placement over hosts alone at which something may be placed. `placing`: the placement of a task, now and later.
 //! - `reserving`: the first moment at which a task can be placed. `deciding`: the decision of one task.
 //! - `bookings`: what a decision books. `advancing`: one task after the other.

@@ -6,8 +6,8 @@ ghost use Rattle.ge_scheduling.specs.Rests.{AreLeft};
 ghost use Rattle.ge_scheduling.specs.Vacant.{goes_on as has_moment};
 
 use crate::asking::is_refused;
-use crate::finding::first_candidate;
-use crate::rests::Rest;
+use crate::finding::has_candidate;
+use crate::rests::Room;
 use crate::setting::Setting;
 use crate::single::place_alone;
 use crate::thinning::place_on_hosts;
@@ -23,25 +23,25 @@ fn place_together(
     alloc: Global,
     at: &Setting<'_>,
     booked: &Timeline,
-    rests: &List<List<Rest>>,
+    room: &Room,
     asked: &List<Counted>,
     job: &Job,
 ) -> Result<Option<List<Grant>>, AllocError>
     requires goes_on { has_moment at.now.cluster.now at.now.moment ≡ true }
     requires free { (job.now.advance == 0) ≡ true }
     requires left { AreLeft at.now.cluster.now at.now.groups.now at.now.moment booked.now
-        at.now.order.now rests.now }
+        at.now.order.now room.now }
     requires asked { All (IsAsked at.now.cluster.now at.now.groups.now job.now) asked.now }
     ensures { IfOk result (λ grants. grants
         ≡ placement_of at.now.cluster.now at.now.groups.now at.now.order.now booked.now job.now
         at.now.moment) }
 {
-    let first = first_candidate(alloc, at, booked, rests, asked, job)?;
-    if first >= at.order.len() {
+    let has = has_candidate(alloc, at, booked, room, asked, job)?;
+    if !has {
         return Ok(None);
     }
     let moment = at.moment;
-    let grants = place_on_hosts(alloc, at, booked, rests, asked, job, moment)?;
+    let grants = place_on_hosts(alloc, at, booked, room, asked, job, moment)?;
     Ok(grants)
 }
 
@@ -50,14 +50,14 @@ fn place_left(
     alloc: Global,
     at: &Setting<'_>,
     booked: &Timeline,
-    rests: &List<List<Rest>>,
+    room: &Room,
     asked: &List<Counted>,
     job: &Job,
 ) -> Result<Option<List<Grant>>, AllocError>
     requires goes_on { has_moment at.now.cluster.now at.now.moment ≡ true }
     requires free { (job.now.advance == 0) ≡ true }
     requires left { AreLeft at.now.cluster.now at.now.groups.now at.now.moment booked.now
-        at.now.order.now rests.now }
+        at.now.order.now room.now }
     requires asked { All (IsAsked at.now.cluster.now at.now.groups.now job.now) asked.now }
     ensures { IfOk result (λ grants. grants
         ≡ placement_of at.now.cluster.now at.now.groups.now at.now.order.now booked.now job.now
@@ -65,11 +65,11 @@ fn place_left(
 {
     match &job.request.pe {
         None => {
-            let grants = place_alone(alloc, at, booked, rests, asked, job)?;
+            let grants = place_alone(alloc, at, booked, room, asked, job)?;
             Ok(grants)
         }
         Some(_) => {
-            let grants = place_together(alloc, at, booked, rests, asked, job)?;
+            let grants = place_together(alloc, at, booked, room, asked, job)?;
             Ok(grants)
         }
     }
@@ -80,12 +80,12 @@ pub(crate) fn place_now(
     alloc: Global,
     at: &Setting<'_>,
     booked: &Timeline,
-    rests: &List<List<Rest>>,
+    room: &Room,
     asked: &List<Counted>,
     job: &Job,
 ) -> Result<Option<List<Grant>>, AllocError>
     requires left { AreLeft at.now.cluster.now at.now.groups.now at.now.moment booked.now
-        at.now.order.now rests.now }
+        at.now.order.now room.now }
     requires asked { All (IsAsked at.now.cluster.now at.now.groups.now job.now) asked.now }
     ensures { IfOk result (λ grants. grants
         ≡ placement_of at.now.cluster.now at.now.groups.now at.now.order.now booked.now job.now
@@ -95,7 +95,7 @@ pub(crate) fn place_now(
         return Ok(None);
     }
     if job.advance == 0 && goes_on(at.cluster, at.moment) {
-        let grants = place_left(alloc, at, booked, rests, asked, job)?;
+        let grants = place_left(alloc, at, booked, room, asked, job)?;
         return Ok(grants);
     }
     let grants = place_job(
@@ -109,13 +109,13 @@ pub(crate) fn place_then(
     alloc: Global,
     at: &Setting<'_>,
     booked: &Timeline,
-    rests: &List<List<Rest>>,
+    room: &Room,
     asked: &List<Counted>,
     job: &Job,
     moment: u64,
 ) -> Result<Option<List<Grant>>, AllocError>
     requires left { AreLeft at.now.cluster.now at.now.groups.now at.now.moment booked.now
-        at.now.order.now rests.now }
+        at.now.order.now room.now }
     requires asked { All (IsAsked at.now.cluster.now at.now.groups.now job.now) asked.now }
     ensures { IfOk result (λ grants. grants
         ≡ placement_of at.now.cluster.now at.now.groups.now at.now.order.now booked.now job.now
@@ -125,7 +125,7 @@ pub(crate) fn place_then(
         return Ok(None);
     }
     if job.advance == 0 && goes_on(at.cluster, moment) {
-        let grants = place_on_hosts(alloc, at, booked, rests, asked, job, moment)?;
+        let grants = place_on_hosts(alloc, at, booked, room, asked, job, moment)?;
         return Ok(grants);
     }
     let grants = place_job(alloc, at.cluster, at.groups, at.order, booked, job, moment)?;

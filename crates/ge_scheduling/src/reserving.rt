@@ -5,7 +5,7 @@ ghost use Rattle.ge_scheduling.specs.Rests.{AreLeft};
 ghost use Rattle.ge_scheduling.specs.Verdicts.{reserved as reserved_for};
 
 use crate::placing::place_then;
-use crate::rests::Rest;
+use crate::rests::Room;
 use crate::setting::Setting;
 use ge_demands::Counted;
 use ge_rows::{Decision, Job, List, Reservation, TaskId};
@@ -18,13 +18,13 @@ pub(crate) fn reserve(
     alloc: Global,
     at: &Setting<'_>,
     booked: &Timeline,
-    rests: &List<List<Rest>>,
+    room: &Room,
     asked: &List<Counted>,
     job: &Job,
     task: TaskId,
 ) -> Result<Decision, AllocError>
     requires left { AreLeft at.now.cluster.now at.now.groups.now at.now.moment booked.now
-        at.now.order.now rests.now }
+        at.now.order.now room.now }
     requires asked { All (IsAsked at.now.cluster.now at.now.groups.now job.now) asked.now }
     ensures { IfOk result (λ decision. decision
         ≡ reserved_for at.now.cluster.now at.now.groups.now at.now.order.now at.now.moment
@@ -32,7 +32,7 @@ pub(crate) fn reserve(
 {
     let mut moment = at.moment;
     while let Some(end) = booked.next_end_after(moment) {
-        if let Some(grants) = place_then(alloc, at, booked, rests, asked, job, end)? {
+        if let Some(grants) = place_then(alloc, at, booked, room, asked, job, end)? {
             return Ok(Decision::Reserve(Reservation {
                 task,
                 at: end,

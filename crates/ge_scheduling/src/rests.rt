@@ -1,14 +1,16 @@
 // What is left at each instance, so that one which has too little is passed by before anything else is asked of it.
-ghost use Rattle.std.specs.Prelude.{◌≡◌, ◌++◌, ◌∷◌, [], map, filter, position, IfOk, OnOk};
+ghost use Rattle.std.specs.Prelude.{◌≡◌, ◌<◌, ◌++◌, ◌∷◌, [], cond, length, map, filter, IfOk, IfSome, OnOk};
+ghost use Rattle.std.specs.List.{remove};
 ghost use Rattle.ge_model_bookings.specs.Bookings.{same_instance};
 ghost use Rattle.ge_model_value.specs.Complexes.{is_consumable as is_consumed};
 ghost use Rattle.ge_model_place.specs.Limits.{consumables, resource_of};
 ghost use Rattle.ge_model_rows.specs.ScheduleRows.{Host};
-ghost use Rattle.ge_scheduling.specs.Rests.{rest_of as left_of, rests_at as left_at, is_of, asks_more as more_than, is_short as short_of, is_short_now as short_now, are_short as all_short_of, left_then as rest_then, is_short_then as short_then, are_short_then as all_short_then, are_short_at as all_short_at, AreLeft};
+ghost use Rattle.ge_scheduling.specs.Rests.{rest_of as left_of, rests_at as left_at, numbered_at, renewed_rest, renewed_left, is_full as full_at, AreOpen, is_of, asks_more as more_than, is_short as short_of, is_short_now as short_now, are_short as all_short_of, left_then as rest_then, is_short_then as short_then, are_short_then as all_short_then, are_short_at as all_short_at, AreLeft};
 ghost use Rattle.ge_scheduling.specs.Vacant.{slots_of};
 
+use crate::holding::{HostNumbers, hosts_of, number_of};
 use crate::setting::Setting;
-use crate::vacancy::slots_at;
+use crate::vacancy::{goes_on, slots_at};
 use ge_bookings::{is_same_instance, is_same_name};
 use ge_complex::is_consumable;
 use ge_demands::{Counted, capacity};
@@ -29,6 +31,24 @@ pub(crate) struct Rest {
     pub(crate) most: u128,
     /// No task that counts for it takes less.
     pub(crate) least: u128,
+}
+
+/// What is left at an instance.
+#[derive(Drop)]
+pub(crate) struct Left {
+    /// The number of its host, which all instances on that have.
+    pub(crate) host: usize,
+    /// Of each limit.
+    pub(crate) rests: List<Rest>,
+}
+
+/// What is left at each instance, and the places in the order at which something may be left.
+#[derive(Drop)]
+pub(crate) struct Room {
+    /// At each instance.
+    pub(crate) lefts: List<Left>,
+    /// The places, which rise.
+    pub(crate) vacant: List<usize>,
 }
 
 fn rest_of(
@@ -141,63 +161,159 @@ fn rests_at(
     Ok(rests)
 }
 
-fn rests_of_all(
+fn lefts_of_all(
     alloc: Global,
     at: &Setting<'_>,
     booked: &Timeline,
-) -> Result<List<List<Rest>>, AllocError>
-    ensures { IfOk result (λ rests. rests
-        ≡ map (left_at at.now.cluster.now at.now.groups.now at.now.moment booked.now)
+    hosts: &HostNumbers,
+) -> Result<List<Left>, AllocError>
+    ensures { IfOk result (λ lefts. lefts
+        ≡ map (numbered_at at.now.cluster.now at.now.groups.now at.now.moment booked.now hosts.now)
         at.now.order.now) }
 {
-    let mut rests = List::new(alloc);
+    let mut lefts = List::new(alloc);
     for instance in at.order {
-        let left = rests_at(alloc, at, booked, instance)?;
-        rests.push(left)?;
+        let host = number_of(hosts, &instance.host);
+        let rests = rests_at(alloc, at, booked, instance)?;
+        lefts.push(Left { host, rests })?;
     }
-    Ok(rests)
+    Ok(lefts)
+}
+
+// Whether too little is left at an instance for any task.
+fn is_full(at: &Setting<'_>, left: &Left) -> bool
+    ensures { result ≡ full_at at.now.cluster.now at.now.moment left.now }
+{
+    goes_on(at.cluster, at.moment) && are_short(&[], left.rests.items())
+}
+
+fn add_vacant(
+    at: &Setting<'_>,
+    vacant: &mut List<usize>,
+    place: usize,
+    left: &Left,
+) -> Result<(), AllocError>
+    ensures { OnOk result (vacant.new ≡ vacant.old
+        ++ cond (full_at at.now.cluster.now at.now.moment left.now) [] (place ∷ [])) }
+{
+    if is_full(at, left) {
+        return Ok(());
+    }
+    vacant.push(place)
+}
+
+fn vacant_places(alloc: Global, at: &Setting<'_>, lefts: &[Left]) -> Result<List<usize>, AllocError>
+    ensures { IfOk result (λ vacant. AreOpen (full_at at.now.cluster.now at.now.moment)
+        lefts.now (length lefts.now) 0 vacant) }
+{
+    let mut vacant = List::new(alloc);
+    let mut place = 0;
+    while place < lefts.len() {
+        add_vacant(at, &mut vacant, place, &lefts[place])?;
+        place += 1;
+    }
+    Ok(vacant)
 }
 
 /// What is left at each instance now.
-pub(crate) fn all_rests(
+pub(crate) fn room_at(
     alloc: Global,
     at: &Setting<'_>,
     booked: &Timeline,
-) -> Result<List<List<Rest>>, AllocError>
-    ensures { IfOk result (λ rests. AreLeft at.now.cluster.now at.now.groups.now at.now.moment
-        booked.now at.now.order.now rests) }
+) -> Result<Room, AllocError>
+    ensures { IfOk result (λ room. AreLeft at.now.cluster.now at.now.groups.now at.now.moment
+        booked.now at.now.order.now room) }
 {
-    let rests = rests_of_all(alloc, at, booked)?;
-    Ok(rests)
+    let hosts = hosts_of(alloc, at.order)?;
+    let lefts = lefts_of_all(alloc, at, booked, &hosts)?;
+    let vacant = vacant_places(alloc, at, lefts.items())?;
+    Ok(Room { lefts, vacant })
 }
 
-fn place_of(order: &[InstanceId], instance: &InstanceId) -> Option<usize>
-    ensures { result ≡ position (λ other. same_instance other instance.now) order.now }
+fn is_at(order: &[InstanceId], place: usize, instance: &InstanceId) -> bool {
+    match order.get(place) {
+        Some(other) => is_same_instance(other, instance),
+        None => false,
+    }
+}
+
+// Which of these places is that of an instance.
+fn index_of(order: &[InstanceId], places: &[usize], instance: &InstanceId) -> Option<usize>
+    ensures { IfSome result (λ index. index < length places.now) }
 {
-    order
+    places
         .iter()
-        .position(|other| is_same_instance(other, instance))
+        .position(|place| is_at(order, *place, instance))
+}
+
+fn leave_out_full(at: &Setting<'_>, vacant: &mut List<usize>, index: usize, left: &Left)
+    requires { index < length vacant.old }
+    ensures { vacant.new ≡ cond (full_at at.now.cluster.now at.now.moment left.now)
+        (remove vacant.old index) vacant.old }
+{
+    if is_full(at, left) {
+        let _place = vacant.remove(index);
+    }
+}
+
+// The limits are the same, and so is what there is of them.
+fn renew_rests(at: &Setting<'_>, booked: &Timeline, rests: &mut [Rest])
+    ensures { rests.new ≡ map (renewed_rest at.now.moment booked.now) rests.old }
+{
+    for rest in rests.iter_mut() {
+        let most = left_then(booked, at.moment, rest);
+        rest.most = most;
+    }
+}
+
+fn renewed(at: &Setting<'_>, booked: &Timeline, left: Left) -> Left
+    ensures { result ≡ renewed_left at.now.moment booked.now left }
+{
+    let Left { host, rests } = left;
+    let mut rests = rests.into_vec();
+    renew_rests(at, booked, rests.as_mut_slice());
+    Left {
+        host,
+        rests: List::from_vec(rests),
+    }
+}
+
+// What is left at a vacant place is taken anew.
+fn renew_vacant(alloc: Global, at: &Setting<'_>, booked: &Timeline, room: &mut Room, index: usize)
+    requires left { AreLeft at.now.cluster.now at.now.groups.now at.now.moment booked.now
+        at.now.order.now room.old }
+    requires within { index < length room.old.vacant }
+    ensures { AreLeft at.now.cluster.now at.now.groups.now at.now.moment booked.now
+        at.now.order.now room.new }
+{
+    let place = room.vacant.items()[index];
+    if is_full(at, &room.lefts.items()[place]) {
+        return;
+    }
+    let none = Left {
+        host: 0,
+        rests: List::new(alloc),
+    };
+    let before = room.lefts.replace(place, none);
+    let left = renewed(at, booked, before);
+    leave_out_full(at, &mut room.vacant, index, &left);
+    let _none = room.lefts.replace(place, left);
 }
 
 fn renew_at(
     alloc: Global,
     at: &Setting<'_>,
     booked: &Timeline,
-    rests: &mut List<List<Rest>>,
+    room: &mut Room,
     instance: &InstanceId,
-) -> Result<(), AllocError>
+)
     requires { AreLeft at.now.cluster.now at.now.groups.now at.now.moment booked.now
-        at.now.order.now rests.old }
-    ensures { OnOk result (AreLeft at.now.cluster.now at.now.groups.now at.now.moment booked.now
-        at.now.order.now rests.new) }
+        at.now.order.now room.old }
+    ensures { AreLeft at.now.cluster.now at.now.groups.now at.now.moment booked.now
+        at.now.order.now room.new }
 {
-    match place_of(at.order, instance) {
-        Some(place) => {
-            let left = rests_at(alloc, at, booked, instance)?;
-            let _before = rests.replace(place, left);
-            Ok(())
-        }
-        None => Ok(()),
+    if let Some(index) = index_of(at.order, room.vacant.items(), instance) {
+        renew_vacant(alloc, at, booked, room, index);
     }
 }
 
@@ -205,36 +321,36 @@ fn renew_granted(
     alloc: Global,
     at: &Setting<'_>,
     booked: &Timeline,
-    rests: &mut List<List<Rest>>,
+    room: &mut Room,
     grants: &[Grant],
-) -> Result<(), AllocError>
+)
     requires { AreLeft at.now.cluster.now at.now.groups.now at.now.moment booked.now
-        at.now.order.now rests.old }
-    ensures { OnOk result (AreLeft at.now.cluster.now at.now.groups.now at.now.moment booked.now
-        at.now.order.now rests.new) }
+        at.now.order.now room.old }
+    ensures { AreLeft at.now.cluster.now at.now.groups.now at.now.moment booked.now
+        at.now.order.now room.new }
 {
     for grant in grants {
-        renew_at(alloc, at, booked, rests, &grant.at)?;
+        renew_at(alloc, at, booked, room, &grant.at);
     }
-    Ok(())
 }
 
-/// What is left where a start took slots is taken anew. What a reservation takes is taken later.
+/// What is left where a start took slots is taken anew; where it took the last ones the place is vacant no more. What a
+/// reservation takes is taken later.
 pub(crate) fn renew_started(
     alloc: Global,
     at: &Setting<'_>,
     booked: &Timeline,
-    rests: &mut List<List<Rest>>,
+    room: &mut Room,
     decision: &Decision,
-) -> Result<(), AllocError>
+)
     requires { AreLeft at.now.cluster.now at.now.groups.now at.now.moment booked.now
-        at.now.order.now rests.old }
-    ensures { OnOk result (AreLeft at.now.cluster.now at.now.groups.now at.now.moment booked.now
-        at.now.order.now rests.new) }
+        at.now.order.now room.old }
+    ensures { AreLeft at.now.cluster.now at.now.groups.now at.now.moment booked.now
+        at.now.order.now room.new }
 {
     match decision {
-        Decision::Start(start) => renew_granted(alloc, at, booked, rests, start.grants.items()),
-        Decision::Reserve(_) | Decision::Skip(_) => Ok(()),
+        Decision::Start(start) => renew_granted(alloc, at, booked, room, start.grants.items()),
+        Decision::Reserve(_) | Decision::Skip(_) => {}
     }
 }
 

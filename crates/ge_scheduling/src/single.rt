@@ -7,7 +7,7 @@ ghost use Rattle.ge_scheduling.specs.Common.{IsAsked};
 ghost use Rattle.ge_scheduling.specs.Rests.{IsLeft, AreLeft};
 ghost use Rattle.ge_scheduling.specs.Vacant.{goes_on as has_moment};
 
-use crate::rests::{Rest, are_short};
+use crate::rests::{Rest, Room, are_short};
 use crate::setting::Setting;
 use ge_demands::Counted;
 use ge_place::place_job;
@@ -55,12 +55,12 @@ fn take_at(
 }
 
 /// The grant of a slot at the first instance that takes one now. Each is asked by itself, and only where nothing is short, so
-/// that one that refuses makes none behind it be asked.
+/// that one that refuses makes none behind it be asked. Where no slot is left none is looked at.
 pub(crate) fn place_alone(
     alloc: Global,
     at: &Setting<'_>,
     booked: &Timeline,
-    rests: &List<List<Rest>>,
+    room: &Room,
     asked: &List<Counted>,
     job: &Job,
 ) -> Result<Option<List<Grant>>, AllocError>
@@ -68,23 +68,21 @@ pub(crate) fn place_alone(
     requires free { (job.now.advance == 0) ≡ true }
     requires single { job.now.request.pe ≡ None }
     requires left { AreLeft at.now.cluster.now at.now.groups.now at.now.moment booked.now
-        at.now.order.now rests.now }
+        at.now.order.now room.now }
     requires asked { All (IsAsked at.now.cluster.now at.now.groups.now job.now) asked.now }
     ensures { IfOk result (λ grants. grants
         ≡ placement_of at.now.cluster.now at.now.groups.now at.now.order.now booked.now job.now
         at.now.moment) }
 {
     let order = at.order;
-    let lefts = rests.items();
-    let mut place = 0;
-    while place < order.len() {
-        let instance = &order[place];
-        let left = &lefts[place];
-        let one = one_at(order, place);
+    let lefts = room.lefts.items();
+    for place in room.vacant.items() {
+        let instance = &order[*place];
+        let left = &lefts[*place].rests;
+        let one = one_at(order, *place);
         if let Some(grants) = take_at(alloc, at, booked, left, asked, job, instance, one)? {
             return Ok(Some(grants));
         }
-        place += 1;
     }
     Ok(None)
 }

@@ -1,107 +1,105 @@
 // A placement over hosts alone at which something may be placed.
-ghost use Rattle.std.specs.Prelude.{◌≡◌, ℕ, ◌==◌, ◌||◌, true, false, ◌++◌, ◌∷◌, [], filter, length, IfOk, OnOk, All, List as Items};
-ghost use Rattle.ge_collections.specs.Keyed.{text_eq};
+ghost use Rattle.std.specs.Prelude.{◌≡◌, ℕ, ◌==◌, ◌||◌, true, false, ◌++◌, ◌∷◌, [], cond, filter, length, IfOk, OnOk, All, List as Items};
 ghost use Rattle.ge_model_place.specs.Placement.{placement_of};
 ghost use Rattle.ge_scheduling.specs.Common.{IsAsked};
-ghost use Rattle.ge_scheduling.specs.Rests.{has_host, are_short_at as all_short_at, AreKept, AreLeft};
+ghost use Rattle.ge_scheduling.specs.Rests.{is_kept as kept_in, are_short_at as all_short_at, AreKept, AreNumbered, AreLeft};
 ghost use Rattle.ge_scheduling.specs.Vacant.{goes_on as has_moment};
 
-use crate::rests::{Rest, are_short_at};
+use crate::rests::{Left, Room, are_short_at};
 use crate::setting::Setting;
 use ge_demands::Counted;
 use ge_place::place_job;
-use ge_rows::{Grant, InstanceId, Job, List, Table, Text, Twin};
+use ge_rows::{Grant, InstanceId, Job, List, Twin};
 use ge_timeline::Timeline;
 use std::alloc::{AllocError, Global};
 
-// Hosts that are kept; the numbers mean nothing.
-type Hosts = Table<Text, u64>;
-
-fn keep_host(alloc: Global, hosts: &mut Hosts, host: &Text) -> Result<(), AllocError>
-    ensures { OnOk result ((q : Items ℕ)
-        → has_host hosts.new q ≡ (text_eq host.now q || has_host hosts.old q)) }
+// Whether a host is kept, by its number.
+fn is_kept(kept: &List<bool>, host: usize) -> bool
+    ensures { result ≡ kept_in kept.now host }
 {
-    let key = host.twin(alloc)?;
-    let _before = hosts.insert(key, 1)?;
-    Ok(())
+    host >= kept.len() || kept.items()[host]
+}
+
+fn keep_host(kept: &mut List<bool>, host: usize)
+    ensures { (q : ℕ) → kept_in kept.new q ≡ (host == q || kept_in kept.old q) }
+{
+    if host < kept.len() {
+        let _before = kept.replace(host, true);
+    }
 }
 
 // Keeps the host of an instance, unless something is short there.
 fn note_host(
-    alloc: Global,
     at: &Setting<'_>,
     booked: &Timeline,
     moment: u64,
     asked: &[Counted],
-    left: &List<Rest>,
-    hosts: &mut Hosts,
-    instance: &InstanceId,
-) -> Result<(), AllocError>
-    ensures fewer { OnOk result ((q : Items ℕ)
-        → has_host hosts.new q ≡ false → has_host hosts.old q ≡ false) }
-    ensures here { OnOk result (has_host hosts.new instance.now.host ≡ false
-        → all_short_at at.now.moment booked.now moment asked.now left.now ≡ true) }
+    left: &Left,
+    kept: &mut List<bool>,
+)
+    ensures fewer { (q : ℕ) → kept_in kept.new q ≡ false → kept_in kept.old q ≡ false }
+    ensures here { kept_in kept.new left.now.host ≡ false
+        → all_short_at at.now.moment booked.now moment asked.now left.now.rests ≡ true }
 {
-    if are_short_at(at, booked, moment, asked, left.items()) {
-        return Ok(());
+    if !are_short_at(at, booked, moment, asked, left.rests.items()) {
+        keep_host(kept, left.host);
     }
-    keep_host(alloc, hosts, &instance.host)?;
-    Ok(())
 }
 
-fn hosts_left(
+// The hosts that are kept, by their numbers.
+fn kept_hosts(
     alloc: Global,
     at: &Setting<'_>,
     booked: &Timeline,
-    rests: &List<List<Rest>>,
+    lefts: &[Left],
     asked: &[Counted],
     moment: u64,
-) -> Result<Hosts, AllocError>
-    requires { length rests.now ≡ length at.now.order.now }
-    ensures { IfOk result (λ hosts. AreKept at.now.moment booked.now moment asked.now
-        at.now.order.now rests.now (length at.now.order.now) hosts) }
+) -> Result<List<bool>, AllocError>
+    ensures { IfOk result (λ kept. AreKept at.now.moment booked.now moment asked.now
+        lefts.now (length lefts.now) kept) }
 {
-    let order = at.order;
-    let lefts = rests.items();
-    let mut hosts = Table::new(alloc);
-    let mut place = 0;
-    while place < order.len() {
-        let instance = &order[place];
-        let left = &lefts[place];
-        note_host(alloc, at, booked, moment, asked, left, &mut hosts, instance)?;
-        place += 1;
+    let mut kept = List::from_vec(vec![in alloc; false; lefts.len()]?);
+    for left in lefts {
+        note_host(at, booked, moment, asked, left, &mut kept);
     }
-    Ok(hosts)
+    Ok(kept)
 }
 
 fn add_on_host(
     alloc: Global,
-    hosts: &Hosts,
-    left: &mut List<InstanceId>,
+    kept: &List<bool>,
+    left: &Left,
+    instances: &mut List<InstanceId>,
     instance: &InstanceId,
 ) -> Result<(), AllocError>
-    ensures { OnOk result (left.new ≡ left.old
-        ++ filter (λ at. has_host hosts.now at.host) (instance.now ∷ [])) }
+    ensures { OnOk result (instances.new ≡ instances.old
+        ++ cond (kept_in kept.now left.now.host) (instance.now ∷ []) []) }
 {
-    if hosts.get(&instance.host).is_none() {
+    if !is_kept(kept, left.host) {
         return Ok(());
     }
     let instance = instance.twin(alloc)?;
-    left.push(instance)
+    instances.push(instance)
 }
 
 fn instances_on(
     alloc: Global,
     order: &[InstanceId],
-    hosts: &Hosts,
+    lefts: &[Left],
+    kept: &List<bool>,
 ) -> Result<List<InstanceId>, AllocError>
-    ensures { IfOk result (λ left. left ≡ filter (λ at. has_host hosts.now at.host) order.now) }
+    requires { length lefts.now ≡ length order.now }
+    ensures { IfOk result (λ instances. (number : Items ℕ → ℕ)
+        → AreNumbered number order.now lefts.now
+        → instances ≡ filter (λ at. kept_in kept.now (number at.host)) order.now) }
 {
-    let mut left = List::new(alloc);
-    for instance in order {
-        add_on_host(alloc, hosts, &mut left, instance)?;
+    let mut instances = List::new(alloc);
+    let mut place = 0;
+    while place < order.len() {
+        add_on_host(alloc, kept, &lefts[place], &mut instances, &order[place])?;
+        place += 1;
     }
-    Ok(left)
+    Ok(instances)
 }
 
 /// The grants of a task of a job that is sent into no reservation from a moment on. Hosts at each instance of which something
@@ -110,7 +108,7 @@ pub(crate) fn place_on_hosts(
     alloc: Global,
     at: &Setting<'_>,
     booked: &Timeline,
-    rests: &List<List<Rest>>,
+    room: &Room,
     asked: &List<Counted>,
     job: &Job,
     moment: u64,
@@ -118,15 +116,15 @@ pub(crate) fn place_on_hosts(
     requires goes_on { has_moment at.now.cluster.now moment ≡ true }
     requires free { (job.now.advance == 0) ≡ true }
     requires left { AreLeft at.now.cluster.now at.now.groups.now at.now.moment booked.now
-        at.now.order.now rests.now }
+        at.now.order.now room.now }
     requires asked { All (IsAsked at.now.cluster.now at.now.groups.now job.now) asked.now }
     ensures { IfOk result (λ grants. grants ≡ placement_of at.now.cluster.now at.now.groups.now
         at.now.order.now booked.now job.now moment) }
 {
-    let counts = asked.items();
-    let hosts = hosts_left(alloc, at, booked, rests, counts, moment)?;
-    let left = instances_on(alloc, at.order, &hosts)?;
-    let order = left.items();
+    let lefts = room.lefts.items();
+    let kept = kept_hosts(alloc, at, booked, lefts, asked.items(), moment)?;
+    let instances = instances_on(alloc, at.order, lefts, &kept)?;
+    let order = instances.items();
     let grants = place_job(alloc, at.cluster, at.groups, order, booked, job, moment)?;
     Ok(grants)
 }

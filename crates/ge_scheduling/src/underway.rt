@@ -42,7 +42,7 @@ pub fn begin_run(alloc: Global, cluster: &Cluster, basis: Basis) -> Result<Run, 
         groups,
         order,
         booked,
-        vacant,
+        vacant: _,
     } = basis;
     let holders = holders_of(alloc, cluster, order.items())?;
     let none = BTreeMap::new(alloc);
@@ -54,7 +54,7 @@ pub fn begin_run(alloc: Global, cluster: &Cluster, basis: Basis) -> Result<Run, 
         kinds: kinds_of(cluster, &none),
         moment,
     };
-    let so_far = begin(alloc, &at, booked, vacant)?;
+    let so_far = begin(alloc, &at, booked)?;
     Ok(Run {
         moment,
         groups,
@@ -115,7 +115,8 @@ pub fn others_wait(cluster: &Cluster, run: &Run) -> bool
     ensures left { result ≡ leaves_nothing cluster.now run.now }
     ensures waits { IsTrue result → OthersWait cluster.now run.now }
 {
-    no_slot_is_left(cluster, &run.so_far.vacant) && none_is_kept(cluster, run.so_far.tally.reserved)
+    no_slot_is_left(cluster, &run.so_far.room.vacant)
+        && none_is_kept(cluster, run.so_far.tally.reserved)
 }
 
 /// The decisions of a run on the tasks that were decided.
@@ -137,8 +138,7 @@ pub fn decisions_of(run: Run) -> List<Decision>
         tally: _,
         passed: _,
         full: _,
-        vacant: _,
-        rests: _,
+        room: _,
     } = so_far;
     decisions
 }

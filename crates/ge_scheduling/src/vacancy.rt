@@ -1,18 +1,17 @@
 // Instances that have a slot left.
-ghost use Rattle.std.specs.Prelude.{◌≡◌, ◌++◌, ◌&&◌, ◌∷◌, [], IfOk, IsTrue, OnOk, filter, not};
+ghost use Rattle.std.specs.Prelude.{◌≡◌, ◌++◌, ◌&&◌, ◌∷◌, [], IfOk, IsTrue, OnOk, filter};
 ghost use Rattle.ge_model_value.specs.Pieces.{is_empty};
 ghost use Rattle.std.specs.Option.{option_copied};
-ghost use Rattle.ge_model_bookings.specs.Bookings.{forever, same_instance};
+ghost use Rattle.ge_model_bookings.specs.Bookings.{forever};
 ghost use Rattle.ge_model_place.specs.Windows.{no_later_than};
-ghost use Rattle.ge_scheduling.specs.Vacant.{goes_on as has_moment, slots_of, is_used_up as used_up, is_occupied as occupied_by, is_vacant, AreVacant};
+ghost use Rattle.ge_scheduling.specs.Vacant.{goes_on as has_moment, slots_of, is_used_up as used_up, is_occupied as occupied_by, is_vacant};
 
 use crate::setting::Setting;
-use ge_bookings::{FOREVER, is_same_instance};
+use ge_bookings::FOREVER;
 use ge_demands::capacity;
-use ge_rows::{Advance, Cluster, Decision, Grant, InstanceId, LimitId, List, Text, Twin};
+use ge_rows::{Advance, Cluster, InstanceId, LimitId, List, Text, Twin};
 use ge_timeline::Timeline;
 use std::alloc::{AllocError, Global};
-use std::mem;
 
 fn end_of_all(advance: Option<&Advance>) -> u64
     ensures { result ≡ no_later_than (option_copied advance.entry) forever }
@@ -102,92 +101,10 @@ pub(crate) fn vacant_instances(
     Ok(vacant)
 }
 
-/// Whether no task can start: none of these instances has a slot left, and there is no reservation that a job may be sent into.
-pub(crate) fn no_slot_is_left(cluster: &Cluster, vacant: &List<InstanceId>) -> bool
+/// Whether no task can start: no instance is vacant, and there is no reservation that a job may be sent into.
+pub(crate) fn no_slot_is_left<T>(cluster: &Cluster, vacant: &List<T>) -> bool
     ensures value { result ≡ (is_empty vacant.now && is_empty cluster.now.advances) }
     ensures none { IsTrue result → (vacant.now ≡ []) × (cluster.now.advances ≡ []) }
 {
     vacant.is_empty() && cluster.advances.is_empty()
-}
-
-fn is_other(other: &InstanceId, instance: &InstanceId) -> bool
-    ensures { result ≡ not (same_instance other.now instance.now) }
-{
-    !is_same_instance(other, instance)
-}
-
-fn keep_others(instances: &mut Vec<InstanceId>, instance: &InstanceId)
-    ensures { instances.new.items
-        ≡ filter (λ other. not (same_instance other instance.now)) instances.old.items }
-{
-    instances.retain(|other| is_other(other, instance));
-}
-
-// An instance is left out, wherever it stands.
-fn leave_out(alloc: Global, vacant: &mut List<InstanceId>, instance: &InstanceId)
-    ensures { vacant.new ≡ filter (λ other. not (same_instance other instance.now)) vacant.old }
-{
-    let mut left = mem::replace(vacant, List::new(alloc)).into_vec();
-    keep_others(&mut left, instance);
-    *vacant = List::from_vec(left);
-}
-
-// An instance at which a task started is left out where that took its last slot.
-fn leave_out_occupied(
-    alloc: Global,
-    at: &Setting<'_>,
-    booked: &Timeline,
-    vacant: &mut List<InstanceId>,
-    instance: &InstanceId,
-) -> Result<(), AllocError>
-    requires { AreVacant at.now.cluster.now at.now.groups.now at.now.moment booked.now
-        at.now.order.now vacant.old }
-    ensures { OnOk result (AreVacant at.now.cluster.now at.now.groups.now at.now.moment booked.now
-        at.now.order.now vacant.new) }
-{
-    let occupied = is_occupied(alloc, at, booked, instance)?;
-    if occupied {
-        leave_out(alloc, vacant, instance);
-        return Ok(());
-    }
-    Ok(())
-}
-
-fn leave_out_granted(
-    alloc: Global,
-    at: &Setting<'_>,
-    booked: &Timeline,
-    vacant: &mut List<InstanceId>,
-    grants: &[Grant],
-) -> Result<(), AllocError>
-    requires { AreVacant at.now.cluster.now at.now.groups.now at.now.moment booked.now
-        at.now.order.now vacant.old }
-    ensures { OnOk result (AreVacant at.now.cluster.now at.now.groups.now at.now.moment booked.now
-        at.now.order.now vacant.new) }
-{
-    for grant in grants {
-        leave_out_occupied(alloc, at, booked, vacant, &grant.at)?;
-    }
-    Ok(())
-}
-
-/// The instances of which a start took the last slot are left out. What a reservation takes is taken later.
-pub(crate) fn leave_out_started(
-    alloc: Global,
-    at: &Setting<'_>,
-    booked: &Timeline,
-    vacant: &mut List<InstanceId>,
-    decision: &Decision,
-) -> Result<(), AllocError>
-    requires { AreVacant at.now.cluster.now at.now.groups.now at.now.moment booked.now
-        at.now.order.now vacant.old }
-    ensures { OnOk result (AreVacant at.now.cluster.now at.now.groups.now at.now.moment booked.now
-        at.now.order.now vacant.new) }
-{
-    match decision {
-        Decision::Start(start) => {
-            leave_out_granted(alloc, at, booked, vacant, start.grants.items())
-        }
-        Decision::Reserve(_) | Decision::Skip(_) => Ok(()),
-    }
 }

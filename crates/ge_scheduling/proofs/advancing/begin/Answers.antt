@@ -10,6 +10,5 @@ returns-clause-follows c =
       tallied = subst (λ decisions. IsTallied c.args.at.now.cluster.now decisions c.in_ok-tally.tally) (sym c.new.ensures) c.in_ok-tally.ensures;
       waits = tt;
       shut = none_shut c.args.at.now.cluster.now c.args.at.now.groups.now c.args.at.now.order.now c.args.at.now.moment c.args.at.now.kinds.now.entries c.args.booked c.new.result c.new-2.result c.new-2.ensures.empty;
-      left = c.requires.left;
-      room = c.in_ok-rests.ensures;
+      left = c.in_ok-room.ensures;
     }

@@ -1,7 +1,7 @@
-use Rattle.std.proofs.Common.{sym, subst, ◌∙◌}
-use Rattle.ge_scheduling.specs.Vacant.{AreVacant}
+use Rattle.std.proofs.Common.{sym, ◌∙◌}
 use Rattle.ge_scheduling.proofs.Kept.{job_waits, none_may_start}
 use Rattle.ge_scheduling.proofs.LeftOut.{nothing_placed}
+use Rattle.ge_scheduling.proofs.Remaining.{none_open}
 use Rattle.ge_scheduling.proofs.advancing.is_shut.Goals as goal
 
 pub returns-then-no_slot_is_left : goal.returns-then-no_slot_is_left
@@ -11,9 +11,8 @@ returns-then-no_slot_is_left c = λ _.
     let order = c.args.at.now.order.now in
     let so_far = c.args.so_far.now in
     let left = c.no_slot_is_left.ensures.none c.if-no_slot_is_left.true in
-    let are = subst (λ vacant. AreVacant C groups c.args.at.now.moment so_far.booked order vacant) left.0 c.requires.left in
     none_may_start C groups order c.args.at.now.moment so_far.booked so_far.decisions so_far.tally c.args.number c.in-Some.job.now c.requires.tallied (sym c.in-Some.ensures)
-    (nothing_placed C groups c.args.at.now.moment so_far.booked order are left.1 c.in-Some.job.now) (sym c.if-may_reserve.ensures)
+    (nothing_placed C groups c.args.at.now.moment so_far.booked order (none_open C groups c.args.at.now.moment so_far.booked order so_far.room c.requires.left left.0) left.1 c.in-Some.job.now) (sym c.if-may_reserve.ensures)
 
 pub returns : goal.returns
 returns c = λ noted.

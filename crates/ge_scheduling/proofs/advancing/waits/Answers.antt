@@ -1,8 +1,8 @@
 use Rattle.std.proofs.Common.{IfSome, subst}
 use Rattle.ge_scheduling.specs.Passing.{Waits}
-use Rattle.ge_scheduling.specs.Vacant.{AreVacant}
 use Rattle.ge_scheduling.proofs.Kept.{all_must_wait}
 use Rattle.ge_scheduling.proofs.LeftOut.{nothing_placed}
+use Rattle.ge_scheduling.proofs.Remaining.{none_open}
 use Rattle.ge_scheduling.proofs.advancing.waits.Goals as goal
 
 pub returns-then-is_passed : goal.returns-then-is_passed
@@ -17,6 +17,5 @@ returns-then-nothing_is_left c = λ _.
     let order = c.args.at.now.order.now in
     let so_far = c.args.so_far.now in
     let left = c.nothing_is_left.ensures c.if-nothing_is_left.true in
-    let are = subst (λ vacant. AreVacant C groups c.args.at.now.moment so_far.booked order vacant) left.0 c.requires.left in
     all_must_wait C groups order c.args.at.now.moment so_far.booked so_far.decisions so_far.tally c.args.number c.requires.tallied
-    (λ job. nothing_placed C groups c.args.at.now.moment so_far.booked order are left.1 job) left.2
+    (nothing_placed C groups c.args.at.now.moment so_far.booked order (none_open C groups c.args.at.now.moment so_far.booked order so_far.room c.requires.left left.0) left.1) left.2

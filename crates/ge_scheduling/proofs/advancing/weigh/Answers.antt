@@ -1,10 +1,8 @@
 use Rattle.std.proofs.Common.{sym, subst, ◌∙◌}
 use Rattle.ge_model_place.specs.Running.{booked_by}
 use Rattle.ge_scheduling.specs.Rests.{AreLeft}
-use Rattle.ge_scheduling.specs.Vacant.{AreVacant}
 use Rattle.ge_scheduling.proofs.Bridged.{decision_tallied}
 use Rattle.ge_scheduling.proofs.Kept.{weighed_decides, weighed_follows}
-use Rattle.ge_scheduling.proofs.LeftOut.{vacant_later}
 use Rattle.ge_scheduling.proofs.Remaining.{all_left_later}
 use Rattle.ge_scheduling.proofs.advancing.weigh.Goals as goal
 
@@ -21,20 +19,13 @@ returns-clause-follows c =
     let C = c.args.at.now.cluster.now in
     let was = c.args.so_far.now in
     weighed_follows C c.args.at.now.groups.now c.args.at.now.order.now c.args.at.now.moment c.args.at.now.kinds.now.entries was.booked c.book.new.booked was.decisions c.push.new.self was.tally c.count.new.tally
-    c.passed_by-so_far.result was.passed was.full c.note.new.full was.vacant c.leave_out_started.new.vacant was.rests c.renew_started.new.rests c.args.task c.in_ok-made.made c.requires
+    c.passed_by-so_far.result was.passed was.full c.note.new.full was.room c.renew_started.new.room c.args.task c.in_ok-made.made c.requires
     (c.in_ok-made.ensures ∙ decision_tallied C c.args.at.now.groups.now c.args.at.now.order.now c.args.at.now.moment was.booked was.decisions was.tally c.requires.tallied c.args.task)
-    c.in_ok-book.ensures c.in_ok-push.ensures.ok (c.in_ok-count.ensures was.decisions c.requires.tallied) c.passed_by-so_far.ensures c.in_ok-note.ensures c.in_ok-leave_out_started.ensures c.in_ok-renew_started.ensures
-
-pub leave_out_started-requires : goal.leave_out_started-requires
-leave_out_started-requires c =
-    let C = c.args.at.now.cluster.now in
-    let was = c.args.so_far.now in
-    subst (λ bs. AreVacant C c.args.at.now.groups.now c.args.at.now.moment bs c.args.at.now.order.now was.vacant) (sym c.in_ok-book.ensures)
-    (vacant_later C c.args.at.now.groups.now c.args.at.now.moment was.booked (booked_by C c.args.at.now.groups.now c.args.at.now.moment c.in_ok-made.made) c.args.at.now.order.now was.vacant c.requires.left)
+    c.in_ok-book.ensures c.in_ok-push.ensures.ok (c.in_ok-count.ensures was.decisions c.requires.tallied) c.passed_by-so_far.ensures c.in_ok-note.ensures c.renew_started.ensures
 
 pub renew_started-requires : goal.renew_started-requires
 renew_started-requires c =
     let C = c.args.at.now.cluster.now in
     let was = c.args.so_far.now in
-    subst (λ bs. AreLeft C c.args.at.now.groups.now c.args.at.now.moment bs c.args.at.now.order.now was.rests) (sym c.in_ok-book.ensures)
-    (all_left_later C c.args.at.now.groups.now c.args.at.now.moment was.booked (booked_by C c.args.at.now.groups.now c.args.at.now.moment c.in_ok-made.made) c.args.at.now.order.now was.rests c.requires.room)
+    subst (λ bs. AreLeft C c.args.at.now.groups.now c.args.at.now.moment bs c.args.at.now.order.now was.room) (sym c.in_ok-book.ensures)
+    (all_left_later C c.args.at.now.groups.now c.args.at.now.moment was.booked (booked_by C c.args.at.now.groups.now c.args.at.now.moment c.in_ok-made.made) c.args.at.now.order.now was.room c.requires.left)

@@ -1,7 +1,8 @@
-use Rattle.std.proofs.Common.{sym}
+use Rattle.std.proofs.Common.{length, sym, arith}
 use Rattle.ge_scheduling.proofs.Remaining.{placed_nowhere}
 use Rattle.ge_scheduling.proofs.placing.place_together.Goals as goal
 
-pub returns-then-first-at : goal.returns-then-first-at
-returns-then-first-at c =
-    sym (placed_nowhere c.args.at.now.cluster.now c.args.at.now.groups.now c.args.at.now.moment c.args.booked.now c.args.job.now c.args.at.now.order.now c.in_ok-first.first c.in_ok-first.ensures.none c.if-first-at.true)
+pub returns-then-not-has : goal.returns-then-not-has
+returns-then-not-has c =
+    let order = c.args.at.now.order.now in
+    sym (placed_nowhere c.args.at.now.cluster.now c.args.at.now.groups.now c.args.at.now.moment c.args.booked.now c.args.job.now order (length order) (c.in_ok-has.ensures c.if-not-has.true) (omega arith))

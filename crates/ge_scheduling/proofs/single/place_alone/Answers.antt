@@ -1,38 +1,35 @@
-use Rattle.std.proofs.Common.{◌∷◌, [], sym, ap, ◌∙◌, arith}
-use Rattle.ge_model_place.specs.Placement.{are_admissible}
-use Rattle.ge_model_place.specs.Runs.{one_slot}
+use Rattle.std.proofs.Common.{All, length, slice_index_or, sym, subst, ◌∙◌, arith}
 use Rattle.ge_model_place.proofs.First.{takes_one}
-use Rattle.ge_scheduling.proofs.Remaining.{left_at, refused_more, placed_nowhere}
+use Rattle.ge_scheduling.proofs.Remaining.{left_at, passed_at, passed_more, passed_end, placed_nowhere}
+use Rattle.ge_model_place.specs.Runs.{one_slot}
+use Rattle.ge_scheduling.specs.Rests.{IsLeft}
 use Rattle.ge_scheduling.proofs.Singly.{takes_nothing, placed_first}
 use Rattle.ge_scheduling.proofs.single.place_alone.Goals as goal
 
 pub take_at-requires-clause-left : goal.take_at-requires-clause-left
 take_at-requires-clause-left c =
-    left_at c.args.at.now.cluster.now c.args.at.now.groups.now c.args.at.now.moment c.args.booked.now c.args.at.now.order.now c.args.rests.now c.items-lefts.result.now c.loop-place.place c.index-order-place.result
-    c.index-lefts-place.result c.requires.left c.items-lefts.ensures c.loop-place-test.true c.index-order-place.is c.index-lefts-place.is
-
-pub take_at-requires-clause-one : goal.take_at-requires-clause-one
-take_at-requires-clause-one c = c.one_at-one.ensures c.index-order-place.result ∙ ap (λ x. x ∷ []) (sym c.index-order-place.is)
+    let here = passed_at c.args.at.now.cluster.now c.args.at.now.groups.now c.args.at.now.moment c.args.booked.now c.args.at.now.order.now c.args.room.now c.requires.left c.args.job.now c.requires.free c.items-place-items.result.now
+    c.items-place-items.ensures c.loop-place.place-index c.loop-place.invariant c.loop-place-test.true in
+    subst (λ left. All (IsLeft c.args.at.now.cluster.now c.args.at.now.groups.now c.args.at.now.moment c.args.booked.now c.index-order-place.result) left.rests) c.index-lefts-place.is
+    (left_at c.args.at.now.cluster.now c.args.at.now.groups.now c.args.at.now.moment c.args.booked.now c.args.at.now.order.now c.args.room.now c.items-lefts.result.now (slice_index_or c.items-place-items.result.now c.loop-place.place-index 0)
+    c.index-order-place.result c.index-lefts-place.result c.requires.left c.items-lefts.ensures here.0 c.index-order-place.is c.index-lefts-place.is)
 
 pub loop-place-preserved : goal.loop-place-preserved
 loop-place-preserved c =
-    let order = c.args.at.now.order.now in
-    let less = c.loop-place-test.true in
-    let at = c.index-order-place.result in
-    record {
-      within = omega (arith, less);
-      none = refused_more c.args.at.now.cluster.now c.args.at.now.groups.now c.args.at.now.moment c.args.booked.now (λ x. are_admissible c.args.at.now.cluster.now c.args.at.now.groups.now c.args.job.now c.args.booked.now c.args.at.now.moment (one_slot x)) order c.loop-place.place at less
-          c.index-order-place.is
-          (takes_nothing (takes_one c.args.at.now.cluster.now c.args.at.now.groups.now c.args.job.now c.args.booked.now c.args.at.now.moment at) (one_slot at) (sym c.in_default.is ∙ c.in_ok-grants.ensures))
-          c.loop-place.invariant.none;
-    }
+    passed_more c.args.at.now.cluster.now c.args.at.now.groups.now c.args.at.now.moment c.args.booked.now c.args.at.now.order.now c.args.room.now c.requires.left c.args.job.now c.requires.free c.items-place-items.result.now c.items-place-items.ensures
+    c.loop-place.place-index c.loop-place.invariant c.index-order-place.result c.loop-place-test.true c.index-order-place.is
+    (takes_nothing (takes_one c.args.at.now.cluster.now c.args.at.now.groups.now c.args.job.now c.args.booked.now c.args.at.now.moment c.index-order-place.result) (one_slot c.index-order-place.result) (sym c.in_default.is ∙ c.in_ok-grants.ensures))
 
 pub returns-in-Some : goal.returns-in-Some
 returns-in-Some c =
-    placed_first c.args.at.now.cluster.now c.args.at.now.groups.now c.args.at.now.moment c.args.booked.now c.args.job.now c.requires.single c.args.at.now.order.now c.loop-place.place c.index-order-place.result
-    c.in-Some.grants c.loop-place-test.true c.index-order-place.is c.loop-place.invariant.none (sym c.in-Some.is ∙ c.in_ok-grants.ensures)
+    let here = passed_at c.args.at.now.cluster.now c.args.at.now.groups.now c.args.at.now.moment c.args.booked.now c.args.at.now.order.now c.args.room.now c.requires.left c.args.job.now c.requires.free c.items-place-items.result.now
+    c.items-place-items.ensures c.loop-place.place-index c.loop-place.invariant c.loop-place-test.true in
+    placed_first c.args.at.now.cluster.now c.args.at.now.groups.now c.args.at.now.moment c.args.booked.now c.args.job.now c.requires.single c.args.at.now.order.now
+    (slice_index_or c.items-place-items.result.now c.loop-place.place-index 0) c.index-order-place.result c.in-Some.grants here.0 c.index-order-place.is here.1 (sym c.in-Some.is ∙ c.in_ok-grants.ensures)
 
 pub returns : goal.returns
 returns c =
-    let least = c.loop-place-test.false in
-    sym (placed_nowhere c.args.at.now.cluster.now c.args.at.now.groups.now c.args.at.now.moment c.args.booked.now c.args.job.now c.args.at.now.order.now c.loop-place.place c.loop-place.invariant.none (omega (arith, least)))
+    let past = c.loop-place-test.false in
+    sym (placed_nowhere c.args.at.now.cluster.now c.args.at.now.groups.now c.args.at.now.moment c.args.booked.now c.args.job.now c.args.at.now.order.now (length c.args.at.now.order.now)
+    (passed_end c.args.at.now.cluster.now c.args.at.now.groups.now c.args.at.now.moment c.args.booked.now c.args.at.now.order.now c.args.room.now c.requires.left c.args.job.now c.requires.free c.items-place-items.result.now c.items-place-items.ensures
+    c.loop-place.place-index c.loop-place.invariant (omega (arith, past))) (omega arith))

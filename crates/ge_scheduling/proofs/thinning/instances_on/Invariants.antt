@@ -1,6 +1,12 @@
-use Rattle.std.proofs.Common.{◌≡◌, take, filter}
-use Rattle.ge_scheduling.specs.Rests.{has_host}
+use Rattle.std.proofs.Common.{◌≡◌, ℕ, ◌-◌, ◌≤◌, length, take, filter, List}
+use Rattle.ge_scheduling.specs.Rests.{is_kept, AreNumbered}
 use Rattle.ge_scheduling.proofs.thinning.instances_on.Given as goal
 
-abbrev pub invariant-loop-instance : goal.invariant-loop-instance
-invariant-loop-instance l = l.left ≡ filter (λ at. has_host l.hosts at.host) (take l.instance-index l.order)
+abbrev pub invariant-loop-place : goal.invariant-loop-place
+invariant-loop-place l = record {
+  within : l.place ≤ length l.order;
+  are : (number : List ℕ → ℕ) → AreNumbered number l.order l.lefts → l.instances ≡ filter (λ at. is_kept l.kept (number at.host)) (take l.place l.order);
+}
+
+abbrev pub decreases-loop-place : goal.decreases-loop-place
+decreases-loop-place l = length l.order - l.place

@@ -1,16 +1,8 @@
-use Rattle.std.proofs.Common.{map, sym, subst, ap}
+use Rattle.std.proofs.Common.{map, subst, ap}
 use Rattle.ge_model_place.specs.Running.{task_of}
 use Rattle.ge_scheduling.specs.Passing.{Follows}
-use Rattle.ge_scheduling.specs.Vacant.{AreVacant}
-use Rattle.ge_scheduling.proofs.LeftOut.{vacant_first}
 use Rattle.ge_scheduling.proofs.PartByPart.{first_made}
 use Rattle.ge_scheduling.proofs.underway.begin_run.Goals as goal
-
-pub begin-requires-clause-left : goal.begin-requires-clause-left
-begin-requires-clause-left c =
-    let basis = c.args.basis in
-    subst (λ order. AreVacant c.args.cluster.now basis.groups basis.moment basis.booked order basis.vacant) (sym c.items-2.ensures)
-    (vacant_first c.args.cluster.now basis.groups basis.moment basis.booked basis.order basis.vacant c.requires.left)
 
 pub returns-clause-under_way : goal.returns-clause-under_way
 returns-clause-under_way c =
@@ -18,7 +10,7 @@ returns-clause-under_way c =
     let basis = c.args.basis in
     let so_far = c.in_ok-so_far.so_far in
     let follows = subst
-    (λ order. Follows C basis.groups order basis.moment c.kinds_of.result.now.entries so_far.booked so_far.decisions so_far.tally so_far.passed so_far.full so_far.vacant so_far.rests)
+    (λ order. Follows C basis.groups order basis.moment c.kinds_of.result.now.entries so_far.booked so_far.decisions so_far.tally so_far.passed so_far.full so_far.room)
     c.items-2.ensures c.in_ok-so_far.ensures.follows in
     record {
       spelled = c.requires.spelled;
@@ -27,7 +19,6 @@ returns-clause-under_way c =
       tallied = follows.tallied;
       waits = follows.waits;
       left = follows.left;
-      room = follows.room;
     }
 
 pub returns-clause-none : goal.returns-clause-none

@@ -12,7 +12,7 @@ returns-clause-under_way c =
     let next = subst (λ order. (so_far.booked, so_far.decisions) ≡ fold (decide C run.groups order run.moment) (run.so_far.booked, run.so_far.decisions) c.args.tasks.now)
     c.items.ensures c.in_ok-so_far.ensures.decided in
     let follows = subst
-    (λ order. Follows C run.groups order run.moment c.kinds_of.result.now.entries so_far.booked so_far.decisions so_far.tally so_far.passed so_far.full so_far.vacant so_far.rests)
+    (λ order. Follows C run.groups order run.moment c.kinds_of.result.now.entries so_far.booked so_far.decisions so_far.tally so_far.passed so_far.full so_far.room)
     c.items.ensures c.in_ok-so_far.ensures.follows in
     record {
       spelled = c.requires.spelled;
@@ -21,7 +21,6 @@ returns-clause-under_way c =
       tallied = follows.tallied;
       waits = follows.waits;
       left = follows.left;
-      room = follows.room;
     }
 
 pub returns-clause-tasks : goal.returns-clause-tasks
