@@ -3,6 +3,7 @@ pub mod Changed
 pub mod Copied
 pub mod Found
 pub mod Gathered
+pub mod Heads
 pub mod Moves
 pub mod Noted
 pub mod Between

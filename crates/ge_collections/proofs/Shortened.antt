@@ -1,5 +1,5 @@
 -- Numbers of labels and short rows after a step.
-use Rattle.std.proofs.Common.{◌≡◌, ℕ, ◌+◌, ◌<◌, Bool, true, false, cond, List, [], ◌∷◌, map, Option, Some, None, refl, sym, ap, subst, ◌∙◌, arith}
+use Rattle.std.proofs.Common.{◌≡◌, ℕ, ◌+◌, ◌<◌, Bool, true, false, cond, List, [], ◌∷◌, map, Option, Some, None, ◌≢◌, refl, sym, ap, subst, ◌∙◌, arith}
 use Rattle.std.specs.Option.{is_some, unwrap_or}
 use Rattle.std.specs.Prelude.{IfSome, IsSome}
 use Rattle.std.specs.BTreeMap.{is_at}
@@ -15,7 +15,7 @@ use Rattle.std.proofs.lemmas.Map.Made.{lookup-map_values}
 use Rattle.std.proofs.lemmas.Map.Views.{All-values_from_lookup}
 use Rattle.ge_collections.proofs.Alike.{read_alike}
 use Rattle.ge_collections.specs.declared.short_rows.ShortRows.{ShortRows}
-use Rattle.ge_collections.specs.Short.{AreBelow, AreShort, AreShown, Grow, IsNumbered, ShowsAt, TellApart, number_in, short_of}
+use Rattle.ge_collections.specs.Short.{AreBelow, AreNumbers, AreShort, AreShown, Grow, IsNumbered, ShowsAt, TellApart, number_in, short_of}
 use Rattle.ge_collections.specs.declared.short_row.ShortRow.{ShortRow}
 use Rattle.ge_collections.proofs.Noted.{lookup_one, lookup_stays}
 
@@ -58,6 +58,42 @@ module _ {L : Type 0} {C : L → L → Ordering} (order : IsTotalOrder C) where
 
     pub number_new : number_in C after label ≡ Some low
     number_new = updates label ∙ ap (λ b. cond b (Some low) (lookup (is_at (C label)) before)) ((eq_by_cmp_equiv order).refl label)
+
+  -- a label is entered at the number that it has, or at the bound
+  module _ (before after : List (L × ℕ)) (low found : ℕ) (label : L) (is : found ≡ unwrap_or (lookup (is_at (C label)) before) low)
+      (updates : (l : L) → lookup (is_at (C l)) after ≡ cond (is_at (C label) l) (Some found) (lookup (is_at (C l)) before)) where
+    entered_stays : (l : L) (n : ℕ) → number_in C before l ≡ Some n → number_in C after l ≡ Some n
+    entered_stays l n h = updates l ∙ by (is_at (C label) l) refl
+      where
+        by : (b : Bool) → is_at (C label) l ≡ b → cond b (Some found) (lookup (is_at (C l)) before) ≡ Some n
+        by true at = ap Some (is ∙ ap (λ o. unwrap_or o low) (lookup_one order label l before at ∙ h))
+        by false at = h
+
+    had : (n : ℕ) → lookup (is_at (C label)) before ≡ Some n → (l : L) (m : ℕ) → number_in C after l ≡ Some m → number_in C before l ≡ Some m
+    had n old l m h = by (is_at (C label) l) refl (sym (updates l) ∙ h)
+      where
+        by : (b : Bool) → is_at (C label) l ≡ b → cond b (Some found) (lookup (is_at (C l)) before) ≡ Some m → lookup (is_at (C l)) before ≡ Some m
+        by true at p = sym (lookup_one order label l before at) ∙ old ∙ ap Some (sym (is ∙ ap (λ o. unwrap_or o low) old)) ∙ p
+        by false at p = p
+
+    -- at another number than the bound it was there
+    pub grow_there : found ≢ low → Grow C before low after low
+    grow_there other = (entered_stays, λ known. by (lookup (is_at (C label)) before) refl known)
+      where
+        by : (o : Option ℕ) → lookup (is_at (C label)) before ≡ o → AreNumbers C before low → AreNumbers C after low
+        by None none known = let e : found ≡ low = is ∙ ap (λ o. unwrap_or o low) none in absurd (other e)
+        by (Some n) old known = (λ l m k p q. known.0 l m k (had n old l k p) (had n old m k q), λ l m p. known.1 l m (had n old l m p))
+
+    -- at the bound it is new
+    pub grow_entered : (high : ℕ) → high ≡ low + 1 → found ≡ low → Grow C before low after high
+    grow_entered high next same = subst (Grow C before low after) (sym next) (entered_stays, λ known. by (lookup (is_at (C label)) before) refl known)
+      where
+        by : (o : Option ℕ) → lookup (is_at (C label)) before ≡ o → AreNumbers C before low → AreNumbers C after (low + 1)
+        by None none known = (grow_new before after low label none (λ l. updates l ∙ ap (λ k. cond (is_at (C label) l) (Some k) (lookup (is_at (C l)) before)) same)).1 known
+        by (Some n) old known =
+            let lt : n < low = known.1 label n old in
+            let e : found ≡ n = is ∙ ap (λ o. unwrap_or o low) old in
+            absurd (omega (arith, lt, e, same))
 
 module _ {V L F : Type 0} (labels : V → L × L × L) (facts : V → F) where
   module _ (before after : L → Option ℕ) (stay : (l : L) (n : ℕ) → before l ≡ Some n → after l ≡ Some n) where

@@ -12,10 +12,13 @@
 //! A call that finds no memory answers `AllocError` and leaves the collection as it was.
 #![tactic(auto)]
 
+mod bytes;
 mod counts;
 mod edit;
 mod finding;
 mod gathering;
+mod head;
+mod inline_bytes;
 mod kept;
 mod keys;
 mod ledger;

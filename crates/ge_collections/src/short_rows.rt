@@ -18,7 +18,7 @@ pub(crate) struct ShortRows<K: Ord, L: Ord, F: Copy> {
     pub(crate) rows: BTreeMap<K, ShortRow<F>>,
 }
 
-// The number of a label, which may be a new one.
+// The number of a label, which may be a new one: the bound, since that of any other is below it. It is looked up once.
 fn number_label<L: Ord + Twin + Drop>(
     numbers: &mut BTreeMap<L, u32>,
     bound: &mut u32,
@@ -28,20 +28,18 @@ fn number_label<L: Ord + Twin + Drop>(
         numbers.new.entries bound.new) }
     ensures number { IfSome result (λ n. number_in L.cmp numbers.new.entries label ≡ Some n) }
 {
-    if let Some(number) = numbers.get(&label) {
-        return Some(*number);
-    }
     let number = *bound;
     let Some(next) = number.checked_add(1) else {
         return None;
     };
-    match numbers.insert(label, number) {
-        Ok(_before) => {
-            *bound = next;
-            Some(number)
-        }
-        Err(_want) => None,
+    let Ok(entry) = numbers.entry(label) else {
+        return None;
+    };
+    let found = *entry.or_insert(number);
+    if found == number {
+        *bound = next;
     }
+    Some(found)
 }
 
 // The numbers of three labels.

@@ -5,27 +5,37 @@ ghost use Rattle.std.specs.Cmp.Lexicographic.{pointwise, slice_cmp, nat_list_eq_
 ghost use Rattle.std.specs.Cmp.{partial_equiv_from_equiv};
 ghost use Rattle.std.specs.Ordering.{nat_cmp};
 ghost use Rattle.std.specs.Prelude.{nat_eq, Some, refl};
+ghost use Rattle.ge_collections.specs.Bytes.{bytes_of, leading};
 
+use crate::bytes::Bytes;
+use crate::head::{HEAD, head_of};
 use std::alloc::{AllocError, Global};
 use std::cmp::Ordering;
 use std::marker::Model;
 
 /// Bytes of any values, as a name, a line or a script. Contracts see the list of the bytes.
+///
+/// A text is the key of most maps. So a short one takes no memory of its own, and its first bytes are a number beside it, by
+/// which most are told apart in one step.
 #[derive(Debug, Drop)]
 pub struct Text {
-    bytes: Vec<u8>,
+    head: u64,
+    bytes: Bytes,
 }
 
 impl Model for Text {
-    ghost use Rattle.std.specs.Prelude.{List, ℕ};
+    ghost use Rattle.std.specs.Prelude.{◌≡◌, List, ℕ};
+    ghost use Rattle.ge_collections.specs.Bytes.{bytes_of, leading};
 
     ghost Value = { List ℕ };
 
-    ghost view = { λ t. t.bytes.items };
+    ghost view = { λ t. bytes_of t.bytes };
+
+    ghost invariant = { λ t. t.head ≡ leading 8 (bytes_of t.bytes) };
 }
 
-// Bytes compared as their lists are: the first that differ decide, and else the lengths. A text is the key of most maps,
-// and the comparison of any two slices costs several times this one.
+// Bytes compared as their lists are: the first that differ decide, and else the lengths. The comparison of any two slices
+// costs several times this one.
 fn compare(own: &[u8], other: &[u8]) -> Ordering
     ensures { result ≡ slice_cmp nat_cmp own.now other.now }
 {
@@ -44,38 +54,61 @@ fn compare(own: &[u8], other: &[u8]) -> Ordering
     }
 }
 
+// Bytes compared whose first are these numbers. Where the numbers are one and hold both whole, the lengths decide.
+fn order(head: u64, own: &[u8], others_head: u64, others: &[u8]) -> Ordering
+    requires own { head ≡ leading 8 own.now }
+    requires others { others_head ≡ leading 8 others.now }
+    ensures { result ≡ slice_cmp nat_cmp own.now others.now }
+{
+    if head != others_head {
+        return head.cmp(&others_head);
+    }
+    if own.len() <= HEAD && others.len() <= HEAD {
+        return own.len().cmp(&others.len());
+    }
+    compare(own, others)
+}
+
+// The text of bytes.
+fn text_of(bytes: Bytes) -> Text
+    ensures { result ≡ bytes_of bytes }
+{
+    Text {
+        head: head_of(bytes.as_slice()),
+        bytes,
+    }
+}
+
 impl Text {
     /// The text of no bytes, which takes no memory.
     pub fn new(alloc: Global) -> Text
         ensures { result ≡ [] }
     {
-        Text {
-            bytes: Vec::new(alloc),
-        }
+        text_of(Bytes::new(alloc))
     }
 
     /// The text of these bytes.
     pub fn from_bytes(alloc: Global, bytes: &[u8]) -> Result<Text, AllocError>
         ensures { IfOk result (λ text. text ≡ bytes.now) }
     {
-        Ok(Text {
-            bytes: Vec::from_slice(alloc, bytes)?,
-        })
+        Ok(text_of(Bytes::from_slice(alloc, bytes)?))
     }
 
     /// The text of a vector's bytes, with the vector's memory.
     pub fn from_vec(bytes: Vec<u8>) -> Text
         ensures { result ≡ bytes.items }
     {
-        Text { bytes }
+        text_of(Bytes::Many(bytes))
     }
 
-    /// The bytes as a vector, with the text's memory.
-    pub fn into_vec(self) -> Vec<u8>
-        ensures { result.items ≡ self }
+    /// The same text once more.
+    pub(crate) fn copied(&self, alloc: Global) -> Result<Text, AllocError>
+        ensures { IfOk result (λ text. text ≡ self.now) }
     {
-        let Text { bytes } = self;
-        bytes
+        Ok(Text {
+            head: self.head,
+            bytes: self.bytes.twin(alloc)?,
+        })
     }
 
     /// The bytes.
@@ -89,14 +122,14 @@ impl Text {
     pub fn len(&self) -> usize
         ensures { result ≡ length self.now }
     {
-        self.bytes.len()
+        self.bytes().len()
     }
 
     /// Whether there is no byte.
     pub fn is_empty(&self) -> bool
         ensures { IsTrue result ↔ (self.now ≡ []) }
     {
-        self.bytes.is_empty()
+        self.bytes().is_empty()
     }
 
     /// Puts a byte at the end.
@@ -104,8 +137,7 @@ impl Text {
         ensures ok { OnOk result (self.new ≡ self.old ++ byte ∷ []) }
         ensures err { OnErr result (self.new ≡ self.old) }
     {
-        self.bytes.push(byte)?;
-        Ok(())
+        self.append(&[byte])
     }
 
     /// Puts bytes at the end, all of them or none.
@@ -113,7 +145,9 @@ impl Text {
         ensures ok { OnOk result (self.new ≡ self.old ++ bytes.now) }
         ensures err { OnErr result (self.new ≡ self.old) }
     {
-        self.bytes.extend_from_slice(bytes)
+        self.bytes.append(bytes)?;
+        self.head = head_of(self.bytes.as_slice());
+        Ok(())
     }
 
     /// Takes the last byte off.
@@ -121,7 +155,9 @@ impl Text {
         ensures last { self.old ≡ self.new ++ option_to_list result }
         ensures none { IfNone result (self.old ≡ []) }
     {
-        self.bytes.pop()
+        let last = self.bytes.pop();
+        self.head = head_of(self.bytes.as_slice());
+        last
     }
 
     /// Keeps the first `len` bytes.
@@ -129,6 +165,7 @@ impl Text {
         ensures { self.new ≡ take len self.old }
     {
         self.bytes.truncate(len);
+        self.head = head_of(self.bytes.as_slice());
     }
 }
 
@@ -141,7 +178,7 @@ impl PartialEq for Text {
         ensures value { result ≡ pointwise nat_eq self.now other.now }
         ensures same { IsTrue result ↔ (self.now ≡ other.now) }
     {
-        self.bytes == other.bytes
+        self.cmp(other).is_eq()
     }
 }
 
@@ -169,6 +206,6 @@ impl Ord for Text {
     ghost matches_eq = { texts_ties };
 
     fn cmp(&self, other: &Text) -> Ordering {
-        compare(self.bytes.as_slice(), other.bytes.as_slice())
+        order(self.head, self.bytes(), other.head, other.bytes())
     }
 }

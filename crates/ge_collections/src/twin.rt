@@ -65,7 +65,7 @@ impl Twin for i32 {
 
 impl Twin for Text {
     fn twin(&self, alloc: Global) -> Result<Text, AllocError> {
-        Text::from_bytes(alloc, self.bytes())
+        self.copied(alloc)
     }
 }
 

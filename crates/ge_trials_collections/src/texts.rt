@@ -1,0 +1,38 @@
+// Short and long texts: 23 bytes lie in the value itself, eight are compared as one number.
+use ge_collections::Text;
+use std::alloc::{AllocError, Global};
+use std::cmp::Ordering;
+use std::test::Fail;
+
+fn compared(alloc: Global, own: &[u8], other: &[u8]) -> Result<Ordering, AllocError> {
+    let own = Text::from_bytes(alloc, own)?;
+    let other = Text::from_bytes(alloc, other)?;
+    Ok(own.cmp(&other))
+}
+
+#[test]
+fn grows_and_shrinks(rt: HostRuntime) -> Result<(), Fail> {
+    let short = Text::from_bytes(rt.alloc(), b"abcdefghijklmnopqrstuvw")?;
+    let mut text = Text::from_bytes(rt.alloc(), b"abcdefghijklmnopqrstuvw")?;
+    text.push(120)?;
+    text.append(b"yz")?;
+    assert!(rt; text.len() == 26);
+    assert!(rt; text.bytes() == b"abcdefghijklmnopqrstuvwxyz".as_slice());
+    assert!(rt; text != short);
+    text.truncate(24);
+    assert!(rt; text.pop() == Some(120));
+    assert!(rt; text == short);
+    Ok(())
+}
+
+#[test]
+fn order(rt: HostRuntime) -> Result<(), Fail> {
+    assert!(rt; compared(rt.alloc(), b"node2", b"node10")? == Ordering::Greater);
+    assert!(rt; compared(rt.alloc(), b"all.q", b"all.q")? == Ordering::Equal);
+    assert!(rt; compared(rt.alloc(), b"ann", b"ann\0")? == Ordering::Less);
+    assert!(rt; compared(rt.alloc(), b"abcdefgh", b"abcdefgh\0")? == Ordering::Less);
+    assert!(rt; compared(rt.alloc(), b"abcdefghz", b"abcdefghaa")? == Ordering::Greater);
+    assert!(rt; compared(rt.alloc(), b"\xff", b"zzzzzzzzzz")? == Ordering::Greater);
+    assert!(rt; compared(rt.alloc(), b"", b"a")? == Ordering::Less);
+    Ok(())
+}
