@@ -1,22 +1,19 @@
 -- Texts are told apart by the numbers that their first bytes make.
-use Rattle.std.proofs.Common.{◌≡◌, ℕ, ◌+◌, ◌*◌, ◌^◌, ◌<◌, ◌≤◌, ◌≢◌, zero, suc, List, [], ◌∷◌, length, get_or, refl, sym, ap, ◌∙◌, arith, Fits, w8}
+use Rattle.std.proofs.Common.{◌≡◌, ℕ, ◌+◌, ◌*◌, ◌^◌, ◌<◌, ◌≤◌, ◌≢◌, zero, suc, List, [], ◌∷◌, length, take, refl, sym, ap, ◌∙◌, arith}
 use Rattle.std.proofs.Math.Nat.{mul_assoc, suc-mul, pow-suc, pow-le-pow_right, mul-le-mul_right}
+use Rattle.std.proofs.lemmas.List.{length-take-le}
 use Rattle.std.specs.Cmp.{nat_cmp_is, ranks}
 use Rattle.std.specs.Cmp.Lexicographic.{slice_cmp, nat_list_cmp_total}
 use Rattle.std.specs.Ordering.{nat_cmp, ordering_then, ordering_reverse, MatchOrdering}
 use Rattle.std.specs.declared.cmp.Ordering.{Ordering}
 use Rattle.std.specs.declared.cmp.Ordering.TheVariants.{Less, Equal, Greater}
-use Rattle.ge_collections.specs.Bytes.{leading}
-
--- each item is a byte
-abbrev pub AreBytes : List ℕ → Type 0
-AreBytes xs = (i : ℕ) → Fits w8 (get_or xs i 0)
+use Rattle.ge_collections.specs.Leading.{AreBytes, leading}
 
 rest_bytes : (x : ℕ) (xs : List ℕ) → AreBytes (x ∷ xs) → AreBytes xs
 rest_bytes x xs b i = b (suc i)
 
 -- a number of n bytes is below 256 ^ n
-pub below : (n : ℕ) (xs : List ℕ) → AreBytes xs → leading n xs < 256 ^ n
+below : (n : ℕ) (xs : List ℕ) → AreBytes xs → leading n xs < 256 ^ n
 below zero xs b = omega arith
 below (suc n) xs b = let p = pow-suc 256 n in let h = below n xs b in let g = b n in omega (arith, p, h, g)
 
@@ -40,6 +37,10 @@ room n d xs b lt small =
     let le : n ≤ 7 = omega (arith, lt) in
     let up : 256 ^ n ≤ 256 ^ 7 = pow-le-pow_right {n = 256} (omega arith) {i = n} {j = 7} le in
     omega (arith, h, up, small)
+
+-- as long as what is taken
+pub long_as : (n : ℕ) (cells xs : List ℕ) → take n cells ≡ xs → n ≤ length cells → length xs ≡ n
+long_as n cells xs is le = sym (ap length is) ∙ length-take-le n cells le
 
 -- a lower first byte makes a lower number, whatever follows
 apart : (p x y h k : ℕ) → x < y → h < p → x * p + h < y * p + k

@@ -1,7 +1,6 @@
-// The first bytes of a text as one number, by which most texts are told apart in one step.
-ghost use Rattle.std.specs.Prelude.{◌≡◌};
-ghost use Rattle.std.specs.Prelude.{slice_index_or};
-ghost use Rattle.ge_collections.specs.Bytes.{leading};
+// The first bytes of a text as one number.
+ghost use Rattle.std.specs.Prelude.{◌≡◌, slice_index_or};
+ghost use Rattle.ge_collections.specs.Leading.{AreBytes, leading};
 
 /// How many bytes the number has.
 pub(crate) const HEAD: usize = 8;
@@ -15,9 +14,10 @@ fn digit(bytes: &[u8], place: usize) -> u64
     }
 }
 
-/// The first eight bytes as a number.
+/// The first eight bytes as a number, the first the highest, 0 for each that lacks.
 pub(crate) fn head_of(bytes: &[u8]) -> u64
-    ensures { result ≡ leading 8 bytes.now }
+    ensures value { result ≡ leading 8 bytes.now }
+    ensures bytes { AreBytes bytes.now }
 {
     let mut number = 0;
     for place in 0..HEAD {

@@ -13,6 +13,7 @@
 #![tactic(auto)]
 
 mod bytes;
+mod comparing;
 mod counts;
 mod edit;
 mod finding;

@@ -5,78 +5,30 @@ ghost use Rattle.std.specs.Cmp.Lexicographic.{pointwise, slice_cmp, nat_list_eq_
 ghost use Rattle.std.specs.Cmp.{partial_equiv_from_equiv};
 ghost use Rattle.std.specs.Ordering.{nat_cmp};
 ghost use Rattle.std.specs.Prelude.{nat_eq, Some, refl};
-ghost use Rattle.ge_collections.specs.Bytes.{bytes_of, leading};
+ghost use Rattle.ge_collections.specs.Bytes.{bytes_of};
 
 use crate::bytes::Bytes;
-use crate::head::{HEAD, head_of};
+use crate::comparing::compare;
 use std::alloc::{AllocError, Global};
 use std::cmp::Ordering;
 use std::marker::Model;
 
 /// Bytes of any values, as a name, a line or a script. Contracts see the list of the bytes.
 ///
-/// A text is the key of most maps. So a short one takes no memory of its own, and its first bytes are a number beside it, by
-/// which most are told apart in one step.
+/// A text is the key of most maps. So a short one takes no memory of its own, and most are told apart in one step, by their
+/// first bytes read as a number.
 #[derive(Debug, Drop)]
 pub struct Text {
-    head: u64,
     bytes: Bytes,
 }
 
 impl Model for Text {
-    ghost use Rattle.std.specs.Prelude.{◌≡◌, List, ℕ};
-    ghost use Rattle.ge_collections.specs.Bytes.{bytes_of, leading};
+    ghost use Rattle.std.specs.Prelude.{List, ℕ};
+    ghost use Rattle.ge_collections.specs.Bytes.{bytes_of};
 
     ghost Value = { List ℕ };
 
     ghost view = { λ t. bytes_of t.bytes };
-
-    ghost invariant = { λ t. t.head ≡ leading 8 (bytes_of t.bytes) };
-}
-
-// Bytes compared as their lists are: the first that differ decide, and else the lengths. The comparison of any two slices
-// costs several times this one.
-fn compare(own: &[u8], other: &[u8]) -> Ordering
-    ensures { result ≡ slice_cmp nat_cmp own.now other.now }
-{
-    let (mut left, mut right) = (own.iter(), other.iter());
-    while let Some(a) = left.next() {
-        let Some(b) = right.next() else {
-            return Ordering::Greater;
-        };
-        if *a != *b {
-            return a.cmp(b);
-        }
-    }
-    match right.next() {
-        Some(_more) => Ordering::Less,
-        None => Ordering::Equal,
-    }
-}
-
-// Bytes compared whose first are these numbers. Where the numbers are one and hold both whole, the lengths decide.
-fn order(head: u64, own: &[u8], others_head: u64, others: &[u8]) -> Ordering
-    requires own { head ≡ leading 8 own.now }
-    requires others { others_head ≡ leading 8 others.now }
-    ensures { result ≡ slice_cmp nat_cmp own.now others.now }
-{
-    if head != others_head {
-        return head.cmp(&others_head);
-    }
-    if own.len() <= HEAD && others.len() <= HEAD {
-        return own.len().cmp(&others.len());
-    }
-    compare(own, others)
-}
-
-// The text of bytes.
-fn text_of(bytes: Bytes) -> Text
-    ensures { result ≡ bytes_of bytes }
-{
-    Text {
-        head: head_of(bytes.as_slice()),
-        bytes,
-    }
 }
 
 impl Text {
@@ -84,21 +36,27 @@ impl Text {
     pub fn new(alloc: Global) -> Text
         ensures { result ≡ [] }
     {
-        text_of(Bytes::new(alloc))
+        Text {
+            bytes: Bytes::new(alloc),
+        }
     }
 
     /// The text of these bytes.
     pub fn from_bytes(alloc: Global, bytes: &[u8]) -> Result<Text, AllocError>
         ensures { IfOk result (λ text. text ≡ bytes.now) }
     {
-        Ok(text_of(Bytes::from_slice(alloc, bytes)?))
+        Ok(Text {
+            bytes: Bytes::from_slice(alloc, bytes)?,
+        })
     }
 
     /// The text of a vector's bytes, with the vector's memory.
     pub fn from_vec(bytes: Vec<u8>) -> Text
         ensures { result ≡ bytes.items }
     {
-        text_of(Bytes::Many(bytes))
+        Text {
+            bytes: Bytes::Many(bytes),
+        }
     }
 
     /// The same text once more.
@@ -106,7 +64,6 @@ impl Text {
         ensures { IfOk result (λ text. text ≡ self.now) }
     {
         Ok(Text {
-            head: self.head,
             bytes: self.bytes.twin(alloc)?,
         })
     }
@@ -145,9 +102,7 @@ impl Text {
         ensures ok { OnOk result (self.new ≡ self.old ++ bytes.now) }
         ensures err { OnErr result (self.new ≡ self.old) }
     {
-        self.bytes.append(bytes)?;
-        self.head = head_of(self.bytes.as_slice());
-        Ok(())
+        self.bytes.append(bytes)
     }
 
     /// Takes the last byte off.
@@ -155,9 +110,7 @@ impl Text {
         ensures last { self.old ≡ self.new ++ option_to_list result }
         ensures none { IfNone result (self.old ≡ []) }
     {
-        let last = self.bytes.pop();
-        self.head = head_of(self.bytes.as_slice());
-        last
+        self.bytes.pop()
     }
 
     /// Keeps the first `len` bytes.
@@ -165,7 +118,6 @@ impl Text {
         ensures { self.new ≡ take len self.old }
     {
         self.bytes.truncate(len);
-        self.head = head_of(self.bytes.as_slice());
     }
 }
 
@@ -206,6 +158,9 @@ impl Ord for Text {
     ghost matches_eq = { texts_ties };
 
     fn cmp(&self, other: &Text) -> Ordering {
-        order(self.head, self.bytes(), other.head, other.bytes())
+        match (&self.bytes, &other.bytes) {
+            (Bytes::Few(_, own), Bytes::Few(_, others)) => { own.order(others) }
+            _ => compare(self.bytes(), other.bytes()),
+        }
     }
 }

@@ -1,5 +1,5 @@
 use Rattle.std.proofs.Common.{◌≡◌}
-use Rattle.ge_collections.specs.Bytes.{leading}
+use Rattle.ge_collections.specs.Leading.{leading}
 use Rattle.ge_collections.proofs.head.head_of.Given as goal
 
 abbrev pub invariant-loop-place : goal.invariant-loop-place
