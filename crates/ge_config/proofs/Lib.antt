@@ -9,3 +9,4 @@ pub mod Harms
 pub mod ShareTree
 pub mod Reached
 pub mod Scopes
+pub mod OneMore
