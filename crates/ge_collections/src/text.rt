@@ -17,9 +17,17 @@ use std::marker::Model;
 ///
 /// A text is the key of most maps. So a short one takes no memory of its own, and most are told apart in one step, by their
 /// first bytes read as a number.
-#[derive(Debug, Drop)]
+#[derive(Debug)]
 pub struct Text {
     bytes: Bytes,
+}
+
+// By hand, so that a caller's proofs see one call, and not the cases of what a text keeps.
+impl Drop for Text {
+    fn drop(self) {
+        let Text { bytes } = self;
+        drop(bytes);
+    }
 }
 
 impl Model for Text {
