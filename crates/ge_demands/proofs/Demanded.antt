@@ -1,13 +1,14 @@
 -- What slots ask of a limit, added where the demand on it stands.
-use Rattle.std.proofs.Common.{◌≡◌, ℕ, Bool, ◌<◌, ◌≤◌, ◌+◌, not, zero, suc, true, false, inl, inr, List, [], ◌∷◌, ◌++◌, get_or, length, Some, None, refl, sym, ap, ◌∙◌, arith}
-use Rattle.std.specs.Prelude.{position, slice_set, nat_lt}
+use Rattle.std.proofs.Common.{◌≡◌, ℕ, Bool, ◌<◌, ◌≤◌, ◌+◌, not, zero, suc, true, false, inl, inr, List, [], ◌∷◌, ◌++◌, get_or, length, Some, None, refl, sym, ap, subst, ◌∙◌, arith}
+use Rattle.std.specs.Prelude.{position, slice_set, nat_lt, map}
 use Rattle.std.specs.List.{position_or_len}
-use Rattle.std.proofs.lemmas.Bool.{cases_Bool, cond-true, cond-false, ltb-false}
+use Rattle.std.proofs.lemmas.Bool.{cases_Bool, cond-true, cond-false, ltb-false, or_parts, true≢false, false_from_ne_true}
 use Rattle.std.proofs.lemmas.List.Quantifiers.{position-Some}
 use Rattle.ge_model_bookings.specs.Bookings.{same_limit}
 use Rattle.ge_model_rows.specs.ScheduleRows.{LimitId, Demand}
+use Rattle.ge_model_place.proofs.Same.{limits_equal, limit_same}
 use Rattle.ge_model_place.specs.Limits.{Counted as Limited, with_demand, with_more, demand_for}
-use Rattle.ge_demands.specs.Found.{is_on}
+use Rattle.ge_demands.specs.Found.{is_on, is_found}
 
 -- what stands where a test picks one of two lists
 abbrev choice : Bool → List Demand → List Demand → List Demand
@@ -49,7 +50,22 @@ none_there slots more demands e =
     some_none : (n : ℕ) → Some n ≡ None → ⊥
     some_none n e = cc
 
-pub pushed_there : (slots : ℕ) (more : Limited) (demands new : List Demand) (amount : ℕ) → position (is_on more.limit) demands ≡ None → amount ≡ (demand_for slots more).amount → new ≡ demands ++ (record { limit = more.limit; amount = amount }) ∷ [] → new ≡ with_demand slots demands more
-pushed_there slots more demands new amount none asked is =
-    let same : (record { limit = more.limit; amount = amount }) ≡ demand_for slots more = λ i. record { limit = more.limit; amount = asked i } in
-    is ∙ ap (λ (d : Demand). demands ++ d ∷ []) same ∙ sym (none_there slots more demands none)
+pub demand_is : (slots : ℕ) (more : Limited) (amount : ℕ) → amount ≡ (demand_for slots more).amount → (record { limit = more.limit; amount = amount }) ≡ demand_for slots more
+demand_is slots more amount is = λ i. record { limit = more.limit; amount = is i }
+
+pub pushed_there : (slots : ℕ) (more : Limited) (demands new : List Demand) (demand : Demand) → position (is_on more.limit) demands ≡ None → demand ≡ demand_for slots more → new ≡ demands ++ demand ∷ [] → new ≡ with_demand slots demands more
+pushed_there slots more demands new demand none asked is = is ∙ ap (λ (d : Demand). demands ++ d ∷ []) asked ∙ sym (none_there slots more demands none)
+
+-- which of two limits comes first doesn't matter
+pub apart_back : (a b : LimitId) → same_limit b a ≡ false → same_limit a b ≡ false
+apart_back a b apart =
+    false_from_ne_true (same_limit a b) (λ same. true≢false (sym (subst (λ l. same_limit b l ≡ true) (sym (limits_equal a b same)) (limit_same b)) ∙ apart))
+
+-- a limit that isn't among those of which something is asked gets a demand of its own
+pub asked_anew : (slots : ℕ) (more : Limited) (found : List Limited) → is_found found more.limit ≡ false → with_demand slots (map (demand_for slots) found) more ≡ map (demand_for slots) found ++ demand_for slots more ∷ []
+asked_anew slots more [] new = refl
+asked_anew slots more (x ∷ found) new =
+    let parts = or_parts (same_limit more.limit x.limit) (is_found found more.limit) new in
+    let first = demand_for slots x in
+    let behind = map (demand_for slots) found in
+    ap (λ b. choice b (with_more slots more first ∷ behind) (first ∷ with_demand slots behind more)) (apart_back x.limit more.limit parts.0) ∙ ap (λ l. first ∷ l) (asked_anew slots more found parts.1)

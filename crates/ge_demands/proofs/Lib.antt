@@ -1,3 +1,4 @@
+pub mod Apart
 pub mod Demanded
 pub mod Gathered
 pub mod Once

@@ -4,7 +4,7 @@ use Rattle.std.specs.Prelude.{position, slice_set, nat_lt}
 use Rattle.std.specs.List.{position_or_len}
 use Rattle.std.specs.Map.{lookup}
 use Rattle.std.specs.BTreeMap.{is_at, insert_entry}
-use Rattle.std.proofs.lemmas.Bool.{cases_Bool, cases_lt, cond-true, cond-false, lt-ltb, le-ltb, ne_eqb, eq-eqb, true≢false, false_from_ne_true}
+use Rattle.std.proofs.lemmas.Bool.{cases_Bool, cases_lt, cond-true, cond-false, lt-ltb, le-ltb, ne_eqb, eq-eqb}
 use Rattle.std.proofs.lemmas.List.{length-append, length-set}
 use Rattle.std.proofs.lemmas.List.Folds.{position_or_len_push, position_or_len-set}
 use Rattle.std.proofs.lemmas.List.Sums.{prefix_len-le-length}
@@ -15,7 +15,7 @@ use Rattle.ge_model_place.proofs.Same.{limits_equal, limit_same}
 use Rattle.ge_model_place.specs.Limits.{Counted as Limited, with_demand, with_more, demand_for}
 use Rattle.ge_timeline.proofs.Numbering.{same_at, number_in_more}
 use Rattle.ge_demands.specs.Found.{is_on, AreKept}
-use Rattle.ge_demands.proofs.Demanded.{found_there, none_there}
+use Rattle.ge_demands.proofs.Demanded.{apart_back, found_there, none_there}
 
 -- the order of limits finds the same limit
 pub same_lookup : (a : LimitId) (places : List (LimitId × ℕ)) → lookup (is_at (cmp-value.it a)) places ≡ lookup (same_limit a) places
@@ -90,7 +90,6 @@ kept_more places demands slots more none kept limit =
           let over : length demands ≤ position_or_len (is_on limit) demands = subst (λ l. length demands ≤ position_or_len (is_on l) demands) (sym one) (over_all (is_on more.limit) demands none) in
           found ∙ cond-true _ _ _ same ∙ sym (is ∙ push_new (is_on limit) demands (demand_for slots more) here over)
       | inr other ↦
-          let there : same_limit more.limit limit ≡ false =
-          false_from_ne_true (same_limit more.limit limit) (λ same. true≢false (sym (subst (λ l. same_limit limit l ≡ true) (sym (limits_equal more.limit limit same)) (limit_same limit)) ∙ other)) in
+          let there : same_limit more.limit limit ≡ false = apart_back more.limit limit other in
           found ∙ cond-false _ _ _ other ∙ kept limit ∙ sym (is ∙ push_other (is_on limit) demands (demand_for slots more) there)
     ]

@@ -2,13 +2,13 @@
 
 ghost use Rattle.std.specs.Prelude.{◌≡◌, ◌∷◌, [], IfOk, OnOk, fold, position, map};
 ghost use Rattle.ge_model_bookings.specs.Bookings.{same_limit};
-ghost use Rattle.ge_model_place.specs.Limits.{demand_for, demands_of, with_demand, with_grant, with_more};
+ghost use Rattle.ge_model_place.specs.Limits.{counted_at, demand_for, demands_of, with_demand, with_grant, with_more};
 ghost use Rattle.ge_demands.specs.Counts.{all_counted, counted_as};
 
 use crate::counting::{Counted, counted_limits};
 use crate::indexing::demands_of_many;
 use ge_bookings::is_same_limit;
-use ge_rows::{Cluster, Demand, Grant, Groups, Job, LimitId, List};
+use ge_rows::{Cluster, Demand, Grant, Groups, InstanceId, Job, LimitId, List};
 use std::alloc::{AllocError, Global};
 
 // The greatest demand on one limit.
@@ -26,6 +26,21 @@ fn amount_for(slots: u32, counted: &Counted) -> u128
     } else {
         u128::from(u64::from(slots).saturating_mul(counted.amount))
     }
+}
+
+// The demand of slots on a limit.
+#[tactic(auto, using(crate::proofs::Demanded::demand_is))]
+fn demand_of(slots: u32, counted: Counted) -> Demand
+    ensures { result ≡ demand_for slots (counted_as counted) }
+{
+    let amount = amount_for(slots, &counted);
+    let Counted {
+        limit,
+        capacity: _,
+        amount: _,
+        once: _,
+    } = counted;
+    Demand { limit, amount }
 }
 
 // What more slots ask of the same limit; what is asked once is there already.
@@ -65,14 +80,7 @@ pub(crate) fn add_at(
             Ok(())
         }
         None => {
-            let amount = amount_for(slots, &counted);
-            let Counted {
-                limit,
-                capacity: _,
-                amount: _,
-                once: _,
-            } = counted;
-            demands.push(Demand { limit, amount })?;
+            demands.push(demand_of(slots, counted))?;
             Ok(())
         }
     }
@@ -107,6 +115,72 @@ fn add_grant(
     add_all(demands, grant.slots, limits)
 }
 
+fn add_grants(
+    alloc: Global,
+    cluster: &Cluster,
+    groups: &Groups,
+    job: &Job,
+    demands: &mut Vec<Demand>,
+    grants: &[Grant],
+) -> Result<(), AllocError>
+    ensures { OnOk result (demands.new.items
+        ≡ fold (with_grant cluster.now groups.now job.now) demands.old.items grants.now) }
+{
+    for grant in grants {
+        add_grant(alloc, cluster, groups, job, demands, grant)?;
+    }
+    Ok(())
+}
+
+fn demands_on_each(
+    alloc: Global,
+    slots: u32,
+    limits: Vec<Counted>,
+) -> Result<Vec<Demand>, AllocError>
+    ensures { IfOk result (λ demands. demands.items
+        ≡ map (demand_for slots) (all_counted limits.items)) }
+{
+    let mut demands = Vec::with_capacity(alloc, limits.len())?;
+    for counted in limits {
+        demands.push(demand_of(slots, counted))?;
+    }
+    Ok(demands)
+}
+
+// What slots at one instance ask. The limits that they count for are there once each, so no place is looked for.
+fn demands_at(
+    alloc: Global,
+    cluster: &Cluster,
+    groups: &Groups,
+    job: &Job,
+    slots: u32,
+    at: &InstanceId,
+) -> Result<Vec<Demand>, AllocError>
+    ensures { IfOk result (λ demands. demands.items
+        ≡ fold (with_demand slots) [] (counted_at cluster.now groups.now job.now at.now)) }
+{
+    let limits = counted_limits(alloc, cluster, groups, job, at)?;
+    let demands = demands_on_each(alloc, slots, limits)?;
+    Ok(demands)
+}
+
+fn demands_of_first(
+    alloc: Global,
+    cluster: &Cluster,
+    groups: &Groups,
+    job: &Job,
+    grant: &Grant,
+) -> Result<Vec<Demand>, AllocError>
+    ensures { IfOk result (λ demands. demands.items
+        ≡ with_grant cluster.now groups.now job.now [] grant.now) }
+{
+    if grant.slots == 0 {
+        return Ok(Vec::new(alloc));
+    }
+    demands_at(alloc, cluster, groups, job, grant.slots, &grant.at)
+}
+
+// Most tasks have one grant.
 fn demands_of_few(
     alloc: Global,
     cluster: &Cluster,
@@ -117,17 +191,21 @@ fn demands_of_few(
     ensures { IfOk result (λ demands. demands.items
         ≡ fold (with_grant cluster.now groups.now job.now) [] grants.now) }
 {
-    let mut demands = Vec::new(alloc);
-    for grant in grants {
-        add_grant(alloc, cluster, groups, job, &mut demands, grant)?;
+    match grants {
+        [] => Ok(Vec::new(alloc)),
+        [first, rest @ ..] => {
+            let mut demands = demands_of_first(alloc, cluster, groups, job, first)?;
+            add_grants(alloc, cluster, groups, job, &mut demands, rest)?;
+            Ok(demands)
+        }
     }
-    Ok(demands)
 }
 
 /// What grants of a job ask of each limit, each limit once, in the order in which the grants come to it: the job's amount for
 /// each slot, or once where the complex says so, cut at 2^64 - 1. A grant of no slots asks nothing (complex, consumable).
 ///
-/// The demands of few grants are looked through for each limit, those of many are found by an index.
+/// The first of few grants has a demand on each limit that it counts for; those of the others are looked for among the demands.
+/// The demands of many grants are found by an index.
 #[tactic(auto, unfolding(ge_model_place::specs::Limits::demands_of))]
 pub fn demands(
     alloc: Global,

@@ -13,4 +13,4 @@ returns-in-Some c =
 
 pub returns-in_ok-push-in-None : goal.returns-in_ok-push-in-None
 returns-in_ok-push-in-None c =
-    pushed_there c.args.slots (counted_as c.args.counted) c.args.demands.now.items c.push.new.self.items c.amount_for-amount.result (sym c.requires ∙ c.in-None.is) c.amount_for-amount.ensures c.in_ok-push-in-None.ensures.items
+    pushed_there c.args.slots (counted_as c.args.counted) c.args.demands.now.items c.push.new.self.items c.demand_of.result (sym c.requires ∙ c.in-None.is) c.demand_of.ensures c.in_ok-push-in-None.ensures.items

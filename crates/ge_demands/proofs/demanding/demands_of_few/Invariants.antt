@@ -1,6 +1,0 @@
-use Rattle.std.proofs.Common.{◌≡◌, fold, take, []}
-use Rattle.ge_model_place.specs.Limits.{with_grant}
-use Rattle.ge_demands.proofs.demanding.demands_of_few.Given as goal
-
-abbrev pub invariant-loop-grant : goal.invariant-loop-grant
-invariant-loop-grant l = l.demands.items ≡ fold (with_grant l.cluster l.groups l.job) [] (take l.grant-index l.grants)
