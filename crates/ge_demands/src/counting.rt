@@ -32,6 +32,9 @@ pub struct Counted {
 }
 
 /// What counts of a limit, behind what was found.
+///
+/// A limit is large, so it is made where it is added, and not moved into a call.
+#[inline(always)]
 pub(crate) fn add(
     found: &mut Vec<Counted>,
     limit: LimitId,
@@ -313,6 +316,10 @@ fn add_named(
     add_environment(alloc, cluster, groups, job, found)
 }
 
+// Room for what is mostly found: an instance's slots, few values of it, of its host and of all hosts, an environment and few
+// quotas. So the limits, which are large, aren't moved while the vector grows.
+const MOSTLY_FOUND: usize = 8;
+
 // All limits that are configured.
 #[tactic(auto, using(crate::proofs::Once::configured_once))]
 fn configured(
@@ -326,7 +333,7 @@ fn configured(
         ≡ flat_map (counted cluster.now groups.now job.now)
         (each_limit_once (configured_limits cluster.now groups.now job.now at.now))) }
 {
-    let mut found = Vec::new(alloc);
+    let mut found = Vec::with_capacity(alloc, MOSTLY_FOUND)?;
     add_named(alloc, cluster, groups, job, at, &mut found)?;
     add_quotas(alloc, cluster, groups, job, at, &mut found)?;
     Ok(found)
@@ -347,7 +354,7 @@ fn reserved(
           once = false;
         } ∷ []) }
 {
-    let mut found = Vec::new(alloc);
+    let mut found = Vec::with_capacity(alloc, 1)?;
     let capacity = in_advance(at, cluster.advances.get(&job.advance));
     let limit = LimitId::Advance(job.advance, at.twin(alloc)?);
     add(&mut found, limit, capacity, ONE_SLOT)?;
