@@ -1,5 +1,5 @@
 -- What was found so far of the limits that a grant counts for: what counts of each, without the limits of which nothing is asked.
-use Rattle.std.specs.Prelude.{◌≡◌, ℕ, Bool, cond, List, [], ◌∷◌, ◌++◌, Option, Some, None, position}
+use Rattle.std.specs.Prelude.{◌≡◌, ℕ, Bool, false, cond, List, [], ◌∷◌, ◌++◌, Option, Some, None, position}
 use Rattle.std.specs.Map.{lookup, keys_of}
 use Rattle.std.specs.List.{list_any}
 use Rattle.std.specs.List.Sorted.{IsStrictlySortedBy}
@@ -12,7 +12,7 @@ use Rattle.ge_model_rows.specs.JobRows.{Job}
 use Rattle.ge_model_rows.specs.QueueRows.{QueueRow}
 use Rattle.ge_model_rows.specs.ScheduleRows.{LimitId, Instance, Host, Global, Demand}
 use Rattle.ge_model_rows.specs.ValueRows.{Value, ComplexDef}
-use Rattle.ge_model_place.specs.Limits.{Counted as Limited, counted, instance_limits, host_limits, pe_limits}
+use Rattle.ge_model_place.specs.Limits.{Counted as Limited, capacity_of, counted, instance_limits, host_limits, pe_limits}
 use Rattle.ge_model_place.specs.Opening.{global_name, slots_name}
 use Rattle.ge_model_site.specs.Queues.{attr_at}
 
@@ -68,6 +68,14 @@ AreRisingOn (Some row) = AreRising row.values
 -- those that the named limits have
 abbrev pub AllRise : Cluster → Groups → InstanceId → Type 0
 AllRise c groups at = AreRisingAt groups at (at_text c.queues at.queue) × AreRisingOn (at_text c.hosts at.host) × AreRisingOn (at_text c.hosts global_name)
+
+-- there is as much of the limit of a name as the value has that stands at the name
+abbrev pub HasAmount : Cluster → Groups → (List ℕ → LimitId) → List ℕ × Value → Type 0
+HasAmount c groups limit entry = capacity_of c groups (limit entry.0) ≡ amount_in entry.1
+
+-- the same of an instance, of any name but that of slots
+abbrev pub HasOtherAmount : Cluster → Groups → InstanceId → List ℕ × Value → Type 0
+HasOtherAmount c groups at entry = text_eq entry.0 slots_name ≡ false → HasAmount c groups (Instance at) entry
 
 -- whether a demand is on a limit
 abbrev pub is_on : LimitId → Demand → Bool

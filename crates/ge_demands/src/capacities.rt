@@ -33,13 +33,8 @@ fn amount_or_zero(value: Option<&Value>) -> u64
     }
 }
 
-/// How much of a name an instance of a queue has.
-pub(crate) fn in_queue(
-    groups: &Groups,
-    at: &InstanceId,
-    name: &Text,
-    queue: Option<&QueueRow>,
-) -> u64
+// How much of a name an instance of a queue has.
+fn in_queue(groups: &Groups, at: &InstanceId, name: &Text, queue: Option<&QueueRow>) -> u64
     ensures { result ≡ capacity_in groups.now at.now name.now (option_copied queue.entry) }
 {
     match queue {
@@ -54,8 +49,8 @@ pub(crate) fn in_queue(
     }
 }
 
-/// How much of a name a host has.
-pub(crate) fn on_host(name: &Text, host: Option<&HostRow>) -> u64
+// How much of a name a host has.
+fn on_host(name: &Text, host: Option<&HostRow>) -> u64
     ensures { result ≡ capacity_on name.now (option_copied host.entry) }
 {
     match host {

@@ -9,13 +9,16 @@ ghost use Rattle.ge_model_site.specs.Queues.{attr_at};
 ghost use Rattle.ge_model_place.specs.Opening.{global_name, slots_name};
 ghost use Rattle.ge_model_place.specs.Limits.{advance_capacity, configured_limits, counted, counted_at, each_limit_once, host_limits, instance_limits, pe_limits};
 ghost use Rattle.ge_demands.specs.Counts.{all_counted, counted_as};
-ghost use Rattle.ge_demands.specs.Found.{AllRise, AreRising, AreRisingAt, AreRisingOn, named_limits, with_host_value, with_instance_value, with_limit};
+ghost use Rattle.ge_demands.specs.Found.{AllRise, AreRising, AreRisingAt, AreRisingOn, HasAmount, HasOtherAmount, named_limits, with_host_value, with_instance_value, with_limit};
 
 use crate::asking::{Asked, ONE_SLOT, asked_of};
-use crate::capacities::{in_advance, in_environment, in_queue, is_slots, on_host};
+use crate::capacities::{in_advance, in_environment, is_slots};
 use crate::quotas::add_quotas;
+use ge_complex::amount_in;
 use ge_queues::{at_host, global_host, slots_at};
-use ge_rows::{Cluster, Groups, HostRow, InstanceId, Job, LimitId, QueueRow, Text, Twin, twins2};
+use ge_rows::{
+    Cluster, Groups, HostRow, InstanceId, Job, LimitId, QueueRow, Text, Twin, Value, twins2,
+};
 use std::alloc::{AllocError, Global};
 
 /// A limit that a grant counts for. Contracts see the model's `Counted`.
@@ -54,28 +57,31 @@ pub(crate) fn add(
     Ok(())
 }
 
-// A limit of an instance, which is only made where something is asked of it.
+// A limit of an instance, which is only made where something is asked of it. Slots are none of its values.
 fn add_of_instance(
     alloc: Global,
     cluster: &Cluster,
     groups: &Groups,
     job: &Job,
     at: &InstanceId,
-    queue: &QueueRow,
     found: &mut Vec<Counted>,
     name: &Text,
+    value: &Value,
 ) -> Result<(), AllocError>
-    requires { at_text cluster.now.queues at.now.queue ≡ Some queue.now }
+    requires { HasOtherAmount cluster.now groups.now at.now (name.now, value.now) }
     ensures { OnOk result (all_counted found.new.items
-        ≡ with_limit cluster.now groups.now job.now (all_counted found.old.items) (Instance at.now name.now)) }
+        ≡ with_instance_value cluster.now groups.now job.now at.now (all_counted found.old.items) name.now) }
 {
+    if is_slots(name) {
+        return Ok(());
+    }
     let asked = asked_of(cluster, job, name);
     if asked.amount == 0 {
         return Ok(());
     }
-    let capacity = u128::from(in_queue(groups, at, name, Some(queue)));
     let (at, name) = twins2(alloc, at, name)?;
-    add(found, LimitId::Instance(at, name), capacity, asked)
+    let limit = LimitId::Instance(at, name);
+    add(found, limit, u128::from(amount_in(value)), asked)
 }
 
 fn add_values_of_instance(
@@ -93,10 +99,8 @@ fn add_values_of_instance(
         (keys_of (attr_at queue.now.values groups.now at.now.host))) }
     ensures rising { OnOk result (AreRising (attr_at queue.now.values groups.now at.now.host)) }
 {
-    for name in at_host(&queue.values, groups, &at.host).keys() {
-        if !is_slots(name) {
-            add_of_instance(alloc, cluster, groups, job, at, queue, found, name)?;
-        }
+    for (name, value) in at_host(&queue.values, groups, &at.host).iter() {
+        add_of_instance(alloc, cluster, groups, job, at, found, name, value)?;
     }
     Ok(())
 }
@@ -153,11 +157,11 @@ fn add_of_host(
     groups: &Groups,
     job: &Job,
     host: &Text,
-    row: &HostRow,
     found: &mut Vec<Counted>,
     name: &Text,
+    value: &Value,
 ) -> Result<(), AllocError>
-    requires { at_text cluster.now.hosts host.now ≡ Some row.now }
+    requires { HasAmount cluster.now groups.now (Host host.now) (name.now, value.now) }
     ensures { OnOk result (all_counted found.new.items
         ≡ with_limit cluster.now groups.now job.now (all_counted found.old.items) (Host host.now name.now)) }
 {
@@ -165,9 +169,9 @@ fn add_of_host(
     if asked.amount == 0 {
         return Ok(());
     }
-    let capacity = u128::from(on_host(name, Some(row)));
     let (host, name) = twins2(alloc, host, name)?;
-    add(found, LimitId::Host(host, name), capacity, asked)
+    let limit = LimitId::Host(host, name);
+    add(found, limit, u128::from(amount_in(value)), asked)
 }
 
 fn add_values_of_host(
@@ -185,8 +189,8 @@ fn add_values_of_host(
         (keys_of row.now.values)) }
     ensures rising { OnOk result (AreRising row.now.values) }
 {
-    for name in row.values.keys() {
-        add_of_host(alloc, cluster, groups, job, host, row, found, name)?;
+    for (name, value) in row.values.iter() {
+        add_of_host(alloc, cluster, groups, job, host, found, name, value)?;
     }
     Ok(())
 }
@@ -217,11 +221,11 @@ fn add_of_all(
     cluster: &Cluster,
     groups: &Groups,
     job: &Job,
-    row: &HostRow,
     found: &mut Vec<Counted>,
     name: &Text,
+    value: &Value,
 ) -> Result<(), AllocError>
-    requires { at_text cluster.now.hosts global_name ≡ Some row.now }
+    requires { HasAmount cluster.now groups.now Everywhere (name.now, value.now) }
     ensures { OnOk result (all_counted found.new.items
         ≡ with_limit cluster.now groups.now job.now (all_counted found.old.items) (Everywhere name.now)) }
 {
@@ -229,8 +233,8 @@ fn add_of_all(
     if asked.amount == 0 {
         return Ok(());
     }
-    let capacity = u128::from(on_host(name, Some(row)));
-    add(found, LimitId::Global(name.twin(alloc)?), capacity, asked)
+    let limit = LimitId::Global(name.twin(alloc)?);
+    add(found, limit, u128::from(amount_in(value)), asked)
 }
 
 fn add_values_of_all(
@@ -247,8 +251,8 @@ fn add_values_of_all(
         (keys_of row.now.values)) }
     ensures rising { OnOk result (AreRising row.now.values) }
 {
-    for name in row.values.keys() {
-        add_of_all(alloc, cluster, groups, job, row, found, name)?;
+    for (name, value) in row.values.iter() {
+        add_of_all(alloc, cluster, groups, job, found, name, value)?;
     }
     Ok(())
 }
