@@ -1,17 +1,17 @@
 //! The quotas that a grant counts for.
 
-ghost use Rattle.std.specs.Prelude.{◌≡◌, Some, OnOk, fold, map};
+ghost use Rattle.std.specs.Prelude.{◌≡◌, ◌≢◌, Some, OnOk, fold, map};
 ghost use Rattle.std.specs.List.{list_any};
 ghost use Rattle.ge_collections.specs.Keyed.{at_text};
 ghost use Rattle.ge_model_bookings.specs.Bookings.{same_limit};
 ghost use Rattle.ge_model_rows.specs.ScheduleRows.{Quota};
-ghost use Rattle.ge_model_place.specs.Limits.{who_at};
+ghost use Rattle.ge_model_place.specs.Limits.{is_per_job, per_slot, who_at};
 ghost use Rattle.ge_model_place.specs.Quotas.{keys_of_set, quota_keys, rule_key};
 ghost use Rattle.ge_quota.specs.Asked.{asked_by};
 ghost use Rattle.ge_demands.specs.Counts.{all_counted};
 ghost use Rattle.ge_demands.specs.Found.{with_limit_unless_found};
 
-use crate::asking::asked_of;
+use crate::asking::{Asked, asked_of};
 use crate::capacities::in_quota;
 use crate::counting::{Counted, add};
 use ge_bookings::is_same_limit;
@@ -33,21 +33,47 @@ fn add_quota(
     found: &mut Vec<Counted>,
     set: &QuotaRow,
     key: QuotaKey,
+    asked: Asked,
 ) -> Result<(), AllocError>
-    requires { at_text cluster.now.quotas key.set ≡ Some set.now }
+    requires set { at_text cluster.now.quotas key.set ≡ Some set.now }
+    requires amount { asked.amount ≡ per_slot cluster.now job.now key.resource }
+    requires once { asked.once ≡ is_per_job cluster.now key.resource }
+    requires some { asked.amount ≢ 0 }
     ensures { OnOk result (all_counted found.new.items
         ≡ with_limit_unless_found cluster.now groups.now job.now (all_counted found.old.items) (Quota key)) }
 {
-    let asked = asked_of(cluster, job, &key.resource);
-    if asked.amount == 0 {
-        return Ok(());
-    }
     let capacity = u128::from(in_quota(&key, Some(set)));
     let limit = LimitId::Quota(key);
     if is_there(found.as_slice(), &limit) {
         return Ok(());
     }
     add(found, limit, capacity, asked)
+}
+
+// The quota of one resource that a rule limits. Its key is only made where something is asked of it.
+fn add_of_resource(
+    alloc: Global,
+    cluster: &Cluster,
+    groups: &Groups,
+    job: &Job,
+    found: &mut Vec<Counted>,
+    who: &Who<'_>,
+    name: &Text,
+    set: &QuotaRow,
+    rule: &Numbered<'_>,
+    resource: &Text,
+) -> Result<(), AllocError>
+    requires { at_text cluster.now.quotas name.now ≡ Some set.now }
+    ensures { OnOk result (all_counted found.new.items
+        ≡ with_limit_unless_found cluster.now groups.now job.now (all_counted found.old.items)
+        (Quota (rule_key name.now (asked_by who.now) resource.now (rule.now.number, rule.now.rule.now)))) }
+{
+    let asked = asked_of(cluster, job, resource);
+    if asked.amount == 0 {
+        return Ok(());
+    }
+    let key = key(alloc, name, who, resource.bytes(), rule)?;
+    add_quota(cluster, groups, job, found, set, key, asked)
 }
 
 // The quotas of a rule, one for each resource that it limits.
@@ -69,8 +95,9 @@ fn add_of_rule(
         rule.now.rule.now.limits))) }
 {
     for (resource, _) in rule.rule.limits.iter() {
-        let key = key(alloc, name, who, resource.bytes(), rule)?;
-        add_quota(cluster, groups, job, found, set, key)?;
+        add_of_resource(
+            alloc, cluster, groups, job, found, who, name, set, rule, resource,
+        )?;
     }
     Ok(())
 }
