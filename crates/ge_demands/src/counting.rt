@@ -70,7 +70,8 @@ fn add_of_instance(
 ) -> Result<(), AllocError>
     requires { HasOtherAmount cluster.now groups.now at.now (name.now, value.now) }
     ensures { OnOk result (all_counted found.new.items
-        ≡ with_instance_value cluster.now groups.now job.now at.now (all_counted found.old.items) name.now) }
+        ≡ with_instance_value cluster.now groups.now job.now at.now
+        (all_counted found.old.items) name.now) }
 {
     if is_slots(name) {
         return Ok(());

@@ -66,7 +66,8 @@ fn add_of_resource(
     requires { at_text cluster.now.quotas name.now ≡ Some set.now }
     ensures { OnOk result (all_counted found.new.items
         ≡ with_limit_unless_found cluster.now groups.now job.now (all_counted found.old.items)
-        (Quota (rule_key name.now (asked_by who.now) resource.now (rule.now.number, rule.now.rule.now)))) }
+        (Quota (rule_key name.now (asked_by who.now) resource.now
+        (rule.now.number, rule.now.rule.now)))) }
 {
     let asked = asked_of(cluster, job, resource);
     if asked.amount == 0 {
