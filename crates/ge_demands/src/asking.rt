@@ -1,7 +1,9 @@
 //! What a job asks of a limit for one slot.
 
-ghost use Rattle.std.specs.Prelude.{◌≡◌};
+ghost use Rattle.std.specs.Prelude.{◌≡◌, false};
 ghost use Rattle.std.specs.Option.{option_copied};
+ghost use Rattle.ge_collections.specs.Keyed.{text_eq};
+ghost use Rattle.ge_model_place.specs.Opening.{slots_name};
 ghost use Rattle.ge_model_place.specs.Limits.{is_job, is_per_job, per_slot};
 ghost use Rattle.ge_demands.specs.Found.{amount_or_default};
 
@@ -41,16 +43,14 @@ fn asked_amount(complex: &ComplexDef, asked: Option<&Value>) -> u64
     }
 }
 
-/// What a job asks of a name for one slot: one of slots, nothing of what is no consumable, else what it requests or the
-/// complex's default (complex, consumable and default).
+/// What a job asks for one slot of a name that isn't that of slots: nothing of what is no consumable, else what it requests or
+/// the complex's default (complex, consumable and default).
 #[tactic(auto, using(crate::proofs::Gathered::asked_is))]
-pub(crate) fn asked_of(cluster: &Cluster, job: &Job, name: &Text) -> Asked
+pub(crate) fn asked_of_other(cluster: &Cluster, job: &Job, name: &Text) -> Asked
+    requires { text_eq name.now slots_name ≡ false }
     ensures amount { result.amount ≡ per_slot cluster.now job.now name.now }
     ensures once { result.once ≡ is_per_job cluster.now name.now }
 {
-    if is_slots(name) {
-        return ONE_SLOT;
-    }
     match complex_at(cluster, name) {
         Some(complex) => {
             let once = is_asked_once(complex.consumable);
@@ -66,4 +66,15 @@ pub(crate) fn asked_of(cluster: &Cluster, job: &Job, name: &Text) -> Asked
             once: false,
         },
     }
+}
+
+/// What a job asks of a name for one slot: one of slots.
+pub(crate) fn asked_of(cluster: &Cluster, job: &Job, name: &Text) -> Asked
+    ensures amount { result.amount ≡ per_slot cluster.now job.now name.now }
+    ensures once { result.once ≡ is_per_job cluster.now name.now }
+{
+    if is_slots(name) {
+        return ONE_SLOT;
+    }
+    asked_of_other(cluster, job, name)
 }

@@ -11,7 +11,7 @@ ghost use Rattle.ge_model_place.specs.Limits.{advance_capacity, configured_limit
 ghost use Rattle.ge_demands.specs.Counts.{all_counted, counted_as};
 ghost use Rattle.ge_demands.specs.Found.{AllRise, AreRising, AreRisingAt, AreRisingOn, HasAmount, HasOtherAmount, named_limits, with_host_value, with_instance_value, with_limit};
 
-use crate::asking::{Asked, ONE_SLOT, asked_of};
+use crate::asking::{Asked, ONE_SLOT, asked_of, asked_of_other};
 use crate::capacities::{in_advance, in_environment, is_slots};
 use crate::quotas::add_quotas;
 use ge_complex::amount_in;
@@ -76,7 +76,7 @@ fn add_of_instance(
     if is_slots(name) {
         return Ok(());
     }
-    let asked = asked_of(cluster, job, name);
+    let asked = asked_of_other(cluster, job, name);
     if asked.amount == 0 {
         return Ok(());
     }
