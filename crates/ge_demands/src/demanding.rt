@@ -28,7 +28,8 @@ fn amount_for(slots: u32, counted: &Counted) -> u128
     }
 }
 
-// The demand of slots on a limit.
+// The demand of slots on a limit, which is made where it is put.
+#[inline(always)]
 #[tactic(auto, using(crate::proofs::Demanded::demand_is))]
 fn demand_of(slots: u32, counted: Counted) -> Demand
     ensures { result ≡ demand_for slots (counted_as counted) }
