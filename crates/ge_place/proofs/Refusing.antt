@@ -1,13 +1,15 @@
 -- An instance that takes no slot takes none beside more.
 use Rattle.std.proofs.Common.{◌≡◌, ℕ, zero, suc, ◌+◌, ◌<◌, inl, inr, Bool, true, false, ◌&&◌, min, List, [], ◌∷◌, length, get_or, Some, None, option_map, refl, sym, subst, ap, ◌∙◌, arith}
 use Rattle.std.specs.List.{list_all, position}
-use Rattle.std.proofs.lemmas.Bool.{cases_Bool, cases_eq, and_parts, and_from, leb-true, le-leb, false_from_ne_true, true≢false}
+use Rattle.std.proofs.lemmas.Bool.{cases_Bool, cases_eq, cases_lt, and_parts, and_from, leb-true, le-leb, false_from_ne_true, true≢false}
+use Rattle.std.proofs.lemmas.List.{get_or_default}
 use Rattle.ge_model_rows.specs.HostRows.{InstanceId}
 use Rattle.ge_model_rows.specs.ScheduleRows.{LimitId}
 use Rattle.ge_model_place.specs.Limits.{greatest_demand}
-use Rattle.ge_model_place.specs.Placement.{Room, Cell}
+use Rattle.ge_model_place.specs.Placement.{Room, Cell, everywhere}
 use Rattle.ge_place.specs.Sums.{sum_of_both, asked_with, has_room_for, takes_by, AsksMore}
 use Rattle.ge_place.proofs.Cells.{first_is, later_is}
+use Rattle.ge_place.proofs.Places.{next_place, first_apart, next_apart}
 
 -- the instances before a place take no slot
 abbrev pub AreRefused : (InstanceId → Bool) → List (LimitId × ℕ) → List (LimitId × ℕ) → List Cell → ℕ → Type 0
@@ -48,18 +50,32 @@ module _ (before since more : List (LimitId × ℕ)) (asked : List Room) (asks :
   pub refused_more : (here : InstanceId → Bool) (spots : List Cell) (place : ℕ) → AreRefused here before since spots place → AreRefused here before more spots place
   refused_more here spots place refused k d less = still_refused here (get_or spots k d) (refused k d less)
 
-pub refused_next : (here : InstanceId → Bool) (before since : List (LimitId × ℕ)) (spots : List Cell) (place : ℕ) (spot : Cell) → place < length spots → spot ≡ get_or spots place spot → takes_by here before since spot ≡ false
-    → AreRefused here before since spots place → AreRefused here before since spots (place + 1)
-refused_next here before since spots place spot inside is fails refused k d less =
-    elim (cases_eq k place) [
-      | inl same ↦ subst (λ n. takes_by here before since (get_or spots n d) ≡ false) (sym same) (subst (λ (x : Cell). takes_by here before since x ≡ false) (is ∙ any_default spots place spot d inside) fails)
-      | inr other ↦ refused k d (omega (arith, less, other))
+-- an instance that is one of these takes a slot where any takes it
+pub one_of_these : (here : InstanceId → Bool) (before since : List (LimitId × ℕ)) (spot : Cell) → here spot.at ≡ true → takes_by here before since spot ≡ takes_by everywhere before since spot
+one_of_these here before since spot this = ap (λ b. b && (spot.opened && list_all (has_room_for before since) spot.rooms)) this
+
+-- an instance that is none of these takes no slot
+none_of_these : (here : InstanceId → Bool) (before since : List (LimitId × ℕ)) (spot : Cell) → here spot.at ≡ false → takes_by here before since spot ≡ false
+none_of_these here before since spot other = ap (λ b. b && (spot.opened && list_all (has_room_for before since) spot.rooms)) other
+
+pub refused_first : (here : InstanceId → Bool) (before since : List (LimitId × ℕ)) (spots : List Cell) → AreRefused here before since spots (next_place here spots 0)
+refused_first here before since spots k d less = none_of_these here before since (get_or spots k d) (first_apart here spots k d less)
+
+-- from one place to the next
+pub refused_next : (here : InstanceId → Bool) (before since : List (LimitId × ℕ)) (spots : List Cell) (index place : ℕ) (spot : Cell) → place ≡ next_place here spots index → place < length spots → spot ≡ get_or spots place spot
+    → takes_by here before since spot ≡ false → AreRefused here before since spots place → AreRefused here before since spots (next_place here spots (index + 1))
+refused_next here before since spots index place spot at inside is fails refused k d less =
+    elim (cases_lt k place) [
+      | inl earlier ↦ refused k d earlier
+      | inr reached ↦
+          elim (cases_eq k place) [
+            | inl same ↦ subst (λ n. takes_by here before since (get_or spots n d) ≡ false) (sym same) (subst (λ (x : Cell). takes_by here before since x ≡ false) (is ∙ get_or_default spots place spot d inside) fails)
+            | inr other ↦
+                let next : index + 1 ≡ suc index = omega arith in
+                let behind : k < next_place here spots (suc index) = subst (λ n. k < next_place here spots n) next less in
+                none_of_these here before since (get_or spots k d) (next_apart here spots index k d (omega (arith, at, reached, other)) behind)
+          ]
     ]
-  where
-    any_default : (xs : List Cell) (n : ℕ) (a b : Cell) → n < length xs → get_or xs n a ≡ get_or xs n b
-    any_default [] n a b h = absurd (omega (arith, h))
-    any_default (x ∷ xs) zero a b h = refl
-    any_default (x ∷ xs) (suc n) a b h = any_default xs n a b (omega (arith, h))
 
 -- the first instance that takes a slot is the one at a place before which none does
 

@@ -1,6 +1,5 @@
 -- Slots that are given one after the other, and by the rules of PEs.
 use Rattle.std.proofs.Common.{◌≡◌, ℕ, zero, suc, ◌+◌, ◌-◌, ◌≤◌, ◌<◌, ◌==◌, inl, inr, Bool, true, false, List, [], ◌∷◌, ◌++◌, fold, take, drop, length, get_or, Option, Some, None, option_map, refl, sym, ap, ◌∙◌, arith}
-use Rattle.std.specs.Borrow.{Bor}
 use Rattle.std.specs.List.{position}
 use Rattle.std.specs.Prelude.{nat_le, unwrap_or}
 use Rattle.std.proofs.lemmas.Bool.{cond-true, cond-false, cases_eq, lt-ltb, le-ltb, le-leb, lt-leb, eq-eqb, ne_eqb, and_left, and_right, and_from}
@@ -11,7 +10,8 @@ use Rattle.ge_model_rows.specs.HostRows.{InstanceId}
 use Rattle.ge_model_rows.specs.ScheduleRows.{LimitId}
 use Rattle.ge_model_place.specs.Placement.{Cell, next_slot, filled, slots_given, is_on, fuller, with_block, with_turn, with_round, with_rounds}
 use Rattle.ge_model_place.proofs.Greatest.{gives_one}
-use Rattle.ge_place.specs.Spots.{cells_with, one_more_at, lent}
+use Rattle.ge_place.specs.declared.spots.HostSpots.{HostSpots}
+use Rattle.ge_place.specs.Spots.{cells_with, one_more_at, names_of}
 use Rattle.ge_place.specs.Sums.{AreTold, takes_by}
 use Rattle.ge_place.proofs.Cells.{slot_is, given_more}
 use Rattle.ge_place.proofs.Summing.{takes_is}
@@ -73,13 +73,13 @@ module _ (here : InstanceId → Bool) (most given : ℕ) (spots : List Cell) (ol
 
 -- host by host
 
-pub fold_lent : {B : Type 0} (f : B → List ℕ → B) (a : B) (hosts : List (Bor (List ℕ))) (i : ℕ) (host : Bor (List ℕ)) → i < length hosts → host ≡ get_or hosts i host
-    → fold f a (lent (take (i + 1) hosts)) ≡ f (fold f a (lent (take i hosts))) host.now
-fold_lent f a hosts i host less is =
+pub fold_hosts : {B : Type 0} (f : B → List ℕ → B) (a : B) (hosts : List HostSpots) (i : ℕ) (host : HostSpots) → i < length hosts → host ≡ get_or hosts i host
+    → fold f a (names_of (take (i + 1) hosts)) ≡ f (fold f a (names_of (take i hosts))) host.host.now
+fold_hosts f a hosts i host less is =
     let more : take (i + 1) hosts ≡ take i hosts ++ host ∷ [] = take_more hosts i host less ∙ ap (λ x. take i hosts ++ x ∷ []) (sym is) in
-    ap (λ xs. fold f a (lent xs)) more
-    ∙ ap (λ xs. fold f a xs) (map-append (λ (x : Bor (List ℕ)). x.now) (take i hosts) (host ∷ []))
-    ∙ fold-append f a (lent (take i hosts)) (host.now ∷ [])
+    ap (λ xs. fold f a (names_of xs)) more
+    ∙ ap (λ xs. fold f a xs) (map-append (λ (x : HostSpots). x.host.now) (take i hosts) (host ∷ []))
+    ∙ fold-append f a (names_of (take i hosts)) (host.host.now ∷ [])
 
 -- $pe_slots
 
@@ -112,24 +112,24 @@ full_stays high n start best (host ∷ hosts) none count full =
     let stays : fuller best (filled (is_on host) high start) ≡ best = cond-false _ _ _ (le-ltb (slots_given best) (slots_given (filled (is_on host) high start)) (omega (arith, most, none, count, full))) in
     ap (λ b. fold (λ best host. fuller best (filled (is_on host) high start)) b hosts) stays ∙ full_stays high n start best hosts none count full
 
-pub best_full : (high n : ℕ) (start best : List Cell) (hosts : List (Bor (List ℕ))) (i : ℕ) → slots_given start ≡ 0 → slots_given best ≡ n → high ≤ n
-    → best ≡ fold (λ best host. fuller best (filled (is_on host) high start)) start (lent (take i hosts))
-    → best ≡ fold (λ best host. fuller best (filled (is_on host) high start)) start (lent hosts)
+pub best_full : (high n : ℕ) (start best : List Cell) (hosts : List HostSpots) (i : ℕ) → slots_given start ≡ 0 → slots_given best ≡ n → high ≤ n
+    → best ≡ fold (λ best host. fuller best (filled (is_on host) high start)) start (names_of (take i hosts))
+    → best ≡ fold (λ best host. fuller best (filled (is_on host) high start)) start (names_of hosts)
 best_full high n start best hosts i none count full so_far =
     let step : List Cell → List ℕ → List Cell = λ best host. fuller best (filled (is_on host) high start) in
-    let both : lent hosts ≡ lent (take i hosts) ++ lent (drop i hosts) = ap lent (sym (take-append-drop i hosts)) ∙ map-append (λ (x : Bor (List ℕ)). x.now) (take i hosts) (drop i hosts) in
+    let both : names_of hosts ≡ names_of (take i hosts) ++ names_of (drop i hosts) = ap names_of (sym (take-append-drop i hosts)) ∙ map-append (λ (x : HostSpots). x.host.now) (take i hosts) (drop i hosts) in
     sym (ap (λ hs. fold step start hs) both
-    ∙ fold-append step start (lent (take i hosts)) (lent (drop i hosts))
-    ∙ ap (λ b. fold step b (lent (drop i hosts))) (sym so_far)
-    ∙ full_stays high n start best (lent (drop i hosts)) none count full)
+    ∙ fold-append step start (names_of (take i hosts)) (names_of (drop i hosts))
+    ∙ ap (λ b. fold step b (names_of (drop i hosts))) (sym so_far)
+    ∙ full_stays high n start best (names_of (drop i hosts)) none count full)
 
 -- the best of the hosts so far and one more
-pub best_next : (high : ℕ) (start best : List Cell) (hosts : List (Bor (List ℕ))) (i : ℕ) (host : Bor (List ℕ)) → i < length hosts → host ≡ get_or hosts i host
-    → best ≡ fold (λ best host. fuller best (filled (is_on host) high start)) start (lent (take i hosts))
-    → fold (λ best host. fuller best (filled (is_on host) high start)) start (lent (take (i + 1) hosts)) ≡ fuller best (filled (is_on host.now) high start)
+pub best_next : (high : ℕ) (start best : List Cell) (hosts : List HostSpots) (i : ℕ) (host : HostSpots) → i < length hosts → host ≡ get_or hosts i host
+    → best ≡ fold (λ best host. fuller best (filled (is_on host) high start)) start (names_of (take i hosts))
+    → fold (λ best host. fuller best (filled (is_on host) high start)) start (names_of (take (i + 1) hosts)) ≡ fuller best (filled (is_on host.host.now) high start)
 best_next high start best hosts i host less is so_far =
     let step : List Cell → List ℕ → List Cell = λ best host. fuller best (filled (is_on host) high start) in
-    fold_lent step start hosts i host less is ∙ ap (λ b. step b host.now) (sym so_far)
+    fold_hosts step start hosts i host less is ∙ ap (λ b. step b host.host.now) (sym so_far)
 
 -- a number
 

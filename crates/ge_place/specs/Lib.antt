@@ -1,4 +1,5 @@
 pub mod Giving
+pub mod Hosts
 pub mod Shared
 pub mod Singles
 pub mod Spots

@@ -1,12 +1,13 @@
 -- Instances while slots are given, as the model has them.
-use Rattle.std.specs.Prelude.{◌≡◌, ℕ, ◌+◌, Bool, true, false, ◌&&◌, List, [], ◌∷◌, map, replicate, length, slice_set, slice_index}
-use Rattle.std.specs.Borrow.{Bor}
+use Rattle.std.specs.Prelude.{◌≡◌, ℕ, suc, ◌+◌, Bool, true, false, ◌&&◌, if◌then◌else◌, List, [], ◌∷◌, map, replicate, length, slice_set, slice_index}
+use Rattle.std.specs.List.{All}
 use Rattle.ge_model_rows.specs.HostRows.{InstanceId}
 use Rattle.ge_model_value.specs.Pieces.{each_once}
 use Rattle.ge_model_place.specs.Limits.{counted_at}
 use Rattle.ge_model_place.specs.Opening.{is_open}
 use Rattle.ge_model_place.specs.Placement.{Room, Cell, rooms_in, everywhere, is_on}
 use Rattle.ge_place.specs.declared.spots.Bound.{Bound}
+use Rattle.ge_place.specs.declared.spots.HostSpots.{HostSpots}
 use Rattle.ge_place.specs.declared.spots.Search.{Search}
 use Rattle.ge_place.specs.declared.spots.Sight.{Sight}
 use Rattle.ge_place.specs.declared.spots.Sight.TheVariants.{Closed, Open}
@@ -40,10 +41,6 @@ no_slots_at spots = replicate (length spots) 0
 abbrev pub one_more_at : List ℕ → ℕ → List ℕ
 one_more_at slots place = slice_set slots place (slice_index slots place + 1)
 
--- the names that are lent
-abbrev pub lent : List (Bor (List ℕ)) → List (List ℕ)
-lent names = map (λ name. name.now) names
-
 abbrev pub host_of : Cell → List ℕ
 host_of spot = spot.at.host
 
@@ -71,4 +68,24 @@ IsSeen spot (Open bounds) = (spot.opened ≡ true) × (rooms_as bounds.items ≡
 -- the instances that a site names
 abbrev pub is_in : Site → InstanceId → Bool
 is_in Everywhere = everywhere
-is_in (Host host) = is_on host.now
+is_in (Host host) = is_on host.now.host.now
+
+-- the places of these instances, rising
+abbrev pub places_of : (InstanceId → Bool) → List Cell → List ℕ
+places_of here [] = []
+places_of here (spot ∷ spots) = if here spot.at then 0 ∷ map (λ k. suc k) (places_of here spots) else map (λ k. suc k) (places_of here spots)
+
+abbrev pub names_of : List HostSpots → List (List ℕ)
+names_of hosts = map (λ (host : HostSpots). host.host.now) hosts
+
+-- a host has the places of its instances
+abbrev pub IsOn : List Cell → HostSpots → Type 0
+IsOn spots host = host.places.items ≡ places_of (is_on host.host.now) spots
+
+abbrev pub AreOn : List Cell → List HostSpots → Type 0
+AreOn spots hosts = All (λ (host : HostSpots). IsOn spots host) hosts
+
+-- a site has the places of its instances
+abbrev pub IsSited : Site → List Cell → Type 0
+IsSited Everywhere spots = Unit {0}
+IsSited (Host host) spots = IsOn spots host.now

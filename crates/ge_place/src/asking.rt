@@ -2,11 +2,12 @@
 ghost use Rattle.std.specs.Prelude.{◌≡◌, ◌+◌, min, nat_le, true, false, IfOk, OnOk};
 ghost use Rattle.std.specs.List.{list_all};
 ghost use Rattle.ge_model_place.specs.Limits.{greatest_demand};
-ghost use Rattle.ge_place.specs.Spots.{room_as, rooms_as, is_in};
+ghost use Rattle.ge_model_place.specs.Placement.{everywhere};
+ghost use Rattle.ge_place.specs.Spots.{room_as, rooms_as};
 ghost use Rattle.ge_place.specs.Sums.{asked_with as asked_with_one, has_room_for, takes_by, takes_seen, rooms_seen, AsksMore};
 
 use crate::seeing::Spot;
-use crate::spots::{Bound, Sight, Site, has_instance};
+use crate::spots::{Bound, Sight};
 use crate::sums::Sums;
 use std::alloc::{AllocError, Global};
 
@@ -72,23 +73,20 @@ fn takes_there(sight: &Sight, before: &Sums, since: &mut Sums) -> Result<bool, A
     }
 }
 
-/// Whether an instance is one of a site's and takes one more slot. What it asks is added then.
+/// Whether an instance takes one more slot. What it asks is added then.
 pub(crate) fn takes(
     alloc: Global,
-    site: Site<'_>,
     before: &Sums,
     since: &mut Sums,
     spot: &mut Spot<'_>,
 ) -> Result<bool, AllocError>
     ensures same { OnOk result (spot.new ≡ spot.old) }
     ensures takes { IfOk result (λ takes. takes
-        ≡ takes_by (is_in site.entry) before.now since.old spot.old) }
-    ensures asks { IfOk result (λ takes. takes ≡ true → AsksMore spot.old.rooms since.old since.new) }
+        ≡ takes_by everywhere before.now since.old spot.old) }
+    ensures asks { IfOk result (λ takes. takes ≡ true
+        → AsksMore spot.old.rooms since.old since.new) }
     ensures none { IfOk result (λ takes. takes ≡ false → since.new ≡ since.old) }
 {
-    if !has_instance(site, spot.instance()) {
-        return Ok(false);
-    }
     let sight = spot.sight(alloc)?;
     let taken = takes_there(&sight, before, since)?;
     spot.keep(sight);

@@ -1,12 +1,13 @@
 //! Slots are given one after the other, each at the first instance that takes it.
-ghost use Rattle.std.specs.Prelude.{◌≡◌, ◌+◌, ◌<◌, ◌≤◌, length, slice_index_or, IfOk, OnOk};
+ghost use Rattle.std.specs.Prelude.{◌≡◌, ◌+◌, ◌<◌, ◌≤◌, ◌&&◌, nat_lt, length, slice_index_or, IfOk, OnOk};
+ghost use Rattle.std.specs.List.{slice_get};
 ghost use Rattle.ge_model_place.specs.Placement.{filled, slots_given};
-ghost use Rattle.ge_place.specs.Spots.{cells_with, one_more_at, is_in};
+ghost use Rattle.ge_place.specs.Spots.{cells_with, one_more_at, is_in, places_of, IsSited};
 ghost use Rattle.ge_place.specs.Sums.{AreTold};
 
 use crate::asking::takes;
 use crate::seeing::Spot;
-use crate::spots::Site;
+use crate::spots::{HostSpots, Site};
 use crate::sums::Sums;
 use ge_rows::List;
 use std::alloc::{AllocError, Global};
@@ -25,6 +26,23 @@ fn give(slots: &mut List<u32>, place: usize) -> Result<(), AllocError>
     }
 }
 
+fn place_on(host: &HostSpots<'_>, index: usize) -> Option<usize>
+    ensures { result ≡ slice_get host.now.places.items index }
+{
+    host.places.get(index).copied()
+}
+
+// The place of the instance of a site that has so many of the site's before it.
+fn place_at(site: Site<'_>, spots: &[Spot<'_>], index: usize) -> Option<usize>
+    requires { IsSited site spots.now }
+    ensures { result ≡ slice_get (places_of (is_in site.entry) spots.now) index }
+{
+    match site {
+        Site::Everywhere => (index < spots.len()).then_some(index),
+        Site::Host(host) => place_on(host, index),
+    }
+}
+
 /// So many more slots at the instances of a site, or as many as they take, and how many that are. What the slots before ask
 /// stands in two sums, of which the second gets what is asked now. An instance that takes no slot takes none beside more, so
 /// none is looked at again, and none behind the one that gets the last slot.
@@ -37,6 +55,7 @@ pub(crate) fn fill(
     before: &Sums,
     since: &mut Sums,
 ) -> Result<u32, AllocError>
+    requires sited { IsSited site spots.old.items }
     requires long { length slots.old ≡ length spots.old.items }
     requires told { AreTold before.now since.old (cells_with spots.old.items slots.old) }
     ensures same { OnOk result (spots.new.items ≡ spots.old.items) }
@@ -51,17 +70,17 @@ pub(crate) fn fill(
         (cells_with spots.old.items slots.new)) }
 {
     let mut given = 0;
-    let mut place = 0;
-    while place < spots.len() {
-        if given == most {
+    let mut index = 0;
+    while given < most {
+        let Some(place) = place_at(site, spots.as_slice(), index) else {
             return Ok(given);
-        }
-        let taken = takes(alloc, site, before, since, &mut spots[place])?;
+        };
+        let taken = takes(alloc, before, since, &mut spots[place])?;
         if taken {
             give(slots, place)?;
             given += 1;
         } else {
-            place += 1;
+            index += 1;
         }
     }
     Ok(given)

@@ -2,13 +2,13 @@
 ghost use Rattle.std.specs.Prelude.{◌≡◌, ℕ, ◌+◌, ◌^◌, ◌<◌, ◌≤◌, ◌==◌, IfOk, OnOk};
 ghost use Rattle.ge_model_place.specs.Placement.{filled, is_on, slots_given};
 ghost use Rattle.ge_place.specs.Giving.{IsGiven};
-ghost use Rattle.ge_place.specs.Spots.{cells_with, no_slots_at, is_in};
+ghost use Rattle.ge_place.specs.Spots.{cells_with, no_slots_at, is_in, IsOn, IsSited};
 
 use crate::filling::fill;
 use crate::seeing::Spot;
-use crate::spots::Site;
+use crate::spots::{HostSpots, Site};
 use crate::sums::Sums;
-use ge_rows::{List, Text, Twin};
+use ge_rows::{List, Twin};
 use std::alloc::{AllocError, Global};
 
 /// The slots that were given so far.
@@ -51,6 +51,7 @@ pub(crate) fn give_more(
     most: u32,
     given: &mut Given,
 ) -> Result<(), AllocError>
+    requires sited { IsSited site spots.old.items }
     requires kept { IsGiven spots.old.items given.old }
     requires fits { given.old.count + most < 2 ^ 32 }
     ensures same_spots { OnOk result (spots.new.items ≡ spots.old.items) }
@@ -73,14 +74,16 @@ pub(crate) fn give_more(
 pub(crate) fn takes_block(
     alloc: Global,
     spots: &mut Vec<Spot<'_>>,
-    host: &Text,
+    host: &HostSpots<'_>,
     size: u32,
     given: &Given,
 ) -> Result<bool, AllocError>
-    requires { IsGiven spots.old.items given.now }
+    requires on { IsOn spots.old.items host.now }
+    requires kept { IsGiven spots.old.items given.now }
     ensures same_spots { OnOk result (spots.new.items ≡ spots.old.items) }
     ensures takes { IfOk result (λ takes. takes
-        ≡ (slots_given (filled (is_on host.now) size (cells_with spots.old.items given.now.slots))
+        ≡ (slots_given (filled (is_on host.now.host.now) size
+        (cells_with spots.old.items given.now.slots))
         == slots_given (cells_with spots.old.items given.now.slots) + size)) }
 {
     let mut slots = given.slots.twin(alloc)?;

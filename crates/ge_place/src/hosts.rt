@@ -1,41 +1,96 @@
 //! The hosts of instances.
-ghost use Rattle.std.specs.Prelude.{◌≡◌, IfOk, OnOk};
-ghost use Rattle.ge_model_value.specs.Pieces.{is_one_of, with_text};
-ghost use Rattle.ge_place.specs.Spots.{lent, hosts_among};
+ghost use Rattle.std.specs.Prelude.{◌≡◌, ℕ, List, ◌+◌, ◌<◌, ◌++◌, [], ◌∷◌, Some, cond, length, take, IfOk, OnOk};
+ghost use Rattle.std.specs.BTreeMap.{is_at};
+ghost use Rattle.ge_collections.specs.Keyed.{text_cmp};
+ghost use Rattle.ge_place.specs.Hosts.{number_in, AreFound};
+ghost use Rattle.ge_place.specs.Spots.{hosts_among, names_of, AreOn};
 
 use crate::seeing::Spot;
-use ge_pieces::is_same;
+use crate::spots::HostSpots;
 use ge_rows::Text;
 use std::alloc::{AllocError, Global};
+use std::collections::BTreeMap;
 
-fn is_listed(hosts: &[&Text], host: &Text) -> bool
-    ensures { result ≡ is_one_of host.now (lent hosts.now) }
+/// The number of each host that was found.
+type Numbers<'a> = BTreeMap<&'a Text, usize>;
+
+fn number_of<'a>(numbers: &Numbers<'a>, host: &'a Text) -> Option<usize>
+    ensures { result ≡ number_in numbers.now.entries host.now }
 {
-    for other in hosts {
-        if is_same(host, other) {
-            return true;
-        }
-    }
-    false
+    numbers.get(&host).copied()
 }
 
-fn add_host<'a>(hosts: &mut Vec<&'a Text>, host: &'a Text) -> Result<(), AllocError>
-    ensures { OnOk result (lent hosts.new.items ≡ with_text (lent hosts.old.items) host.now) }
+fn put_number<'a>(
+    numbers: &mut Numbers<'a>,
+    host: &'a Text,
+    number: usize,
+) -> Result<(), AllocError>
+    ensures { OnOk result ((name : List ℕ) → number_in numbers.new.entries name
+        ≡ cond (is_at (text_cmp host.now) name) (Some number)
+        (number_in numbers.old.entries name)) }
 {
-    if is_listed(hosts.as_slice(), host) {
-        return Ok(());
-    }
-    hosts.push(host)?;
+    numbers.insert(host, number)?;
     Ok(())
 }
 
-/// The hosts in the order of their first instance.
-pub(crate) fn hosts_of<'a>(alloc: Global, spots: &[Spot<'a>]) -> Result<Vec<&'a Text>, AllocError>
-    ensures { IfOk result (λ hosts. lent hosts.items ≡ hosts_among spots.now) }
+fn new_host<'a>(alloc: Global, host: &'a Text, place: usize) -> Result<HostSpots<'a>, AllocError>
+    ensures host { IfOk result (λ found. found.host.now ≡ host.now) }
+    ensures places { IfOk result (λ found. found.places.items ≡ place ∷ []) }
+{
+    let mut places = Vec::new(alloc);
+    places.push(place)?;
+    Ok(HostSpots { host, places })
+}
+
+fn add_place(host: &mut HostSpots<'_>, place: usize) -> Result<(), AllocError>
+    ensures host { OnOk result (host.new.host.now ≡ host.old.host.now) }
+    ensures places { OnOk result (host.new.places.items ≡ host.old.places.items ++ place ∷ []) }
+{
+    host.places.push(place)?;
+    Ok(())
+}
+
+// The instance at a place is added to its host, a new one where no instance before it is there.
+fn add_spot<'a>(
+    alloc: Global,
+    hosts: &mut Vec<HostSpots<'a>>,
+    numbers: &mut Numbers<'a>,
+    spots: &[Spot<'a>],
+    place: usize,
+) -> Result<(), AllocError>
+    requires inside { place < length spots.now }
+    requires found { AreFound (take place spots.now) hosts.old.items numbers.old.entries }
+    ensures { OnOk result
+        (AreFound (take (place + 1) spots.now) hosts.new.items numbers.new.entries) }
+{
+    let host = &spots[place].instance().host;
+    match number_of(numbers, host) {
+        Some(number) => {
+            add_place(&mut hosts[number], place)?;
+            Ok(())
+        }
+        None => {
+            put_number(numbers, host, hosts.len())?;
+            let found = new_host(alloc, host, place)?;
+            hosts.push(found)?;
+            Ok(())
+        }
+    }
+}
+
+/// The hosts in the order of their first instance. An instance isn't compared with each host before it, since there may be as
+/// many hosts as instances.
+pub(crate) fn hosts_of<'a>(
+    alloc: Global,
+    spots: &[Spot<'a>],
+) -> Result<Vec<HostSpots<'a>>, AllocError>
+    ensures hosts { IfOk result (λ hosts. names_of hosts.items ≡ hosts_among spots.now) }
+    ensures places { IfOk result (λ hosts. AreOn spots.now hosts.items) }
 {
     let mut hosts = Vec::new(alloc);
-    for spot in spots {
-        add_host(&mut hosts, &spot.instance().host)?;
+    let mut numbers = BTreeMap::new(alloc);
+    for place in 0..spots.len() {
+        add_spot(alloc, &mut hosts, &mut numbers, spots, place)?;
     }
     Ok(hosts)
 }

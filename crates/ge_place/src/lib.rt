@@ -7,7 +7,8 @@
 //!
 //! A job without a parallel environment gets the first instance that takes a slot, and no other is looked at behind it. For one
 //! with an environment slots are given by the rule, and what those given so far ask of each limit is kept beside them. Each
-//! instance is looked at once, where a slot may be given there, and not where all slots are given before.
+//! instance is looked at once, where a slot may be given there, and not where all slots are given before. Where slots are given
+//! host by host, only the instances on a host are gone through for it.
 #![tactic(auto)]
 
 mod asking;

@@ -3,9 +3,8 @@ ghost use Rattle.std.specs.Prelude.{◌≡◌, ◌<◌, map, IfOk};
 ghost use Rattle.ge_model_bookings.specs.Bookings.{peak};
 ghost use Rattle.ge_model_place.specs.Placement.{room_of};
 ghost use Rattle.ge_demands.specs.Counts.{counted_as, all_counted};
-ghost use Rattle.ge_place.specs.Spots.{room_as, rooms_as, is_free_at, rooms_at, cell_in, is_in, IsSeen};
+ghost use Rattle.ge_place.specs.Spots.{room_as, rooms_as, is_free_at, rooms_at, cell_in, IsSeen};
 
-use ge_bookings::is_same_name;
 use ge_demands::{Counted, counted_limits};
 use ge_opening::is_open;
 use ge_rows::{Cluster, Groups, InstanceId, Job, LimitId, Text};
@@ -57,23 +56,22 @@ pub(crate) enum Sight {
     Open(Vec<Bound>),
 }
 
+/// A host with the places of its instances among all, rising.
+#[derive(Drop)]
+pub(crate) struct HostSpots<'a> {
+    /// The host.
+    pub(crate) host: &'a Text,
+    /// The places, so that no instance on another host is looked at.
+    pub(crate) places: Vec<usize>,
+}
+
 /// Which instances are meant.
 #[derive(Clone, Copy)]
 pub(crate) enum Site<'a> {
     /// All of them.
     Everywhere,
     /// Those on a host.
-    Host(&'a Text),
-}
-
-/// Whether a site has an instance.
-pub(crate) fn has_instance(site: Site<'_>, at: &InstanceId) -> bool
-    ensures { result ≡ is_in site.entry at.now }
-{
-    match site {
-        Site::Everywhere => true,
-        Site::Host(host) => is_same_name(&at.host, host),
-    }
+    Host(&'a HostSpots<'a>),
 }
 
 /// Whether a task may start at an instance at all.

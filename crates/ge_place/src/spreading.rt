@@ -2,13 +2,13 @@
 ghost use Rattle.std.specs.Prelude.{◌≡◌, ◌≤◌, length, fold, IfOk, OnOk};
 ghost use Rattle.ge_model_place.specs.Placement as placed;
 ghost use Rattle.ge_place.specs.Giving.{IsGiven};
-ghost use Rattle.ge_place.specs.Spots.{cells_with, no_slots_at, is_in, lent};
+ghost use Rattle.ge_place.specs.Spots.{cells_with, no_slots_at, is_in, names_of, IsOn, AreOn, IsSited};
 
 use crate::giving::{Given, give_more, nothing_given, takes_block};
 use crate::hosts::hosts_of;
 use crate::seeing::Spot;
-use crate::spots::Site;
-use ge_rows::{Allocation, List, Text};
+use crate::spots::{HostSpots, Site};
+use ge_rows::{Allocation, List};
 use std::alloc::{AllocError, Global};
 
 // So many slots at the instances of a site alone, or as many as they take.
@@ -18,6 +18,7 @@ fn given_at(
     site: Site<'_>,
     most: u32,
 ) -> Result<Given, AllocError>
+    requires { IsSited site spots.old.items }
     ensures same_spots { OnOk result (spots.new.items ≡ spots.old.items) }
     ensures cells { IfOk result (λ given. cells_with spots.old.items given.slots
         ≡ placed.filled (is_in site.entry) most
@@ -33,12 +34,13 @@ fn given_at(
 fn given_on(
     alloc: Global,
     spots: &mut Vec<Spot<'_>>,
-    host: &Text,
+    host: &HostSpots<'_>,
     most: u32,
 ) -> Result<Given, AllocError>
+    requires { IsOn spots.old.items host.now }
     ensures same_spots { OnOk result (spots.new.items ≡ spots.old.items) }
     ensures cells { IfOk result (λ given. cells_with spots.old.items given.slots
-        ≡ placed.filled (placed.is_on host.now) most
+        ≡ placed.filled (placed.is_on host.now.host.now) most
         (cells_with spots.old.items (no_slots_at spots.old.items))) }
     ensures kept { IfOk result (λ given. IsGiven spots.old.items given) }
 {
@@ -50,15 +52,16 @@ fn given_on(
 fn on_one_host(
     alloc: Global,
     spots: &mut Vec<Spot<'_>>,
-    hosts: &[&Text],
+    hosts: &[HostSpots<'_>],
     high: u32,
 ) -> Result<Given, AllocError>
+    requires { AreOn spots.old.items hosts.now }
     ensures same_spots { OnOk result (spots.new.items ≡ spots.old.items) }
     ensures cells { IfOk result (λ given. cells_with spots.old.items given.slots
         ≡ fold (λ best host. placed.fuller best
         (placed.filled (placed.is_on host) high
         (cells_with spots.old.items (no_slots_at spots.old.items))))
-        (cells_with spots.old.items (no_slots_at spots.old.items)) (lent hosts.now)) }
+        (cells_with spots.old.items (no_slots_at spots.old.items)) (names_of hosts.now)) }
     ensures kept { IfOk result (λ given. IsGiven spots.old.items given) }
 {
     let mut best = nothing_given(alloc, spots.as_slice())?;
@@ -78,16 +81,17 @@ fn on_one_host(
 fn give_block(
     alloc: Global,
     spots: &mut Vec<Spot<'_>>,
-    host: &Text,
+    host: &HostSpots<'_>,
     size: u32,
     high: u32,
     given: &mut Given,
 ) -> Result<(), AllocError>
-    requires { IsGiven spots.old.items given.old }
+    requires on { IsOn spots.old.items host.now }
+    requires kept { IsGiven spots.old.items given.old }
     ensures same_spots { OnOk result (spots.new.items ≡ spots.old.items) }
     ensures cells { OnOk result (cells_with spots.old.items given.new.slots
         ≡ placed.with_block size high (cells_with spots.old.items given.old.slots)
-        (placed.filled (placed.is_on host.now) size
+        (placed.filled (placed.is_on host.now.host.now) size
         (cells_with spots.old.items given.old.slots))) }
     ensures kept { OnOk result (IsGiven spots.old.items given.new) }
 {
@@ -107,17 +111,18 @@ fn give_block(
 fn in_blocks(
     alloc: Global,
     spots: &mut Vec<Spot<'_>>,
-    hosts: &[&Text],
+    hosts: &[HostSpots<'_>],
     size: u32,
     high: u32,
     given: &mut Given,
 ) -> Result<(), AllocError>
-    requires { IsGiven spots.old.items given.old }
+    requires on { AreOn spots.old.items hosts.now }
+    requires kept { IsGiven spots.old.items given.old }
     ensures same_spots { OnOk result (spots.new.items ≡ spots.old.items) }
     ensures cells { OnOk result (cells_with spots.old.items given.new.slots
         ≡ fold (λ cells host. placed.with_block size high cells
         (placed.filled (placed.is_on host) size cells))
-        (cells_with spots.old.items given.old.slots) (lent hosts.now)) }
+        (cells_with spots.old.items given.old.slots) (names_of hosts.now)) }
     ensures kept { OnOk result (IsGiven spots.old.items given.new) }
 {
     for host in hosts {
@@ -130,14 +135,15 @@ fn in_blocks(
 fn give_turn(
     alloc: Global,
     spots: &mut Vec<Spot<'_>>,
-    host: &Text,
+    host: &HostSpots<'_>,
     high: u32,
     given: &mut Given,
 ) -> Result<(), AllocError>
-    requires { IsGiven spots.old.items given.old }
+    requires on { IsOn spots.old.items host.now }
+    requires kept { IsGiven spots.old.items given.old }
     ensures same_spots { OnOk result (spots.new.items ≡ spots.old.items) }
     ensures cells { OnOk result (cells_with spots.old.items given.new.slots
-        ≡ placed.with_turn high (cells_with spots.old.items given.old.slots) host.now) }
+        ≡ placed.with_turn high (cells_with spots.old.items given.old.slots) host.now.host.now) }
     ensures kept { OnOk result (IsGiven spots.old.items given.new) }
     ensures grown { OnOk result (given.old.count ≤ given.new.count) }
     ensures same { OnOk result
@@ -153,14 +159,16 @@ fn give_turn(
 fn give_round(
     alloc: Global,
     spots: &mut Vec<Spot<'_>>,
-    hosts: &[&Text],
+    hosts: &[HostSpots<'_>],
     high: u32,
     given: &mut Given,
 ) -> Result<(), AllocError>
-    requires { IsGiven spots.old.items given.old }
+    requires on { AreOn spots.old.items hosts.now }
+    requires kept { IsGiven spots.old.items given.old }
     ensures same_spots { OnOk result (spots.new.items ≡ spots.old.items) }
     ensures cells { OnOk result (cells_with spots.old.items given.new.slots
-        ≡ placed.with_round high (lent hosts.now) (cells_with spots.old.items given.old.slots)) }
+        ≡ placed.with_round high (names_of hosts.now)
+        (cells_with spots.old.items given.old.slots)) }
     ensures kept { OnOk result (IsGiven spots.old.items given.new) }
     ensures same { OnOk result
         (given.new.count ≡ given.old.count → given.new.slots ≡ given.old.slots) }
@@ -175,14 +183,16 @@ fn give_round(
 fn in_rounds(
     alloc: Global,
     spots: &mut Vec<Spot<'_>>,
-    hosts: &[&Text],
+    hosts: &[HostSpots<'_>],
     high: u32,
     given: &mut Given,
 ) -> Result<(), AllocError>
-    requires { IsGiven spots.old.items given.old }
+    requires on { AreOn spots.old.items hosts.now }
+    requires kept { IsGiven spots.old.items given.old }
     ensures same_spots { OnOk result (spots.new.items ≡ spots.old.items) }
     ensures cells { OnOk result (cells_with spots.old.items given.new.slots
-        ≡ placed.with_rounds high high (lent hosts.now) (cells_with spots.old.items given.old.slots)) }
+        ≡ placed.with_rounds high high (names_of hosts.now)
+        (cells_with spots.old.items given.old.slots)) }
     ensures kept { OnOk result (IsGiven spots.old.items given.new) }
 {
     let mut rounds = high;

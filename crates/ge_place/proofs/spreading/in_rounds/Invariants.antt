@@ -1,12 +1,12 @@
 use Rattle.std.proofs.Common.{◌≡◌}
 use Rattle.ge_model_place.specs.Placement.{with_rounds}
 use Rattle.ge_place.specs.Giving.{IsGiven}
-use Rattle.ge_place.specs.Spots.{cells_with, lent}
+use Rattle.ge_place.specs.Spots.{cells_with, names_of}
 use Rattle.ge_place.proofs.spreading.in_rounds.Given as goal
 
 abbrev pub invariant-loop-rounds : goal.invariant-loop-rounds
 invariant-loop-rounds l =
-    (with_rounds l.rounds l.high (lent l.hosts) (cells_with l.fn.spots.items l.given.slots) ≡ with_rounds l.high l.high (lent l.hosts) (cells_with l.fn.spots.items l.fn.given.slots))
+    (with_rounds l.rounds l.high (names_of l.hosts) (cells_with l.fn.spots.items l.given.slots) ≡ with_rounds l.high l.high (names_of l.hosts) (cells_with l.fn.spots.items l.fn.given.slots))
     × IsGiven l.fn.spots.items l.given
     × (l.spots.items ≡ l.fn.spots.items)
 
