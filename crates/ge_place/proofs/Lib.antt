@@ -5,3 +5,4 @@ pub mod Places
 pub mod Refusing
 pub mod Spreads
 pub mod Summing
+pub mod Tries

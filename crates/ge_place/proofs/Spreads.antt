@@ -1,7 +1,8 @@
 -- Slots that are given one after the other, and by the rules of PEs.
-use Rattle.std.proofs.Common.{◌≡◌, ℕ, zero, suc, ◌+◌, ◌-◌, ◌≤◌, ◌<◌, ◌==◌, inl, inr, Bool, true, false, List, [], ◌∷◌, ◌++◌, fold, take, drop, length, get_or, Option, Some, None, option_map, refl, sym, ap, ◌∙◌, arith}
+use Rattle.std.proofs.Common.{◌≡◌, ℕ, zero, suc, ◌+◌, ◌-◌, ◌≤◌, ◌<◌, ◌==◌, inl, inr, Bool, true, false, List, [], ◌∷◌, ◌++◌, fold, take, drop, length, get_or, Option, Some, None, option_map, refl, sym, subst, ap, ◌∙◌, arith}
+use Rattle.std.specs.Borrow.{Bor}
 use Rattle.std.specs.List.{position}
-use Rattle.std.specs.Prelude.{nat_le, unwrap_or}
+use Rattle.std.specs.Prelude.{nat_le, unwrap_or, IfSome}
 use Rattle.std.proofs.lemmas.Bool.{cond-true, cond-false, cases_eq, lt-ltb, le-ltb, le-leb, lt-leb, eq-eqb, ne_eqb, and_left, and_right, and_from}
 use Rattle.std.proofs.lemmas.List.{take_more, take-append-drop, map-append}
 use Rattle.std.proofs.lemmas.List.Quantifiers.{position-Some}
@@ -11,7 +12,8 @@ use Rattle.ge_model_rows.specs.ScheduleRows.{LimitId}
 use Rattle.ge_model_place.specs.Placement.{Cell, next_slot, filled, slots_given, is_on, fuller, with_block, with_turn, with_round, with_rounds}
 use Rattle.ge_model_place.proofs.Greatest.{gives_one}
 use Rattle.ge_place.specs.declared.spots.HostSpots.{HostSpots}
-use Rattle.ge_place.specs.Spots.{cells_with, one_more_at, names_of}
+use Rattle.ge_place.specs.Spots.{cells_with, one_more_at, names_of, IsOn}
+use Rattle.ge_place.specs.Giving.{IsBest, filled_on}
 use Rattle.ge_place.specs.Sums.{AreTold, takes_by}
 use Rattle.ge_place.proofs.Cells.{slot_is, given_more}
 use Rattle.ge_place.proofs.Summing.{takes_is}
@@ -83,12 +85,6 @@ fold_hosts f a hosts i host less is =
 
 -- $pe_slots
 
-pub fuller_is : (best other : List Cell) (n m : ℕ) → slots_given best ≡ n → slots_given other ≡ m → n < m → fuller best other ≡ other
-fuller_is best other n m first second less = cond-true _ _ _ (lt-ltb (slots_given best) (slots_given other) (omega (arith, first, second, less)))
-
-pub fuller_not : (best other : List Cell) (n m : ℕ) → slots_given best ≡ n → slots_given other ≡ m → m ≤ n → fuller best other ≡ best
-fuller_not best other n m first second more = cond-false _ _ _ (le-ltb (slots_given best) (slots_given other) (omega (arith, first, second, more)))
-
 -- no host takes more than all
 
 filled_most : (here : InstanceId → Bool) (n : ℕ) (cells : List Cell) → slots_given (filled here n cells) ≤ slots_given cells + n
@@ -112,24 +108,57 @@ full_stays high n start best (host ∷ hosts) none count full =
     let stays : fuller best (filled (is_on host) high start) ≡ best = cond-false _ _ _ (le-ltb (slots_given best) (slots_given (filled (is_on host) high start)) (omega (arith, most, none, count, full))) in
     ap (λ b. fold (λ best host. fuller best (filled (is_on host) high start)) b hosts) stays ∙ full_stays high n start best hosts none count full
 
-pub best_full : (high n : ℕ) (start best : List Cell) (hosts : List HostSpots) (i : ℕ) → slots_given start ≡ 0 → slots_given best ≡ n → high ≤ n
-    → best ≡ fold (λ best host. fuller best (filled (is_on host) high start)) start (names_of (take i hosts))
-    → best ≡ fold (λ best host. fuller best (filled (is_on host) high start)) start (names_of hosts)
-best_full high n start best hosts i none count full so_far =
-    let step : List Cell → List ℕ → List Cell = λ best host. fuller best (filled (is_on host) high start) in
-    let both : names_of hosts ≡ names_of (take i hosts) ++ names_of (drop i hosts) = ap names_of (sym (take-append-drop i hosts)) ∙ map-append (λ (x : HostSpots). x.host.now) (take i hosts) (drop i hosts) in
-    sym (ap (λ hs. fold step start hs) both
-    ∙ fold-append step start (names_of (take i hosts)) (names_of (drop i hosts))
-    ∙ ap (λ b. fold step b (names_of (drop i hosts))) (sym so_far)
-    ∙ full_stays high n start best (names_of (drop i hosts)) none count full)
-
 -- the best of the hosts so far and one more
-pub best_next : (high : ℕ) (start best : List Cell) (hosts : List HostSpots) (i : ℕ) (host : HostSpots) → i < length hosts → host ≡ get_or hosts i host
-    → best ≡ fold (λ best host. fuller best (filled (is_on host) high start)) start (names_of (take i hosts))
-    → fold (λ best host. fuller best (filled (is_on host) high start)) start (names_of (take (i + 1) hosts)) ≡ fuller best (filled (is_on host.host.now) high start)
-best_next high start best hosts i host less is so_far =
-    let step : List Cell → List ℕ → List Cell = λ best host. fuller best (filled (is_on host) high start) in
-    fold_hosts step start hosts i host less is ∙ ap (λ b. step b host.host.now) (sym so_far)
+
+pub record IsBestWith (high : ℕ) (spots cells : List Cell) (hosts : List HostSpots) (best : Option (Bor HostSpots)) (most : ℕ) : Type 0 where
+  pub chosen : IsBest high spots cells hosts best
+  pub count : slots_given (filled_on high cells best) ≡ most
+
+pub best_none : (high : ℕ) (spots cells : List Cell) → slots_given cells ≡ 0 → IsBestWith high spots cells [] None 0
+best_none high spots cells none = record { chosen = record { fullest = refl; on = tt }; count = none }
+
+module _ (high : ℕ) (spots cells : List Cell) (hosts : List HostSpots) (i : ℕ) (best : Option (Bor HostSpots)) (most : ℕ) (so_far : IsBestWith high spots cells (take i hosts) best most) where
+  pub best_full : slots_given cells ≡ 0 → high ≤ most → IsBest high spots cells hosts best
+  best_full none full =
+      let step : List Cell → List ℕ → List Cell = λ best host. fuller best (filled (is_on host) high cells) in
+      let both : names_of hosts ≡ names_of (take i hosts) ++ names_of (drop i hosts) = ap names_of (sym (take-append-drop i hosts)) ∙ map-append (λ (x : HostSpots). x.host.now) (take i hosts) (drop i hosts) in
+      record {
+        fullest =
+            sym (ap (λ hs. fold step cells hs) both
+            ∙ fold-append step cells (names_of (take i hosts)) (names_of (drop i hosts))
+            ∙ ap (λ b. fold step b (names_of (drop i hosts))) (sym so_far.chosen.fullest)
+            ∙ full_stays high most cells (filled_on high cells best) (names_of (drop i hosts)) none so_far.count full);
+        on = so_far.chosen.on;
+      }
+
+  module _ (host : HostSpots) (less : i < length hosts) (is : host ≡ get_or hosts i host) (count : ℕ) (counted : slots_given (filled (is_on host.host.now) high cells) ≡ count) where
+    next : fold (λ best host. fuller best (filled (is_on host) high cells)) cells (names_of (take (i + 1) hosts)) ≡ fuller (filled_on high cells best) (filled (is_on host.host.now) high cells)
+    next =
+        let step : List Cell → List ℕ → List Cell = λ best host. fuller best (filled (is_on host) high cells) in
+        fold_hosts step cells hosts i host less is ∙ ap (λ b. step b host.host.now) (sym so_far.chosen.fullest)
+
+    pub best_taken : (lent : Bor HostSpots) (now : Option (Bor HostSpots)) (m : ℕ) → now ≡ Some lent → m ≡ count → lent.now ≡ host → IsOn spots host → most < count → IsBestWith high spots cells (take (i + 1) hosts) now m
+    best_taken lent now m lends counts same on more =
+        let all : filled_on high cells now ≡ filled (is_on host.host.now) high cells = ap (λ b. filled_on high cells b) lends ∙ ap (λ (h : HostSpots). filled (is_on h.host.now) high cells) same in
+        record {
+          chosen = record {
+            fullest = all ∙ sym (cond-true _ _ _ (lt-ltb (slots_given (filled_on high cells best)) (slots_given (filled (is_on host.host.now) high cells)) (omega (arith, so_far.count, counted, more)))) ∙ sym next;
+            on = subst (λ b. IfSome b (λ h. IsOn spots h.now)) (sym lends) (subst (λ (h : HostSpots). IsOn spots h) (sym same) on);
+          };
+          count = ap slots_given all ∙ counted ∙ sym counts;
+        }
+
+    pub best_kept : (now : Option (Bor HostSpots)) (m : ℕ) → now ≡ best → m ≡ most → count ≤ most → IsBestWith high spots cells (take (i + 1) hosts) now m
+    best_kept now m stays counts fewer = record {
+      chosen = record {
+        fullest =
+            ap (λ b. filled_on high cells b) stays
+            ∙ sym (cond-false _ _ _ (le-ltb (slots_given (filled_on high cells best)) (slots_given (filled (is_on host.host.now) high cells)) (omega (arith, so_far.count, counted, fewer))))
+            ∙ sym next;
+        on = subst (λ b. IfSome b (λ h. IsOn spots h.now)) (sym stays) so_far.chosen.on;
+      };
+      count = ap (λ b. slots_given (filled_on high cells b)) stays ∙ so_far.count ∙ sym counts;
+    }
 
 -- a number
 

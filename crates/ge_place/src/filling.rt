@@ -26,7 +26,8 @@ fn give(slots: &mut List<u32>, place: usize) -> Result<(), AllocError>
     }
 }
 
-fn place_on(host: &HostSpots<'_>, index: usize) -> Option<usize>
+/// The place of the instance of a host that has so many of the host's before it.
+pub(crate) fn place_on(host: &HostSpots<'_>, index: usize) -> Option<usize>
     ensures { result ≡ slice_get host.now.places.items index }
 {
     host.places.get(index).copied()

@@ -4,11 +4,12 @@ ghost use Rattle.ge_model_place.specs.Placement.{filled, is_on, slots_given};
 ghost use Rattle.ge_place.specs.Giving.{IsGiven};
 ghost use Rattle.ge_place.specs.Spots.{cells_with, no_slots_at, is_in, IsOn, IsSited};
 
-use crate::filling::fill;
+use crate::asking::takes;
+use crate::filling::{fill, place_on};
 use crate::seeing::Spot;
 use crate::spots::{HostSpots, Site};
 use crate::sums::Sums;
-use ge_rows::{List, Twin};
+use ge_rows::List;
 use std::alloc::{AllocError, Global};
 
 /// The slots that were given so far.
@@ -70,7 +71,38 @@ pub(crate) fn give_more(
     Ok(())
 }
 
-/// Whether the instances of a host take so many more slots. They are given to a copy, and let go again.
+/// How many more slots the instances of a host take, up to so many. None is given.
+pub(crate) fn count_on(
+    alloc: Global,
+    spots: &mut Vec<Spot<'_>>,
+    host: &HostSpots<'_>,
+    most: u32,
+    given: &Given,
+) -> Result<u32, AllocError>
+    requires on { IsOn spots.old.items host.now }
+    requires kept { IsGiven spots.old.items given.now }
+    ensures same_spots { OnOk result (spots.new.items ≡ spots.old.items) }
+    ensures counted { IfOk result (λ count. slots_given (filled (is_on host.now.host.now) most
+        (cells_with spots.old.items given.now.slots)) ≡ given.now.count + count) }
+{
+    let mut since = Sums::new(alloc);
+    let mut count = 0;
+    let mut index = 0;
+    while count < most {
+        let Some(place) = place_on(host, index) else {
+            return Ok(count);
+        };
+        let taken = takes(alloc, &given.sums, &mut since, &mut spots[place])?;
+        if taken {
+            count += 1;
+        } else {
+            index += 1;
+        }
+    }
+    Ok(count)
+}
+
+/// Whether the instances of a host take so many more slots. None is given.
 pub(crate) fn takes_block(
     alloc: Global,
     spots: &mut Vec<Spot<'_>>,
@@ -86,17 +118,6 @@ pub(crate) fn takes_block(
         (cells_with spots.old.items given.now.slots))
         == slots_given (cells_with spots.old.items given.now.slots) + size)) }
 {
-    let mut slots = given.slots.twin(alloc)?;
-    let mut since = Sums::new(alloc);
-    let site = Site::Host(host);
-    let taken = fill(
-        alloc,
-        spots,
-        site,
-        size,
-        &mut slots,
-        &given.sums,
-        &mut since,
-    )?;
-    Ok(taken == size)
+    let count = count_on(alloc, spots, host, size, given)?;
+    Ok(count == size)
 }

@@ -1,10 +1,10 @@
 //! Slots spread over instances by the rule of a parallel environment (sge_pe, `allocation_rule`).
 ghost use Rattle.std.specs.Prelude.{◌≡◌, ◌≤◌, length, fold, IfOk, OnOk};
 ghost use Rattle.ge_model_place.specs.Placement as placed;
-ghost use Rattle.ge_place.specs.Giving.{IsGiven};
+ghost use Rattle.ge_place.specs.Giving.{IsGiven, IsBest};
 ghost use Rattle.ge_place.specs.Spots.{cells_with, no_slots_at, is_in, names_of, IsOn, AreOn, IsSited};
 
-use crate::giving::{Given, give_more, nothing_given, takes_block};
+use crate::giving::{Given, count_on, give_more, nothing_given, takes_block};
 use crate::hosts::hosts_of;
 use crate::seeing::Spot;
 use crate::spots::{HostSpots, Site};
@@ -30,25 +30,37 @@ fn given_at(
     Ok(given)
 }
 
-// So many slots on a host alone, or as many as are taken there.
-fn given_on(
+// The first host that takes the most slots. Behind one that takes all of them, none is looked at.
+fn fullest<'a, 'b>(
     alloc: Global,
     spots: &mut Vec<Spot<'_>>,
-    host: &HostSpots<'_>,
-    most: u32,
-) -> Result<Given, AllocError>
-    requires { IsOn spots.old.items host.now }
+    hosts: &'a [HostSpots<'b>],
+    high: u32,
+    given: &Given,
+) -> Result<Option<&'a HostSpots<'b>>, AllocError>
+    requires on { AreOn spots.old.items hosts.now }
+    requires kept { IsGiven spots.old.items given.now }
+    requires none { given.now.count ≡ 0 }
     ensures same_spots { OnOk result (spots.new.items ≡ spots.old.items) }
-    ensures cells { IfOk result (λ given. cells_with spots.old.items given.slots
-        ≡ placed.filled (placed.is_on host.now.host.now) most
-        (cells_with spots.old.items (no_slots_at spots.old.items))) }
-    ensures kept { IfOk result (λ given. IsGiven spots.old.items given) }
+    ensures best { IfOk result (λ best. IsBest high spots.old.items
+        (cells_with spots.old.items given.now.slots) hosts.now best) }
 {
-    let given = given_at(alloc, spots, Site::Host(host), most)?;
-    Ok(given)
+    let mut best = None;
+    let mut most = 0;
+    for host in hosts {
+        if most >= high {
+            return Ok(best);
+        }
+        let count = count_on(alloc, spots, host, high, given)?;
+        if count > most {
+            best = Some(host);
+            most = count;
+        }
+    }
+    Ok(best)
 }
 
-// `$pe_slots`: all slots on the first host that takes the most. Behind one that takes all of them, none is looked at.
+// `$pe_slots`: all slots on the first host that takes the most.
 fn on_one_host(
     alloc: Global,
     spots: &mut Vec<Spot<'_>>,
@@ -64,17 +76,15 @@ fn on_one_host(
         (cells_with spots.old.items (no_slots_at spots.old.items)) (names_of hosts.now)) }
     ensures kept { IfOk result (λ given. IsGiven spots.old.items given) }
 {
-    let mut best = nothing_given(alloc, spots.as_slice())?;
-    for host in hosts {
-        if best.count >= high {
-            return Ok(best);
-        }
-        let other = given_on(alloc, spots, host, high)?;
-        if other.count > best.count {
-            best = other;
+    let mut given = nothing_given(alloc, spots.as_slice())?;
+    let best = fullest(alloc, spots, hosts, high, &given)?;
+    match best {
+        None => Ok(given),
+        Some(host) => {
+            give_more(alloc, spots, Site::Host(host), high, &mut given)?;
+            Ok(given)
         }
     }
-    Ok(best)
 }
 
 // A block of slots on a host, where all of them fit there and no more than the greatest number are given.
