@@ -233,8 +233,8 @@ impl<A: Canon + Drop, B: Canon + Drop, C: Canon + Drop, D: Canon + Drop, E: Cano
 
     #[tactic(auto, using(crate::specs::Passing::fault_passes_made))]
     fn take(alloc: Global, bytes: &[u8], at: usize) -> Result<((A, B, C, D, E), usize), TakeFault> {
-        let (parts, end) = <(A, (B, (C, (D, E))))>::take(alloc, bytes, at)?;
-        let (first, (second, (third, (fourth, fifth)))) = parts;
+        let (parts, end) = <(A, (B, C, D, E))>::take(alloc, bytes, at)?;
+        let (first, (second, third, fourth, fifth)) = parts;
         Ok(((first, second, third, fourth, fifth), end))
     }
 }
