@@ -15,7 +15,7 @@ use crate::asking::{Asked, asked_of};
 use crate::capacities::in_quota;
 use crate::counting::{Counted, add};
 use ge_bookings::is_same_limit;
-use ge_quota::{Numbered, Who, key, matching_rule};
+use ge_quota::{Numbered, Who, matching_rule, rule_key};
 use ge_rows::{Cluster, Groups, InstanceId, Job, LimitId, QuotaKey, QuotaRow, Text};
 use std::alloc::{AllocError, Global};
 
@@ -73,7 +73,7 @@ fn add_of_resource(
     if asked.amount == 0 {
         return Ok(());
     }
-    let key = key(alloc, name, who, resource.bytes(), rule)?;
+    let key = rule_key(alloc, name, who, resource.bytes(), rule)?;
     add_quota(cluster, groups, job, found, set, key, asked)
 }
 

@@ -26,7 +26,8 @@ impl<'a> Model for Spot<'a> {
 
     ghost view = { λ s. cell_in s.search.now s.instance.now };
 
-    ghost invariant = { λ s. ForSome s.seen (λ sight. IsSeen (cell_in s.search.now s.instance.now) sight) };
+    ghost invariant = { λ s. ForSome s.seen
+        (λ sight. IsSeen (cell_in s.search.now s.instance.now) sight) };
 }
 
 impl<'a> Spot<'a> {

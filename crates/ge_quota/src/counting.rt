@@ -55,7 +55,7 @@ fn number_in_key(number: usize) -> u32
 }
 
 /// What a rule of a set counts a resource by, for who asks.
-pub fn key(
+pub fn rule_key(
     alloc: Global,
     set: &Text,
     who: &Who<'_>,
@@ -98,7 +98,7 @@ pub fn limit_key(
         None => Ok(None),
         Some(row) => match matching_rule(alloc, cluster, groups, who, row)? {
             None => Ok(None),
-            Some(found) => Ok(Some(key(alloc, set, who, b"", &found)?)),
+            Some(found) => Ok(Some(rule_key(alloc, set, who, b"", &found)?)),
         },
     }
 }
@@ -115,7 +115,7 @@ fn append_limits(
         found.now.rule.now.limits) }
 {
     for (resource, _) in found.rule.limits.iter() {
-        keys.push(key(alloc, set, who, resource.bytes(), found)?)?;
+        keys.push(rule_key(alloc, set, who, resource.bytes(), found)?)?;
     }
     Ok(())
 }

@@ -14,5 +14,5 @@ mod filtering;
 mod ruling;
 
 pub use asking::Who;
-pub use counting::{key, keys, limit_key};
+pub use counting::{keys, limit_key, rule_key};
 pub use ruling::{Numbered, matching_rule};
