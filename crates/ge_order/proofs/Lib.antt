@@ -3,6 +3,7 @@ pub mod Rising
 pub mod Ordered
 pub mod InParts
 pub mod Slots
+pub mod Beside
 pub mod Scaled
 pub mod Zipped
 pub mod Told

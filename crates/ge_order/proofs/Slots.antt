@@ -1,10 +1,11 @@
 -- A request for slots in the sum over all requested resources: it may be added at the end.
 use Rattle.std.proofs.Common.{◌≡◌, refl, ap, sym, ◌∙◌, arith, subst}
-use Rattle.std.specs.Prelude.{ℕ, if◌then◌else◌, List, [], ◌∷◌, fold, codes, Option, refl as same}
+use Rattle.std.specs.Prelude.{ℕ, if◌then◌else◌, List, [], ◌∷◌, fold, codes, refl as same}
 use Rattle.std.specs.BTreeMap.{insert_entry, is_at}
 use Rattle.std.specs.List.{AllByRecursion}
 use Rattle.std.specs.List.Sorted.{IsStrictlySortedBy}
 use Rattle.std.specs.Map.{keys_of}
+use Rattle.std.specs.Option.{option_copied}
 use Rattle.std.specs.Ordering.{is_eq, match_ordering}
 use Rattle.std.specs.declared.cmp.Ordering.{Ordering}
 use Rattle.std.specs.declared.cmp.Ordering.TheVariants.{Less, Equal, Greater}
@@ -13,11 +14,11 @@ use Rattle.std.proofs.lemmas.Map.Lookups.{exact_bytes}
 use Rattle.ge_base.specs.Fixed.{cut_sum}
 use Rattle.ge_collections.specs.Keyed.{text_cmp}
 use Rattle.ge_model_rows.specs.ClusterRows.{Cluster}
-use Rattle.ge_model_rows.specs.ValueRows.{Value, Amount, ComplexDef}
-use Rattle.ge_model_value.specs.Complexes.{complex_at}
+use Rattle.ge_model_rows.specs.ValueRows.{Value, Amount}
 use Rattle.ge_model_order.specs.Amounts.{cut_total}
 use Rattle.ge_model_order.specs.Urgency.{resource_urgency, with_slots}
-use Rattle.ge_order.specs.Standings.{others_urgency, slot_urgency}
+use Rattle.ge_order.specs.Standings.{AreUnits, others_urgency, slot_urgency}
+use Rattle.ge_order.specs.declared.asked.Units.{Units}
 use Rattle.ge_order.proofs.Rising.{below_all}
 
 -- the order of two parts doesn't matter
@@ -61,8 +62,8 @@ module _ {X : Type 0} (f : List ℕ × X → ℕ) (k : List ℕ) where
           above e others all = subst (λ key. AllByRecursion (λ y. text_cmp key y ≡ Less) (keys_of others)) (sym (exact_bytes k row.0 e)) all
       by Greater greater later = later (cut_sum t (f row))
 
-pub slots_apart : (c : Cluster) (slots : ℕ) (asked : List (List ℕ × Value)) (unit : Option ComplexDef) → IsStrictlySortedBy text_cmp (keys_of asked)
-    → unit ≡ complex_at c (codes "slots") → cut_sum (others_urgency c slots asked) (slot_urgency slots unit) ≡ cut_total (resource_urgency c slots) (with_slots asked)
-slots_apart c slots asked unit sorted is =
-    put_in (resource_urgency c slots) (codes "slots") asked (Amount 1) 0 (slot_urgency slots unit) (ap (slot_urgency slots) (sym is))
-    (λ other e. ap (λ (name : List ℕ). resource_urgency c slots (name, Amount 1)) (sym (exact_bytes (codes "slots") other e)) ∙ ap (slot_urgency slots) (sym is)) sorted
+pub slots_apart : (c : Cluster) (slots : ℕ) (asked : List (List ℕ × Value)) (units : Units) → IsStrictlySortedBy text_cmp (keys_of asked)
+    → AreUnits c units → cut_sum (others_urgency c slots asked) (slot_urgency slots (option_copied units.slots)) ≡ cut_total (resource_urgency c slots) (with_slots asked)
+slots_apart c slots asked units sorted are =
+    put_in (resource_urgency c slots) (codes "slots") asked (Amount 1) 0 (slot_urgency slots (option_copied units.slots)) (ap (slot_urgency slots) (sym are.slots))
+    (λ other e. ap (λ (name : List ℕ). resource_urgency c slots (name, Amount 1)) (sym (exact_bytes (codes "slots") other e)) ∙ ap (slot_urgency slots) (sym are.slots)) sorted

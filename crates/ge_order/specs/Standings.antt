@@ -1,7 +1,8 @@
 -- What is known of the jobs of a list before their priorities can be told.
-use Rattle.std.specs.Prelude.{ℕ, if◌then◌else◌, min, max, List, filter_map, fold, Option, Some, None, codes}
+use Rattle.std.specs.Prelude.{◌≡◌, ℕ, Bool, ◌==◌, ◌&&◌, not, if◌then◌else◌, min, max, List, filter_map, fold, Option, Some, None, codes}
 use Rattle.std.specs.BTreeMap.{is_at}
-use Rattle.std.specs.Option.{option_map}
+use Rattle.std.specs.List.{list_any}
+use Rattle.std.specs.Option.{option_map, option_copied}
 use Rattle.ge_base.specs.Fixed.{cut_sum}
 use Rattle.ge_collections.specs.Keyed.{at_number, text_cmp}
 use Rattle.ge_model_rows.specs.ClusterRows.{Cluster}
@@ -9,8 +10,10 @@ use Rattle.ge_model_rows.specs.JobRows.{Job}
 use Rattle.ge_model_rows.specs.ScheduleRows.{Prio}
 use Rattle.ge_model_rows.specs.SettingRows.{Sched}
 use Rattle.ge_model_rows.specs.ValueRows.{Value, Amount, ComplexDef}
+use Rattle.ge_model_value.specs.Complexes.{complex_at}
 use Rattle.ge_model_order.specs.Priority.{priority_part, urgency_part, tickets_part, prio_with}
 use Rattle.ge_model_order.specs.Urgency.{urgency_of, value_urgency, resource_urgency}
+use Rattle.ge_order.specs.declared.asked.Units.{Units}
 use Rattle.ge_order.specs.declared.priority.Scale.{Scale}
 use Rattle.ge_order.specs.declared.standing.Standing.{Standing}
 use Rattle.ge_order.specs.declared.standing.Urgent.{Urgent}
@@ -57,3 +60,16 @@ with_other c slots total asked = if is_at (text_cmp (codes "slots")) asked.0 the
 -- what is asked for beside slots
 abbrev pub others_urgency : Cluster → ℕ → List (List ℕ × Value) → ℕ
 others_urgency c slots asked = fold (with_other c slots) 0 asked
+
+-- whether a row of complexes adds to urgency and isn't that of slots
+abbrev pub adds_beside : List ℕ × ComplexDef → Bool
+adds_beside row = not (row.1.urgency == 0) && not (is_at (text_cmp (codes "slots")) row.0)
+
+-- whether any does so
+abbrev pub others_add : Cluster → Bool
+others_add c = list_any adds_beside c.complexes
+
+-- what the complexes of a cluster tell of the urgencies of its jobs
+pub record AreUnits (c : Cluster) (units : Units) : Type 0 where
+  pub slots : option_copied units.slots ≡ complex_at c (codes "slots")
+  pub others : units.others ≡ others_add c

@@ -1,12 +1,11 @@
 // What the resources that a job asks for add to its urgency.
 ghost use Rattle.std.specs.Prelude.{◌≡◌, codes};
 ghost use Rattle.std.specs.BTreeMap.{is_at};
-ghost use Rattle.std.specs.List.Sorted.{IsStrictlySortedBy};
-ghost use Rattle.std.specs.Map.{keys_of};
 ghost use Rattle.std.specs.Option.{option_copied};
 ghost use Rattle.ge_collections.specs.Keyed.{text_cmp};
 ghost use Rattle.ge_model_value.specs.Complexes.{complex_at as complex_in};
 ghost use Rattle.ge_model_order.specs.Urgency as urgencies;
+ghost use Rattle.ge_order.specs.Standings.{AreUnits};
 ghost use Rattle.ge_order.specs.Standings as standings;
 
 use ge_base::{product_of, sum_of};
@@ -14,6 +13,15 @@ use ge_complex::complex_at;
 use ge_rows::{
     Cluster, ComplexDef, Kind, PeRequest, PeRow, Request, Table, Text, UrgencySlots, Value,
 };
+
+/// What complexes tell of the urgencies of all jobs.
+#[derive(Clone, Copy)]
+pub(crate) struct Units<'a> {
+    /// The row that they have for slots.
+    pub(crate) slots: Option<&'a ComplexDef>,
+    /// Whether any other complex adds to urgency.
+    pub(crate) others: bool,
+}
 
 // How many slots are assumed of a range.
 fn slots_by(urgency_slots: UrgencySlots, low: u32, high: u32) -> u64
@@ -86,8 +94,7 @@ fn is_slots(name: &Text) -> bool
 
 // What is asked for beside slots.
 fn others_urgency(c: &Cluster, slots: u64, asked: &Table<Text, Value>) -> u128
-    ensures sum { result ≡ standings.others_urgency c.now slots asked.now }
-    ensures rising { IsStrictlySortedBy text_cmp (keys_of asked.now) }
+    ensures { result ≡ standings.others_urgency c.now slots asked.now }
 {
     let mut total = 0;
     for (name, value) in asked.iter() {
@@ -96,6 +103,18 @@ fn others_urgency(c: &Cluster, slots: u64, asked: &Table<Text, Value>) -> u128
         }
     }
     total
+}
+
+// The same. At most sites no complex beside slots adds to urgency, and then nothing is looked up.
+fn beside_slots(c: &Cluster, units: Units<'_>, slots: u64, asked: &Table<Text, Value>) -> u128
+    ensures { AreUnits c.now units.entry
+        → result ≡ standings.others_urgency c.now slots asked.now }
+{
+    if units.others {
+        others_urgency(c, slots, asked)
+    } else {
+        0
+    }
 }
 
 // What each job has, which asks for one of slots.
@@ -108,8 +127,8 @@ fn slot_urgency(slots: u64, unit: Option<&ComplexDef>) -> u128
     }
 }
 
-/// The row that complexes have for slots.
-pub(crate) fn slots_complex(c: &Cluster) -> Option<&ComplexDef>
+// The row that complexes have for slots.
+fn slots_complex(c: &Cluster) -> Option<&ComplexDef>
     ensures { option_copied result ≡ complex_in c.now (codes "slots") }
 {
     for (name, complex) in c.complexes.iter() {
@@ -120,13 +139,41 @@ pub(crate) fn slots_complex(c: &Cluster) -> Option<&ComplexDef>
     None
 }
 
-/// What all resources add that a job asks for, given the row that complexes have for slots.
-#[tactic(auto, using(crate::proofs::Slots::slots_apart))]
-pub(crate) fn resources_urgency(c: &Cluster, unit: Option<&ComplexDef>, request: &Request) -> u128
-    ensures { option_copied unit.entry ≡ complex_in c.now (codes "slots")
-        → result ≡ urgencies.resources_urgency c.now request.now }
+fn adds_beside(name: &Text, complex: &ComplexDef) -> bool
+    ensures { result ≡ standings.adds_beside (name.now, complex.now) }
 {
+    complex.urgency != 0 && !is_slots(name)
+}
+
+// Whether any complex beside slots adds to urgency.
+fn others_add(c: &Cluster) -> bool
+    ensures { result ≡ standings.others_add c.now }
+{
+    for (name, complex) in c.complexes.iter() {
+        if adds_beside(name, complex) {
+            return true;
+        }
+    }
+    false
+}
+
+/// What complexes tell of all urgencies, found out once for all jobs of a walk.
+pub(crate) fn units_of(c: &Cluster) -> Units<'_>
+    ensures { AreUnits c.now result }
+{
+    Units {
+        slots: slots_complex(c),
+        others: others_add(c),
+    }
+}
+
+/// What all resources add that a job asks for, given what complexes tell.
+#[tactic(auto, using(crate::proofs::Slots::slots_apart))]
+pub(crate) fn resources_urgency(c: &Cluster, units: Units<'_>, request: &Request) -> u128
+    ensures { AreUnits c.now units.entry → result ≡ urgencies.resources_urgency c.now request.now }
+{
+    request.asked.orderly();
     let slots = slots_assumed(c, &request.pe);
-    let others = others_urgency(c, slots, &request.asked);
-    sum_of(others, slot_urgency(slots, unit))
+    let others = beside_slots(c, units, slots, &request.asked);
+    sum_of(others, slot_urgency(slots, units.slots))
 }

@@ -5,7 +5,7 @@ ghost use Rattle.ge_order.specs.Kinds.{SameAsked, told_standing};
 ghost use Rattle.ge_order.specs.Repeated.{candidate_of, standing, IsScale};
 ghost use Rattle.ge_order.specs.Told.{chosen};
 
-use crate::asked::slots_complex;
+use crate::asked::units_of;
 use crate::choosing::has_task;
 use crate::kinds::no_kinds;
 use crate::parts::cut_at_64;
@@ -61,14 +61,14 @@ pub(crate) fn gather(
     ensures scale { IfOk result (λ found. IsScale found.scale
         (map standing found.candidates.items) (map (λ x. x.tickets) found.candidates.items)) }
 {
-    let unit = slots_complex(c);
+    let units = units_of(c);
     let mut kinds = no_kinds();
     let (mut seen, mut most) = (nothing_seen(), 0);
     let mut candidates = Vec::with_capacity(alloc, rows.len())?;
     for (number, row) in rows.iter() {
         let (number, row) = (*number, *row);
         if has_task(alloc, c, number, &row, now)? {
-            let urgency = urgency_again(c, unit, &mut kinds, &mut seen, number, &row, now);
+            let urgency = urgency_again(c, units, &mut kinds, &mut seen, number, &row, now);
             let candidate = candidate_by(number, &row, urgency);
             most = most.max(candidate.tickets);
             candidates.push_reserved(candidate);

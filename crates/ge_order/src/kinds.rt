@@ -1,15 +1,14 @@
 // What requests add to urgency, kept for kinds of jobs: a walk meets few of them, and mostly the same ones again.
-ghost use Rattle.std.specs.Prelude.{◌≡◌, ℕ, List as Items, Some, IfSome, codes};
-ghost use Rattle.std.specs.Option.{option_copied};
+ghost use Rattle.std.specs.Prelude.{◌≡◌, ℕ, List as Items, Some, IfSome};
 ghost use Rattle.ge_collections.specs.declared.short_row.ShortRow.{ShortRow as Short};
-ghost use Rattle.ge_model_value.specs.Complexes.{complex_at};
 ghost use Rattle.ge_model_rows.specs.ClusterRows.{Cluster as Rows};
 ghost use Rattle.ge_rows.specs.declared.labels.JobFacts.{JobFacts as Facts};
 ghost use Rattle.ge_order.specs.Kinds.{kind_in, asked_of, SameAsked, AreAsked};
+ghost use Rattle.ge_order.specs.Standings.{AreUnits};
 
-use crate::asked::resources_urgency;
+use crate::asked::{Units, resources_urgency};
 use ge_jobs::get;
-use ge_rows::{Cluster, ComplexDef};
+use ge_rows::Cluster;
 
 /// How many kinds are kept.
 const PLACES: usize = 64;
@@ -25,13 +24,12 @@ pub(crate) fn no_kinds() -> Kinds
 }
 
 // What the request of a job adds.
-fn request_urgency(c: &Cluster, unit: Option<&ComplexDef>, number: u32) -> u128
-    ensures { option_copied unit.entry ≡ complex_at c.now (codes "slots")
-        → result ≡ asked_of c.now number }
+fn request_urgency(c: &Cluster, units: Units<'_>, number: u32) -> u128
+    ensures { AreUnits c.now units.entry → result ≡ asked_of c.now number }
 {
     match get(&c.jobs, number) {
         None => 0,
-        Some(job) => resources_urgency(c, unit, &job.request),
+        Some(job) => resources_urgency(c, units, &job.request),
     }
 }
 
@@ -47,23 +45,23 @@ fn of_kind(kept: &Option<(u32, u128)>, kind: u32) -> Option<u128>
 /// What the request of a job of a kind adds: that of another of its kind, where one is kept.
 pub(crate) fn kind_urgency(
     c: &Cluster,
-    unit: Option<&ComplexDef>,
+    units: Units<'_>,
     kinds: &mut Kinds,
     kind: u32,
     number: u32,
 ) -> u128
-    ensures asked { (rows : Items (ℕ × Short Facts)) → option_copied unit.entry
-        ≡ complex_at c.now (codes "slots") → kind_in rows number ≡ Some kind
-        → AreAsked c.now rows kinds.old → result ≡ asked_of c.now number }
-    ensures kept { (rows : Items (ℕ × Short Facts)) → option_copied unit.entry
-        ≡ complex_at c.now (codes "slots") → kind_in rows number ≡ Some kind
-        → SameAsked c.now rows → AreAsked c.now rows kinds.old → AreAsked c.now rows kinds.new }
+    ensures asked { (rows : Items (ℕ × Short Facts)) → AreUnits c.now units.entry
+        → kind_in rows number ≡ Some kind → AreAsked c.now rows kinds.old
+        → result ≡ asked_of c.now number }
+    ensures kept { (rows : Items (ℕ × Short Facts)) → AreUnits c.now units.entry
+        → kind_in rows number ≡ Some kind → SameAsked c.now rows
+        → AreAsked c.now rows kinds.old → AreAsked c.now rows kinds.new }
 {
     let place = kind as usize % PLACES;
     match of_kind(&kinds[place], kind) {
         Some(asked) => asked,
         None => {
-            let asked = request_urgency(c, unit, number);
+            let asked = request_urgency(c, units, number);
             kinds[place] = Some((kind, asked));
             asked
         }

@@ -1,17 +1,16 @@
 // The urgencies of candidates in a walk over short rows: jobs that follow each other are mostly alike.
-ghost use Rattle.std.specs.Prelude.{◌≡◌, ℕ, List as Items, Some, None, IfSome, max, codes};
-ghost use Rattle.std.specs.Option.{option_copied};
+ghost use Rattle.std.specs.Prelude.{◌≡◌, ℕ, List as Items, Some, None, IfSome, max};
 ghost use Rattle.ge_collections.specs.Keyed.{at_number};
 ghost use Rattle.ge_collections.specs.declared.short_row.ShortRow.{ShortRow as Short};
-ghost use Rattle.ge_model_value.specs.Complexes.{complex_at};
 ghost use Rattle.ge_rows.specs.declared.labels.JobFacts.{JobFacts as Facts};
 ghost use Rattle.ge_order.specs.Kinds.{asked_of, SameAsked, urgency_by as urgency_of};
 ghost use Rattle.ge_order.specs.Repeated.{urged_by, seen_more, Knows, IsWithin};
-ghost use Rattle.ge_order.specs.Standings.{lesser as least_of};
+ghost use Rattle.ge_order.specs.Standings.{AreUnits, lesser as least_of};
 
+use crate::asked::Units;
 use crate::kinds::{Kinds, kind_urgency};
 use crate::urging::urgency_by;
-use ge_rows::{Cluster, ComplexDef, JobFacts, ShortRow};
+use ge_rows::{Cluster, JobFacts, ShortRow};
 
 /// What the urgency of a job at one moment stands on, and that urgency.
 #[derive(Clone, Copy)]
@@ -89,21 +88,20 @@ fn see(seen: &Seen, row: &ShortRow<JobFacts>, urgency: u128) -> Seen
 /// The urgency of a job whose short row this is. It is worked out, and seen, only where the job isn't like the last one.
 pub(crate) fn urgency_again(
     c: &Cluster,
-    unit: Option<&ComplexDef>,
+    units: Units<'_>,
     kinds: &mut Kinds,
     seen: &mut Seen,
     number: u32,
     row: &ShortRow<JobFacts>,
     now: u64,
 ) -> u128
-    ensures urgency { (rows : Items (ℕ × Short Facts)) → option_copied unit.entry
-        ≡ complex_at c.now (codes "slots") → at_number rows number ≡ Some row.now
-        → Knows c.now rows now kinds.old seen.old.last
+    ensures urgency { (rows : Items (ℕ × Short Facts)) → AreUnits c.now units.entry
+        → at_number rows number ≡ Some row.now → Knows c.now rows now kinds.old seen.old.last
         → result ≡ urgency_of c.now (asked_of c.now number) row.now.facts.submitted
         row.now.facts.deadline now }
-    ensures known { (rows : Items (ℕ × Short Facts)) → option_copied unit.entry
-        ≡ complex_at c.now (codes "slots") → at_number rows number ≡ Some row.now
-        → SameAsked c.now rows → Knows c.now rows now kinds.old seen.old.last
+    ensures known { (rows : Items (ℕ × Short Facts)) → AreUnits c.now units.entry
+        → at_number rows number ≡ Some row.now → SameAsked c.now rows
+        → Knows c.now rows now kinds.old seen.old.last
         → Knows c.now rows now kinds.new seen.new.last }
     ensures low { IsWithin seen.old → seen.new.low ≡ Some (least_of seen.old.low result) }
     ensures high { IsWithin seen.old → seen.new.high ≡ max seen.old.high result }
@@ -112,7 +110,7 @@ pub(crate) fn urgency_again(
     match of_like(&seen.last, row) {
         Some(urgency) => urgency,
         None => {
-            let asked = kind_urgency(c, unit, kinds, row.third, number);
+            let asked = kind_urgency(c, units, kinds, row.third, number);
             let urgency = urgency_by(c, asked, row.facts.submitted, row.facts.deadline, now);
             *seen = see(seen, row, urgency);
             urgency

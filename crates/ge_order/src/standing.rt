@@ -1,15 +1,13 @@
 // What is known of jobs before their priorities can be told.
-ghost use Rattle.std.specs.Prelude.{◌≡◌, IfOk, map, fold, codes, unwrap_or, None};
-ghost use Rattle.std.specs.Option.{option_copied};
-ghost use Rattle.ge_model_value.specs.Complexes.{complex_at};
+ghost use Rattle.std.specs.Prelude.{◌≡◌, IfOk, map, fold, unwrap_or, None};
 ghost use Rattle.ge_model_order.specs.Amounts.{least, greatest};
-ghost use Rattle.ge_order.specs.Standings.{standing_of, urgencies_of, with_lesser, with_greater};
+ghost use Rattle.ge_order.specs.Standings.{AreUnits, standing_of, urgencies_of, with_lesser, with_greater};
 
-use crate::asked::slots_complex;
+use crate::asked::{Units, units_of};
 use crate::telling::standings_told;
 use crate::urging::urgency_with;
 use ge_jobs::get;
-use ge_rows::{Cluster, ComplexDef};
+use ge_rows::Cluster;
 use std::alloc::{AllocError, Global};
 
 /// What the priority of a job stands on beside its tickets.
@@ -30,9 +28,8 @@ pub(crate) struct Standing {
     pub urgent: Option<Urgent>,
 }
 
-fn standing_at(c: &Cluster, unit: Option<&ComplexDef>, number: u32, now: u64) -> Standing
-    ensures { option_copied unit.entry ≡ complex_at c.now (codes "slots")
-        → result ≡ standing_of c.now now number }
+fn standing_at(c: &Cluster, units: Units<'_>, number: u32, now: u64) -> Standing
+    ensures { AreUnits c.now units.entry → result ≡ standing_of c.now now number }
 {
     match get(&c.jobs, number) {
         None => Standing {
@@ -43,7 +40,7 @@ fn standing_at(c: &Cluster, unit: Option<&ComplexDef>, number: u32, now: u64) ->
             job: number,
             urgent: Some(Urgent {
                 priority: job.priority,
-                urgency: urgency_with(c, unit, job, now),
+                urgency: urgency_with(c, units, job, now),
             }),
         },
     }
@@ -58,10 +55,10 @@ fn standings_each(
 ) -> Result<Vec<Standing>, AllocError>
     ensures { IfOk result (λ standings. standings.items ≡ map (standing_of c.now now) jobs.now) }
 {
-    let unit = slots_complex(c);
+    let units = units_of(c);
     let mut standings = Vec::new(alloc);
     for number in jobs {
-        standings.push(standing_at(c, unit, *number, now))?;
+        standings.push(standing_at(c, units, *number, now))?;
     }
     Ok(standings)
 }

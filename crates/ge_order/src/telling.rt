@@ -1,19 +1,18 @@
 // What short rows tell of jobs before their priorities can be told.
-ghost use Rattle.std.specs.Prelude.{◌≡◌, ℕ, List as Items, Some, IfOk, map, codes};
-ghost use Rattle.std.specs.Option.{option_copied};
+ghost use Rattle.std.specs.Prelude.{◌≡◌, ℕ, List as Items, Some, IfOk, map};
 ghost use Rattle.ge_beside.specs.Met.{AreFound};
 ghost use Rattle.ge_collections.specs.Keyed.{at_number};
 ghost use Rattle.ge_collections.specs.declared.short_row.ShortRow.{ShortRow as Short};
-ghost use Rattle.ge_model_value.specs.Complexes.{complex_at};
 ghost use Rattle.ge_rows.specs.declared.labels.JobFacts.{JobFacts as Facts};
 ghost use Rattle.ge_order.specs.Kinds as kind;
+ghost use Rattle.ge_order.specs.Standings.{AreUnits};
 
-use crate::asked::slots_complex;
+use crate::asked::{Units, units_of};
 use crate::kinds::{Kinds, kind_urgency, no_kinds};
 use crate::standing::{Standing, Urgent};
 use crate::urging::urgency_by;
 use ge_beside::{row_at, walk};
-use ge_rows::{Cluster, ComplexDef, JobFacts, ShortRow};
+use ge_rows::{Cluster, JobFacts, ShortRow};
 use std::alloc::{AllocError, Global};
 use std::collections::BTreeMap;
 use std::collections::btree_map::Iter;
@@ -30,19 +29,19 @@ fn urgent_by(c: &Cluster, now: u64, asked: u128, facts: &JobFacts) -> Urgent
 
 fn standing_told<'a>(
     c: &Cluster,
-    unit: Option<&ComplexDef>,
+    units: Units<'_>,
     rows: &'a BTreeMap<u32, ShortRow<JobFacts>>,
     left: &mut Iter<'a, u32, ShortRow<JobFacts>>,
     kinds: &mut Kinds,
     number: u32,
     now: u64,
 ) -> Standing
-    ensures standing { option_copied unit.entry ≡ complex_at c.now (codes "slots")
-        → AreFound rows.now.entries left.old → kind.AreAsked c.now rows.now.entries kinds.old
+    ensures standing { AreUnits c.now units.entry → AreFound rows.now.entries left.old
+        → kind.AreAsked c.now rows.now.entries kinds.old
         → result ≡ kind.told_standing c.now rows.now.entries now number }
     ensures others { AreFound rows.now.entries left.old → AreFound rows.now.entries left.new }
-    ensures asked { option_copied unit.entry ≡ complex_at c.now (codes "slots")
-        → AreFound rows.now.entries left.old → kind.SameAsked c.now rows.now.entries
+    ensures asked { AreUnits c.now units.entry → AreFound rows.now.entries left.old
+        → kind.SameAsked c.now rows.now.entries
         → kind.AreAsked c.now rows.now.entries kinds.old
         → kind.AreAsked c.now rows.now.entries kinds.new }
 {
@@ -52,7 +51,7 @@ fn standing_told<'a>(
             urgent: None,
         },
         Some(row) => {
-            let asked = kind_urgency(c, unit, kinds, row.third, number);
+            let asked = kind_urgency(c, units, kinds, row.third, number);
             Standing {
                 job: number,
                 urgent: Some(urgent_by(c, now, asked, &row.facts)),
@@ -72,12 +71,12 @@ pub(crate) fn standings_told(
     ensures { kind.SameAsked c.now rows.now.entries → IfOk result (λ standings. standings.items
         ≡ map (kind.told_standing c.now rows.now.entries now) jobs.now) }
 {
-    let unit = slots_complex(c);
+    let units = units_of(c);
     let mut kinds = no_kinds();
     let mut left = walk(rows);
     let mut standings = Vec::with_capacity(alloc, jobs.len())?;
     for number in jobs {
-        let standing = standing_told(c, unit, rows, &mut left, &mut kinds, *number, now);
+        let standing = standing_told(c, units, rows, &mut left, &mut kinds, *number, now);
         standings.push_reserved(standing);
     }
     Ok(standings)

@@ -1,14 +1,13 @@
 // The urgency of a job (complex, sched_conf, sge_pe).
-ghost use Rattle.std.specs.Prelude.{◌≡◌, ◌-◌, ◌/◌, ◌==◌, if◌then◌else◌, max, codes};
-ghost use Rattle.std.specs.Option.{option_copied};
+ghost use Rattle.std.specs.Prelude.{◌≡◌, ◌-◌, ◌/◌, ◌==◌, if◌then◌else◌, max};
 ghost use Rattle.ge_base.specs.Fixed.{cut_product};
-ghost use Rattle.ge_model_value.specs.Complexes.{complex_at};
 ghost use Rattle.ge_model_order.specs.Urgency.{urgency_of};
 ghost use Rattle.ge_order.specs.Kinds as kinds;
+ghost use Rattle.ge_order.specs.Standings.{AreUnits};
 
-use crate::asked::{resources_urgency, slots_complex};
+use crate::asked::{Units, resources_urgency, units_of};
 use ge_base::{product_of, sum_of};
-use ge_rows::{Cluster, ComplexDef, Job};
+use ge_rows::{Cluster, Job};
 
 /// The greatest urgency.
 const GREATEST: u128 = (1 << 100) - 1;
@@ -42,13 +41,12 @@ pub(crate) fn urgency_by(c: &Cluster, asked: u128, submitted: u64, deadline: u64
     sum_of(sum_of(asked, waiting), nearing).min(GREATEST)
 }
 
-/// The urgency of a job, given the row that complexes have for slots.
+/// The urgency of a job, given what complexes tell.
 #[tactic(auto, unfolding(ge_model_order::specs::Urgency::urgency_of))]
-pub(crate) fn urgency_with(c: &Cluster, unit: Option<&ComplexDef>, job: &Job, now: u64) -> u128
-    ensures { option_copied unit.entry ≡ complex_at c.now (codes "slots")
-        → result ≡ urgency_of c.now job.now now }
+pub(crate) fn urgency_with(c: &Cluster, units: Units<'_>, job: &Job, now: u64) -> u128
+    ensures { AreUnits c.now units.entry → result ≡ urgency_of c.now job.now now }
 {
-    let asked = resources_urgency(c, unit, &job.request);
+    let asked = resources_urgency(c, units, &job.request);
     urgency_by(c, asked, job.submitted, job.deadline, now)
 }
 
@@ -58,5 +56,5 @@ pub(crate) fn urgency_with(c: &Cluster, unit: Option<&ComplexDef>, job: &Job, no
 pub fn urgency(c: &Cluster, job: &Job, now: u64) -> u128
     ensures { result ≡ urgency_of c.now job.now now }
 {
-    urgency_with(c, slots_complex(c), job, now)
+    urgency_with(c, units_of(c), job, now)
 }

@@ -58,8 +58,8 @@ loop-number-preserved-then-branch c =
       (λ alike.
           let so_far = before.0 alike in (
             chosen_more (told_standing C rows now) C now (map standing done) (map standing more) _ (standing one) _ _ number row c.in-Some.ensures.steps is so_far.0
-                (ap standing is_one ∙ standing_of_row C rows now number row c.urgency_again-urgency.result found.0 (told.urgency rows c.slots_complex-unit.ensures found.0 so_far.1)) (map_more standing done more one pushed),
-            told.known rows c.slots_complex-unit.ensures found.0 alike so_far.1,
+                (ap standing is_one ∙ standing_of_row C rows now number row c.urgency_again-urgency.result found.0 (told.urgency rows c.units_of-units.ensures found.0 so_far.1)) (map_more standing done more one pushed),
+            told.known rows c.units_of-units.ensures found.0 alike so_far.1,
           )),
       chosen_more (told_tickets rows) C now (map tickets done) (map tickets more) _ one.tickets _ _ number row c.in-Some.ensures.steps is before.1
           (ap tickets is_one ∙ ticket_of_row rows number row found.0) (map_more tickets done more one pushed),
