@@ -22,6 +22,7 @@ use Rattle.ge_rows.specs.declared.labels.JobFacts.{JobFacts}
 use Rattle.ge_scheduling.specs.KindNotes.{kind_in, is_noted, noted_with, kind_after, started_by, NoneStarts, AreShut}
 use Rattle.ge_scheduling.specs.Passing.{passed_by, Waits, Follows}
 use Rattle.ge_scheduling.specs.declared.rests.Room.{Room}
+use Rattle.ge_scheduling.specs.Amounts.{IsInTable}
 use Rattle.ge_scheduling.specs.Rests.{AreLeft}
 use Rattle.ge_scheduling.specs.Verdicts.{grants_at, can_be_placed, reserved_from, reserved, waiting, placed_with, decision_by, decision_at}
 use Rattle.ge_scheduling.proofs.Bridged.{by_parts, model_by_parts, may_same, decision_tallied}
@@ -134,7 +135,7 @@ module _ (c : Cluster) (groups : Groups) (order : List InstanceId) (now : ℕ) w
       (ap (λ given. started_by (owner_is_full c decisions job.owner) (serial_after c decisions) task given) nowhere)
 
   -- where nothing can be placed now and no task may be reserved
-  pub must_each_wait : (booked : List Booking) (decisions : List Decision) → ((job : Job) → placement_of c groups order booked job now ≡ None)
+  pub must_each_wait : (booked : List Booking) (decisions : List Decision) → ((job : Job) → IsInTable c job → placement_of c groups order booked job now ≡ None)
       → ((number : ℕ) (job : Job) → at_number c.jobs number ≡ Some job → may_reserve c decisions (Some job) ≡ false) → (task : TaskId) → decision_of c groups order now booked decisions task ≡ Skip task
   must_each_wait booked decisions nowhere unreserved task =
       model_by_parts c groups order now booked decisions task ∙ here (at_number c.jobs task.job) refl
@@ -144,10 +145,10 @@ module _ (c : Cluster) (groups : Groups) (order : List InstanceId) (now : ℕ) w
       here (Some job) there =
           ap (λ m. decision_by c groups order now booked (owner_is_full c decisions job.owner) m (serial_after c decisions) (Some job) task) (unreserved task.job job there)
           ∙ must_wait c groups order now booked (owner_is_full c decisions job.owner) (serial_after c decisions) (Some job) task (placement_of c groups order booked job now)
-          (ap (λ given. started_by (owner_is_full c decisions job.owner) (serial_after c decisions) task given) (nowhere job))
+          (ap (λ given. started_by (owner_is_full c decisions job.owner) (serial_after c decisions) task given) (nowhere job (record { number = task.job; there = there })))
 
   -- where as many are reserved as may be, by what is counted
-  pub all_must_wait : (booked : List Booking) (decisions : List Decision) (tally : Tally) (number : ℕ) → IsTallied c decisions tally → ((job : Job) → placement_of c groups order booked job now ≡ None)
+  pub all_must_wait : (booked : List Booking) (decisions : List Decision) (tally : Tally) (number : ℕ) → IsTallied c decisions tally → ((job : Job) → IsInTable c job → placement_of c groups order booked job now ≡ None)
       → c.sched.max_reservation ≤ tally.reserved → Waits c groups order now booked decisions number
   all_must_wait booked decisions tally number tallied nowhere enough task same =
       must_each_wait booked decisions nowhere

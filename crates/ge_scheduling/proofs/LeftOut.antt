@@ -82,12 +82,11 @@ module _ (c : Cluster) (groups : Groups) (now : ℕ) (booked : List Booking) whe
       takes_none c groups job at booked now (lasts_on c job now parts.0 free) free (omega (arith, used, most))
 
   module _ (order : List InstanceId) where
-    -- where no instance takes a slot of a job that asks for one, and there is no reservation that a job may be sent into, nothing is placed
-    pub nothing_placed : ((job : Job) → (job.advance == 0) ≡ true → list_any (takes_one c groups job booked now) order ≡ false) → c.advances ≡ [] → (job : Job)
-        → placement_of c groups order booked job now ≡ None
-    nothing_placed refused none job =
+    -- a job of which no instance takes a slot, where there is no reservation that a job may be sent into
+    pub nothing_placed : (job : Job) → ((job.advance == 0) ≡ true → list_any (takes_one c groups job booked now) order ≡ false) → c.advances ≡ [] → placement_of c groups order booked job now ≡ None
+    nothing_placed job refused none =
         elim (cases_Bool (job.advance == 0)) [
-          | inl free ↦ none_placed c groups job booked now order (refused job free)
+          | inl free ↦ none_placed c groups job booked now order (refused free)
           | inr sent ↦ out_of_time c groups job booked now order
               (or_from (job.advance == 0) (lasts_at now (advance_of c job)) sent (ap (λ (rows : List (ℕ × Advance)). lasts_at now (at_number rows job.advance)) none))
         ]

@@ -10,6 +10,7 @@ pub mod Thinned
 pub mod Everywhere
 pub mod LeftOut
 pub mod Open
+pub mod LeastAsked
 pub mod Remaining
 pub mod Singly
 pub mod Kept

@@ -64,4 +64,4 @@ module _ (c : Cluster) (run : Run) (is : IsUnderWay c run) where
       ∙ ap (λ (so_far : List Booking × List Decision). so_far.1) (fold-append (decide c run.groups run.order run.moment) (base_bookings c run.groups run.moment, []) (tasks_decided run) others)
       ∙ ap (λ (so_far : List Booking × List Decision). (fold (decide c run.groups run.order run.moment) so_far others).1) (sym is.made)
       ∙ each_waits c run.so_far.tally.reserved none_kept run.groups run.order run.moment run.so_far.booked
-      (nothing_placed c run.groups run.moment run.so_far.booked run.order (none_open c run.groups run.moment run.so_far.booked run.order run.so_far.room is.left none_left) no_advances) run.so_far.decisions (omega (arith, kept)) others
+      (λ job there. nothing_placed c run.groups run.moment run.so_far.booked run.order job (none_open c run.groups run.moment run.so_far.booked run.order run.so_far.room is.left none_left job there) no_advances) run.so_far.decisions (omega (arith, kept)) others

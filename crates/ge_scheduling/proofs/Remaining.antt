@@ -31,7 +31,8 @@ use Rattle.ge_scheduling.specs.declared.rests.Rest.{Rest}
 use Rattle.ge_scheduling.specs.declared.rests.Left.{Left}
 use Rattle.ge_scheduling.specs.declared.rests.Room.{Room}
 use Rattle.ge_scheduling.specs.Common.{IsAsked}
-use Rattle.ge_scheduling.specs.Rests.{rest_of, host_rests, rests_at, number_in, numbered_at, is_full, renewed_rest, renewed_left, AreOpen, ArePassed, is_of, asks_more, is_short, is_short_now, are_short, left_then, is_short_then, are_short_then, are_short_at, is_kept, AreKept, IsLeft, AreLeft}
+use Rattle.ge_scheduling.specs.Amounts.{IsInTable, number_in, AreLeast}
+use Rattle.ge_scheduling.specs.Rests.{rest_of, host_rests, rests_at, numbered_at, is_full, renewed_rest, renewed_left, AreOpen, ArePassed, is_of, asks_more, is_short, is_short_now, are_short, left_then, is_short_then, are_short_then, are_short_at, is_kept, AreKept, IsLeft, AreLeft}
 use Rattle.ge_scheduling.specs.Vacant.{goes_on, slots_of}
 use Rattle.ge_scheduling.proofs.Admitting.{any_first, any_second, counts_here, slots_count, has_room_for}
 use Rattle.ge_scheduling.proofs.Grown.{sum_grows}
@@ -77,24 +78,24 @@ module _ (c : Cluster) (groups : Groups) (now : ℕ) (booked : List Booking) whe
   within_rest : (limit : LimitId) → capacity_of c groups limit ≤ plain_sum booked limit now + (capacity_of c groups limit - window_peak booked limit now (next_moment now))
   within_rest limit = let peak = peak_there booked limit now in omega (arith, peak)
 
-  module _ (at : InstanceId) where
+  module _ (amounts : List (List ℕ × ℕ)) (known : AreLeast c amounts) (at : InstanceId) where
     values_left : (all names : List (List ℕ)) → ((job : Job) (name : List ℕ) → (job.advance == 0) ≡ true → list_any (λ other. same_limit other (Host at.host name)) (map (Host at.host) all) ≡ true
         → counts_here c groups job at (Host at.host name) ≡ true)
         → ((name : List ℕ) → list_any (λ other. same_limit other (Host at.host name)) (map (Host at.host) names) ≡ true → list_any (λ other. same_limit other (Host at.host name)) (map (Host at.host) all) ≡ true)
-        → All (IsLeft c groups now booked at) (map (λ name. left_of (Host at.host name) 0) names)
+        → All (IsLeft c groups now booked at) (map (λ name. left_of (Host at.host name) (number_in amounts name)) names)
     values_left all [] counts up = All-nil (IsLeft c groups now booked at)
     values_left all (name ∷ names) counts up =
-        All-cons (IsLeft c groups now booked at) (left_of (Host at.host name) 0) (map (λ n. left_of (Host at.host n) 0) names)
+        All-cons (IsLeft c groups now booked at) (left_of (Host at.host name) (number_in amounts name)) (map (λ n. left_of (Host at.host n) (number_in amounts n)) names)
         (record {
           of_it = refl;
           whole = refl;
           counts = λ job opened free. counts job name free (up name (or_left (same_limit (Host at.host name) (Host at.host name)) (list_any (λ other. same_limit other (Host at.host name)) (map (Host at.host) names)) (limit_same (Host at.host name))));
           within = within_rest (Host at.host name);
-          least = λ job. omega arith;
+          least = known name;
         })
         (values_left all names counts (λ other e. up other (or_right (same_limit (Host at.host name) (Host at.host other)) (list_any (λ limit. same_limit limit (Host at.host other)) (map (Host at.host) names)) e)))
 
-    host_left : (row : Option HostRow) → at_text c.hosts at.host ≡ row → All (IsLeft c groups now booked at) (host_rests c groups now booked at.host row)
+    host_left : (row : Option HostRow) → at_text c.hosts at.host ≡ row → All (IsLeft c groups now booked at) (host_rests c groups now booked amounts at.host row)
     host_left None is = All-nil (IsLeft c groups now booked at)
     host_left (Some row) is =
         let names : List (List ℕ) = consumables c row.values in
@@ -102,22 +103,22 @@ module _ (c : Cluster) (groups : Groups) (now : ℕ) (booked : List Booking) whe
         (λ job name free e. host_counts c groups job at (Host at.host name) free (subst (λ r. list_any (λ other. same_limit other (Host at.host name)) (host_limits c (Host at.host) r) ≡ true) (sym is) e))
         (λ name e. e)
 
-    left_here : All (IsLeft c groups now booked at) (rests_at c groups now booked at)
+    left_here : All (IsLeft c groups now booked at) (rests_at c groups now booked amounts at)
     left_here =
-        All-cons (IsLeft c groups now booked at) (left_of (slots_of at) 1) (host_rests c groups now booked at.host (at_text c.hosts at.host))
-        (record { of_it = refl; whole = refl; counts = λ job opened free. slots_count c groups job at opened free; within = within_rest (slots_of at); least = λ job. omega arith })
+        All-cons (IsLeft c groups now booked at) (left_of (slots_of at) 1) (host_rests c groups now booked amounts at.host (at_text c.hosts at.host))
+        (record { of_it = refl; whole = refl; counts = λ job opened free. slots_count c groups job at opened free; within = within_rest (slots_of at); least = λ job there. omega arith })
         (host_left (at_text c.hosts at.host) refl)
 
-  pub all_left : (hosts : List (List ℕ × ℕ)) (order : List InstanceId) (lefts : List Left) (vacant : List ℕ) → lefts ≡ map (numbered_at c groups now booked hosts) order
+  pub all_left : (amounts hosts : List (List ℕ × ℕ)) (order : List InstanceId) (lefts : List Left) (vacant : List ℕ) → AreLeast c amounts → lefts ≡ map (numbered_at c groups now booked amounts hosts) order
       → AreOpen (is_full c now) lefts (length lefts) 0 vacant → AreLeft c groups now booked order (record { lefts = lefts; vacant = vacant })
-  all_left hosts order lefts vacant are others =
-      let here : (k : ℕ) (at : InstanceId) (none : Left) → k < length order → slice_index_or lefts k none ≡ numbered_at c groups now booked hosts (slice_index_or order k at) =
-      λ k at none inside. ap (λ rs. slice_index_or rs k none) are ∙ get_or-map (numbered_at c groups now booked hosts) order k at none inside in
+  all_left amounts hosts order lefts vacant known are others =
+      let here : (k : ℕ) (at : InstanceId) (none : Left) → k < length order → slice_index_or lefts k none ≡ numbered_at c groups now booked amounts hosts (slice_index_or order k at) =
+      λ k at none inside. ap (λ rs. slice_index_or rs k none) are ∙ get_or-map (numbered_at c groups now booked amounts hosts) order k at none inside in
       record {
         number = number_in hosts;
         hosts = record { each = λ k at none inside. ap (λ (left : Left). left.host) (here k at none inside) };
-        long = ap (λ rs. length rs) are ∙ length-map order (numbered_at c groups now booked hosts);
-        each = λ k at none inside. subst (λ (left : Left). All (IsLeft c groups now booked (slice_index_or order k at)) left.rests) (sym (here k at none inside)) (left_here (slice_index_or order k at));
+        long = ap (λ rs. length rs) are ∙ length-map order (numbered_at c groups now booked amounts hosts);
+        each = λ k at none inside. subst (λ (left : Left). All (IsLeft c groups now booked (slice_index_or order k at)) left.rests) (sym (here k at none inside)) (left_here amounts known (slice_index_or order k at));
         others = others;
       }
 
@@ -237,25 +238,25 @@ module _ (c : Cluster) (groups : Groups) (now : ℕ) (booked : List Booking) whe
           | inr less ↦ some_short rest.limit rest.resource most asked of_it counts within is less
         ]
 
-    pub refused_short : (rests : List Rest) (asked : List Counted) → All (IsLeft c groups now booked at) rests → All (IsAsked c groups job) asked → are_short asked rests ≡ true → takes ≡ false
-    refused_short [] asked left is e = absurd (true≢false (sym e))
-    refused_short (rest ∷ rests) asked left is e =
+    pub refused_short : (rests : List Rest) (asked : List Counted) → IsInTable c job → All (IsLeft c groups now booked at) rests → All (IsAsked c groups job) asked → are_short asked rests ≡ true → takes ≡ false
+    refused_short [] asked there left is e = absurd (true≢false (sym e))
+    refused_short (rest ∷ rests) asked there left is e =
         let first = All-head (IsLeft c groups now booked at) rest rests left in
         elim (or_cases (is_short_now asked rest) (are_short asked rests) e) [
-          | inl here ↦ either_short rest rest.most asked first.of_it (λ opened alone. first.counts job opened alone) first.within (first.least job) is here
-          | inr there ↦ refused_short rests asked (All-tail (IsLeft c groups now booked at) rest rests left) is there
+          | inl here ↦ either_short rest rest.most asked first.of_it (λ opened alone. first.counts job opened alone) first.within (first.least job there) is here
+          | inr later ↦ refused_short rests asked there (All-tail (IsLeft c groups now booked at) rest rests left) is later
         ]
 
     -- by what was left at another moment
-    pub refused_then : (before : ℕ) (old : List Booking) (rests : List Rest) (asked : List Counted) → All (IsLeft c groups before old at) rests → All (IsAsked c groups job) asked → are_short_then booked now asked rests ≡ true → takes ≡ false
-    refused_then before old [] asked left is e = absurd (true≢false (sym e))
-    refused_then before old (rest ∷ rests) asked left is e =
+    pub refused_then : (before : ℕ) (old : List Booking) (rests : List Rest) (asked : List Counted) → IsInTable c job → All (IsLeft c groups before old at) rests → All (IsAsked c groups job) asked → are_short_then booked now asked rests ≡ true → takes ≡ false
+    refused_then before old [] asked there left is e = absurd (true≢false (sym e))
+    refused_then before old (rest ∷ rests) asked there left is e =
         let first = All-head (IsLeft c groups before old at) rest rests left in
         let whole = first.whole in
         let most = within_rest rest.limit in
         elim (or_cases (is_short_then booked now asked rest) (are_short_then booked now asked rests) e) [
-          | inl here ↦ either_short rest (left_then booked now rest) asked first.of_it (λ opened alone. first.counts job opened alone) (omega (arith, whole, most)) (first.least job) is here
-          | inr there ↦ refused_then before old rests asked (All-tail (IsLeft c groups before old at) rest rests left) is there
+          | inl here ↦ either_short rest (left_then booked now rest) asked first.of_it (λ opened alone. first.counts job opened alone) (omega (arith, whole, most)) (first.least job there) is here
+          | inr later ↦ refused_then before old rests asked there (All-tail (IsLeft c groups before old at) rest rests left) is later
         ]
 
     pub refused_shut : is_open c groups job at ≡ false → takes ≡ false
@@ -298,14 +299,14 @@ module _ (c : Cluster) (groups : Groups) (now : ℕ) (booked : List Booking) (or
       subst (λ places. slice_index_or places index 0 < length room.lefts) (sym same) (open_within (is_full c now) room.lefts (length room.lefts) 0 room.vacant index inside are.others)
 
   -- an instance where nothing is left takes no slot
-  full_takes : (job : Job) → (job.advance == 0) ≡ true → (k : ℕ) (d : InstanceId) (none : Left) → k < length room.lefts → is_full c now (slice_index_or room.lefts k none) ≡ true
+  full_takes : (job : Job) → IsInTable c job → (job.advance == 0) ≡ true → (k : ℕ) (d : InstanceId) (none : Left) → k < length room.lefts → is_full c now (slice_index_or room.lefts k none) ≡ true
       → takes_one c groups job booked now (slice_index_or order k d) ≡ false
-  full_takes job free k d none inside e =
+  full_takes job there free k d none inside e =
       let long = are.long in
       let parts = and_parts (goes_on c now) (are_short [] (slice_index_or room.lefts k none).rests) e in
-      refused_short c groups now booked job (slice_index_or order k d) parts.0 free (slice_index_or room.lefts k none).rests [] (are.each k d none (omega (arith, inside, long))) (All-nil (IsAsked c groups job)) parts.1
+      refused_short c groups now booked job (slice_index_or order k d) parts.0 free (slice_index_or room.lefts k none).rests [] there (are.each k d none (omega (arith, inside, long))) (All-nil (IsAsked c groups job)) parts.1
 
-  module _ (job : Job) (free : (job.advance == 0) ≡ true) where
+  module _ (job : Job) (there : IsInTable c job) (free : (job.advance == 0) ≡ true) where
     pub passed_none : ArePassedBy job room.vacant
     passed_none = record { from = 0; none = λ k at less. absurd (omega (arith, less)); rest = are.others }
 
@@ -318,7 +319,7 @@ module _ (c : Cluster) (groups : Groups) (now : ℕ) (booked : List Booking) (or
           omega (arith, inside, long),
           λ k d less. elim (cases_lt k were.from) [
             | inl below ↦ were.none k d below
-            | inr behind ↦ let none : Left = record { host = 0; rests = [] } in full_takes job free k d none (omega (arith, less, inside)) (open_.2 k none behind less)
+            | inr behind ↦ let none : Left = record { host = 0; rests = [] } in full_takes job there free k d none (omega (arith, less, inside)) (open_.2 k none behind less)
           ],
           open_.3,
         )
@@ -331,7 +332,7 @@ module _ (c : Cluster) (groups : Groups) (now : ℕ) (booked : List Booking) (or
         let none : Left = record { host = 0; rests = [] } in
         elim (cases_lt k were.from) [
           | inl below ↦ were.none k d below
-          | inr behind ↦ full_takes job free k d none (omega (arith, inside, long)) (open_ k none behind (omega (arith, inside, long)))
+          | inr behind ↦ full_takes job there free k d none (omega (arith, inside, long)) (open_ k none behind (omega (arith, inside, long)))
         ]
 
     module _ (items : List ℕ) (same : items ≡ room.vacant) (index : ℕ) (were : ArePassedBy job (drop index room.vacant)) where
@@ -360,9 +361,9 @@ module _ (c : Cluster) (groups : Groups) (now : ℕ) (booked : List Booking) (or
       pub passed_end : length items ≤ index → (k : ℕ) (d : InstanceId) → k < length order → takes_one c groups job booked now (slice_index_or order k d) ≡ false
       passed_end past = passed_all (drop index room.vacant) (ap (λ xs. drop index xs) (sym same) ∙ drop_of_length-le items past) were
 
-  -- where no place is vacant, no instance takes a slot of a job that asks for one
-  pub none_open : room.vacant ≡ [] → (job : Job) → (job.advance == 0) ≡ true → list_any (takes_one c groups job booked now) order ≡ false
-  none_open none job free = none_any (takes_one c groups job booked now) order (passed_all job free room.vacant none (passed_none job free))
+  -- where no place is vacant, no instance takes a slot of a job of the table
+  pub none_open : room.vacant ≡ [] → (job : Job) → IsInTable c job → (job.advance == 0) ≡ true → list_any (takes_one c groups job booked now) order ≡ false
+  none_open none job there free = none_any (takes_one c groups job booked now) order (passed_all job there free room.vacant none (passed_none job there free))
 
 -- hosts that are kept
 
@@ -370,7 +371,7 @@ each_at : {X : Type 0} (P : X → Type 0) (xs : List X) → ((k : ℕ) (d : X) �
 each_at P [] all = tt
 each_at P (x ∷ xs) all = (all 0 x (omega arith), each_at P xs (λ k d less. all (suc k) d (omega (arith, less))))
 
-module _ (c : Cluster) (groups : Groups) (now moment : ℕ) (booked : List Booking) (job : Job) (on : goes_on c moment ≡ true) (free : (job.advance == 0) ≡ true) where
+module _ (c : Cluster) (groups : Groups) (now moment : ℕ) (booked : List Booking) (job : Job) (there : IsInTable c job) (on : goes_on c moment ≡ true) (free : (job.advance == 0) ≡ true) where
   -- at the moment of the run by what is known to be left, at another by what is booked there
   refused_at : (at : InstanceId) (rests : List Rest) (asked : List Counted) → All (IsLeft c groups now booked at) rests → All (IsAsked c groups job) asked → are_short_at now booked moment asked rests ≡ true
       → takes_one c groups job booked moment at ≡ false
@@ -378,10 +379,10 @@ module _ (c : Cluster) (groups : Groups) (now moment : ℕ) (booked : List Booki
       elim (cases_Bool (moment == now)) [
         | inl this ↦
             let same : moment ≡ now = eqb-true moment now this in
-            refused_short c groups moment booked job at on free rests asked (subst (λ n. All (IsLeft c groups n booked at) rests) (sym same) left) is
+            refused_short c groups moment booked job at on free rests asked there (subst (λ n. All (IsLeft c groups n booked at) rests) (sym same) left) is
             (sym (cond-true (moment == now) (are_short asked rests) (are_short_then booked moment asked rests) this) ∙ short)
         | inr other ↦
-            refused_then c groups moment booked job at on free now booked rests asked left is
+            refused_then c groups moment booked job at on free now booked rests asked there left is
             (sym (cond-false (moment == now) (are_short asked rests) (are_short_then booked moment asked rests) other) ∙ short)
       ]
 

@@ -19,6 +19,7 @@ use Rattle.ge_model_place.specs.Placement.{placement_of}
 use Rattle.ge_model_place.specs.Running.{is_reserve, may_reserve, decide, run_of}
 use Rattle.ge_model_place.specs.Windows.{base_bookings}
 use Rattle.ge_scheduling.specs.declared.basis.Basis.{Basis}
+use Rattle.ge_scheduling.specs.Amounts.{IsInTable}
 use Rattle.ge_scheduling.specs.Bases.{asks_to_keep, may_keep, IsBasis, AllWait}
 use Rattle.ge_scheduling.proofs.Kept.{must_each_wait, weighed_decides}
 use Rattle.ge_scheduling.proofs.LeftOut.{nothing_placed, none_vacant}
@@ -48,7 +49,7 @@ module _ (c : Cluster) (reserved : ℕ) (none : may_keep c reserved ≡ false) w
   still_many : (decisions : List Decision) (task : TaskId) → reserved ≤ count_by is_reserve decisions → reserved ≤ count_by is_reserve (decisions ++ Skip task ∷ [])
   still_many decisions task many = let pushed = sum_by_push (λ x. cond (is_reserve x) 1 0) decisions (Skip task) in omega (arith, many, pushed)
 
-  module _ (groups : Groups) (order : List InstanceId) (now : ℕ) (booked : List Booking) (nowhere : (job : Job) → placement_of c groups order booked job now ≡ None) where
+  module _ (groups : Groups) (order : List InstanceId) (now : ℕ) (booked : List Booking) (nowhere : (job : Job) → IsInTable c job → placement_of c groups order booked job now ≡ None) where
     one_waits : (decisions : List Decision) → reserved ≤ count_by is_reserve decisions → (task : TaskId) → decide c groups order now (booked, decisions) task ≡ (booked, decisions ++ Skip task ∷ [])
     one_waits decisions many task =
         sym (weighed_decides c groups order now booked booked decisions (decisions ++ Skip task ∷ []) task (Skip task)
@@ -67,7 +68,7 @@ module _ (c : Cluster) (basis : Basis) (is : IsBasis c basis) (none_left : basis
   pub all_waiting : AllWait c basis.moment
   unfolding run_of
   all_waiting tasks =
-      let here = each_waits c 0 none_kept basis.groups basis.order basis.moment basis.booked (nothing_placed c basis.groups basis.moment basis.booked basis.order (none_vacant c basis.groups basis.moment basis.booked basis.order (sym none_left ∙ is.left)) no_advances) [] (omega arith) tasks in
+      let here = each_waits c 0 none_kept basis.groups basis.order basis.moment basis.booked (λ job _. nothing_placed c basis.groups basis.moment basis.booked basis.order job (none_vacant c basis.groups basis.moment basis.booked basis.order (sym none_left ∙ is.left) job) no_advances) [] (omega arith) tasks in
       sym ((λ i. run_by basis.groups (is.ordered i) (is.taken i)) ∙ (λ i. run_by (is.spelled i) (instance_order c (is.spelled i)) (base_bookings c (is.spelled i) basis.moment))) ∙ here
     where
       run_by : Groups → List InstanceId → List Booking → List Decision

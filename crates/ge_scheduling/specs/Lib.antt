@@ -4,6 +4,7 @@ pub mod KindNotes
 pub mod Vacant
 pub mod Bases
 pub mod Common
+pub mod Amounts
 pub mod Rests
 pub mod Passing
 pub mod Sooner

@@ -1,5 +1,5 @@
 -- What is left at the moment of a run of an instance's slots and of its host's values, at most.
-use Rattle.std.specs.Prelude.{◌≡◌, ℕ, ◌+◌, ◌-◌, ◌≤◌, ◌<◌, ◌==◌, Bool, true, false, ◌&&◌, ◌||◌, nat_lt, cond, min, All, List, [], ◌∷◌, map, length, slice_index_or, Option, Some, None, unwrap_or}
+use Rattle.std.specs.Prelude.{◌≡◌, ℕ, ◌+◌, ◌-◌, ◌≤◌, ◌<◌, ◌==◌, Bool, true, false, ◌&&◌, ◌||◌, nat_lt, cond, min, All, List, [], ◌∷◌, map, length, slice_index_or, Option, Some, None}
 use Rattle.std.specs.List.{list_any}
 use Rattle.ge_collections.specs.Keyed.{text_eq, at_text}
 use Rattle.ge_model_bookings.specs.Bookings.{plain_sum}
@@ -9,7 +9,7 @@ use Rattle.ge_model_rows.specs.JobRows.{Job}
 use Rattle.ge_model_rows.specs.ScheduleRows.{LimitId, Instance, Host, Global, Pe, Quota, Booking}
 use Rattle.ge_model_rows.specs.ScheduleRows.{Advance as Booked}
 use Rattle.ge_model_place.specs.Demands.{counts_for}
-use Rattle.ge_model_place.specs.Limits.{greatest_demand, capacity_of, consumables, per_slot, resource_of}
+use Rattle.ge_model_place.specs.Limits.{greatest_demand, capacity_of, consumables, resource_of}
 use Rattle.ge_model_place.specs.Opening.{is_open}
 use Rattle.ge_model_place.specs.Windows.{next_moment}
 use Rattle.ge_timeline.specs.Looks.{window_peak}
@@ -17,27 +17,25 @@ use Rattle.ge_demands.specs.declared.counting.Counted.{Counted}
 use Rattle.ge_scheduling.specs.declared.rests.Rest.{Rest}
 use Rattle.ge_scheduling.specs.declared.rests.Left.{Left}
 use Rattle.ge_scheduling.specs.declared.rests.Room.{Room}
+use Rattle.ge_scheduling.specs.Amounts.{IsLeast, number_in}
 use Rattle.ge_scheduling.specs.Vacant.{goes_on, slots_of}
 
--- what is left of a limit, of which no task takes less than the least
+-- what is left of a limit, of which no task of a job of the table takes less than the least
 abbrev pub rest_of : Cluster → Groups → ℕ → List Booking → LimitId → ℕ → Rest
 rest_of c groups now booked limit least =
     record { limit = limit; resource = resource_of limit; there = capacity_of c groups limit; most = capacity_of c groups limit - window_peak booked limit now (next_moment now); least = least }
 
-abbrev pub host_rests : Cluster → Groups → ℕ → List Booking → List ℕ → Option HostRow → List Rest
-host_rests c groups now booked host None = []
-host_rests c groups now booked host (Some row) = map (λ name. rest_of c groups now booked (Host host name) 0) (consumables c row.values)
+abbrev pub host_rests : Cluster → Groups → ℕ → List Booking → List (List ℕ × ℕ) → List ℕ → Option HostRow → List Rest
+host_rests c groups now booked amounts host None = []
+host_rests c groups now booked amounts host (Some row) = map (λ name. rest_of c groups now booked (Host host name) (number_in amounts name)) (consumables c row.values)
 
--- of the slots of an instance, of which each task takes one, and of the values of its host: host_conf, complex_values
-abbrev pub rests_at : Cluster → Groups → ℕ → List Booking → InstanceId → List Rest
-rests_at c groups now booked at = rest_of c groups now booked (slots_of at) 1 ∷ host_rests c groups now booked at.host (at_text c.hosts at.host)
+-- of the slots of an instance, of which each task takes one, and of the values of its host, of which the least that is asked is in a table: host_conf, complex_values
+abbrev pub rests_at : Cluster → Groups → ℕ → List Booking → List (List ℕ × ℕ) → InstanceId → List Rest
+rests_at c groups now booked amounts at = rest_of c groups now booked (slots_of at) 1 ∷ host_rests c groups now booked amounts at.host (at_text c.hosts at.host)
 
--- the number of a host, and what is left at an instance with that of its host
-abbrev pub number_in : List (List ℕ × ℕ) → List ℕ → ℕ
-number_in hosts host = unwrap_or (at_text hosts host) 0
-
-abbrev pub numbered_at : Cluster → Groups → ℕ → List Booking → List (List ℕ × ℕ) → InstanceId → Left
-numbered_at c groups now booked hosts at = record { host = number_in hosts at.host; rests = rests_at c groups now booked at }
+-- what is left at an instance, with the number of its host
+abbrev pub numbered_at : Cluster → Groups → ℕ → List Booking → List (List ℕ × ℕ) → List (List ℕ × ℕ) → InstanceId → Left
+numbered_at c groups now booked amounts hosts at = record { host = number_in hosts at.host; rests = rests_at c groups now booked amounts at }
 
 -- whether a limit counts a resource by its name
 abbrev pub is_of : LimitId → List ℕ → Bool
@@ -83,7 +81,7 @@ are_short_then booked moment asked rests = list_any (is_short_then booked moment
 abbrev pub are_short_at : ℕ → List Booking → ℕ → List Counted → List Rest → Bool
 are_short_at now booked moment asked rests = cond (moment == now) (are_short asked rests) (are_short_then booked moment asked rests)
 
--- whether too little is left at an instance for any task
+-- whether too little is left at an instance for any task of a job of the table
 abbrev pub is_full : Cluster → ℕ → Left → Bool
 is_full c now left = goes_on c now && are_short [] left.rests
 
@@ -112,13 +110,13 @@ pub record AreNumbered (number : List ℕ → ℕ) (order : List InstanceId) (re
   pub each : (k : ℕ) (at : InstanceId) (none : Left) → k < length order → (slice_index_or rests k none).host ≡ number (slice_index_or order k at).host
 
 module _ (c : Cluster) (groups : Groups) (now : ℕ) (booked : List Booking) where
-  -- no more of a resource is left of a limit that each job counts for to which the instance is open and that is sent into no reservation
+  -- no more of a resource is left of a limit that each job counts for to which the instance is open and that is sent into no reservation; none of the table takes less than the least
   pub record IsLeft (at : InstanceId) (rest : Rest) : Type 0 where
     pub of_it : resource_of rest.limit ≡ rest.resource
     pub counts : (job : Job) → is_open c groups job at ≡ true → (job.advance == 0) ≡ true → counts_for c groups job rest.limit (record { at = at; slots = 1 }) ≡ true
     pub whole : rest.there ≡ capacity_of c groups rest.limit
     pub within : capacity_of c groups rest.limit ≤ plain_sum booked rest.limit now + rest.most
-    pub least : (job : Job) → rest.least ≤ min (per_slot c job (resource_of rest.limit)) greatest_demand
+    pub least : IsLeast c (resource_of rest.limit) rest.least
 
   -- for each instance what is left there, and where something may be
   pub record AreLeft (order : List InstanceId) (room : Room) : Type 0 where

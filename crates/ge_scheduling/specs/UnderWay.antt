@@ -26,7 +26,7 @@ pub record IsUnderWay (c : Cluster) (run : Run) : Type 0 where
   pub waits : IfSome run.so_far.passed (Waits c run.groups run.order run.moment run.so_far.booked run.so_far.decisions)
   pub left : AreLeft c run.groups run.moment run.so_far.booked run.order run.so_far.room
 
--- whether no more tasks can start or have slots kept: no instance has a slot left, and there is no reservation that a job may be sent into
+-- whether no more tasks can start or have slots kept: no instance has enough left for any job, and there is no reservation that a job may be sent into
 abbrev pub leaves_nothing : Cluster → Run → Bool
 leaves_nothing c run = is_empty run.so_far.room.vacant && is_empty c.advances && not (may_keep c run.so_far.tally.reserved)
 

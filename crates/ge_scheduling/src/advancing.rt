@@ -65,7 +65,8 @@ fn is_passed(passed: Option<u32>, number: u32) -> bool
     }
 }
 
-// Whether no task of a job may have slots kept, and none can start: no slot is left, or the job's kind is noted.
+// Whether no task of a job may have slots kept, and none can start: no instance has enough left for any job, or the job's kind
+// is noted.
 fn is_shut(at: &Setting<'_>, so_far: &Progress, number: u32) -> bool
     requires { Follows at.now.cluster.now at.now.groups.now at.now.order.now
         at.now.moment at.now.kinds.now.entries so_far.now.booked so_far.now.decisions

@@ -2,6 +2,7 @@
 ghost use Rattle.std.specs.Prelude.{◌≡◌, Some, IfOk, All};
 ghost use Rattle.ge_collections.specs.Keyed.{at_number};
 ghost use Rattle.ge_model_place.specs.Running.{start_with as started};
+ghost use Rattle.ge_scheduling.specs.Amounts.{IsInTable};
 ghost use Rattle.ge_scheduling.specs.Common.{IsAsked};
 ghost use Rattle.ge_scheduling.specs.Counts.{is_over, may_be_reserved};
 ghost use Rattle.ge_scheduling.specs.Rests.{AreLeft};
@@ -45,6 +46,7 @@ fn keep_waiting(
     job: &Job,
     task: TaskId,
 ) -> Result<Decision, AllocError>
+    requires there { IsInTable at.now.cluster.now job.now }
     requires left { AreLeft at.now.cluster.now at.now.groups.now at.now.moment booked.now
         at.now.order.now room.now }
     requires asked { All (IsAsked at.now.cluster.now at.now.groups.now job.now) asked.now }
@@ -69,7 +71,8 @@ fn decision_for(
     job: &Job,
     task: TaskId,
 ) -> Result<Decision, AllocError>
-    requires { AreLeft at.now.cluster.now at.now.groups.now at.now.moment booked.now
+    requires there { IsInTable at.now.cluster.now job.now }
+    requires left { AreLeft at.now.cluster.now at.now.groups.now at.now.moment booked.now
         at.now.order.now room.now }
     ensures { IfOk result (λ decision. decision
         ≡ decision_by at.now.cluster.now at.now.groups.now at.now.order.now at.now.moment

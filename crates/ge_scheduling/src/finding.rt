@@ -3,6 +3,7 @@ ghost use Rattle.std.specs.Prelude.{◌≡◌, ℕ, ◌≤◌, ◌<◌, ◌==◌
 ghost use Rattle.ge_model_place.specs.Placement.{are_admissible, placement_of};
 ghost use Rattle.ge_model_place.specs.Runs.{one_slot};
 ghost use Rattle.ge_model_rows.specs.HostRows.{InstanceId as Instance};
+ghost use Rattle.ge_scheduling.specs.Amounts.{IsInTable};
 ghost use Rattle.ge_scheduling.specs.Common.{IsAsked};
 ghost use Rattle.ge_scheduling.specs.Rests.{IsLeft, AreLeft};
 ghost use Rattle.ge_scheduling.specs.Vacant.{goes_on as has_moment};
@@ -27,6 +28,7 @@ fn may_take(
 ) -> Result<bool, AllocError>
     requires goes_on { has_moment at.now.cluster.now at.now.moment ≡ true }
     requires free { (job.now.advance == 0) ≡ true }
+    requires there { IsInTable at.now.cluster.now job.now }
     requires left { All (IsLeft at.now.cluster.now at.now.groups.now at.now.moment _booked.now
         instance.now) rests.now }
     requires asked { All (IsAsked at.now.cluster.now at.now.groups.now job.now) asked.now }
@@ -51,6 +53,7 @@ pub(crate) fn has_candidate(
 ) -> Result<bool, AllocError>
     requires goes_on { has_moment at.now.cluster.now at.now.moment ≡ true }
     requires free { (job.now.advance == 0) ≡ true }
+    requires there { IsInTable at.now.cluster.now job.now }
     requires left { AreLeft at.now.cluster.now at.now.groups.now at.now.moment booked.now
         at.now.order.now room.now }
     requires asked { All (IsAsked at.now.cluster.now at.now.groups.now job.now) asked.now }

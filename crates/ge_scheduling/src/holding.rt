@@ -1,6 +1,6 @@
 // Where values of hosts are, and numbers of hosts.
 ghost use Rattle.std.specs.Prelude.{◌≡◌};
-ghost use Rattle.ge_scheduling.specs.Rests.{number_in};
+ghost use Rattle.ge_scheduling.specs.Amounts.{number_in};
 
 use ge_rows::{Cluster, InstanceId, Table, Text, Twin};
 use std::alloc::{AllocError, Global};

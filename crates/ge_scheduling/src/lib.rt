@@ -6,7 +6,8 @@
 //!
 //! - `setting`: what stays the same during a run. `counting`: what is counted of the decisions so far. `kinds`: the kinds of jobs
 //!   of which no task can start any more. `vacancy`: the instances that have a slot left.
-//! - `rests`: what is left at each instance, and where nothing is. `holding`: where each value of hosts is; hosts' numbers.
+//! - `rests`: what is left at each instance, and where too little is for any job. `amounts`: what any job asks of values of
+//!   hosts, at least. `holding`: where each value of hosts is; hosts' numbers.
 //! - `asking`: what one slot of a job asks of limits, and which of them count at whatever instance.
 //! - `finding`: whether an instance may take a slot now. `single`: the start of a task that takes one slot. `thinning`: a
 //!   placement over hosts alone at which something may be placed. `placing`: the placement of a task, now and later.
@@ -19,6 +20,7 @@
 #![tactic(auto)]
 
 mod advancing;
+mod amounts;
 mod asking;
 mod basis;
 mod bookings;

@@ -1,6 +1,7 @@
 // Where a task is placed, now and later. What a look at numbers alone rules out isn't tried.
 ghost use Rattle.std.specs.Prelude.{◌≡◌, ◌==◌, true, IfOk, All};
 ghost use Rattle.ge_model_place.specs.Placement.{placement_of};
+ghost use Rattle.ge_scheduling.specs.Amounts.{IsInTable};
 ghost use Rattle.ge_scheduling.specs.Common.{IsAsked};
 ghost use Rattle.ge_scheduling.specs.Rests.{AreLeft};
 ghost use Rattle.ge_scheduling.specs.Vacant.{goes_on as has_moment};
@@ -29,6 +30,7 @@ fn place_together(
 ) -> Result<Option<List<Grant>>, AllocError>
     requires goes_on { has_moment at.now.cluster.now at.now.moment ≡ true }
     requires free { (job.now.advance == 0) ≡ true }
+    requires there { IsInTable at.now.cluster.now job.now }
     requires left { AreLeft at.now.cluster.now at.now.groups.now at.now.moment booked.now
         at.now.order.now room.now }
     requires asked { All (IsAsked at.now.cluster.now at.now.groups.now job.now) asked.now }
@@ -56,6 +58,7 @@ fn place_left(
 ) -> Result<Option<List<Grant>>, AllocError>
     requires goes_on { has_moment at.now.cluster.now at.now.moment ≡ true }
     requires free { (job.now.advance == 0) ≡ true }
+    requires there { IsInTable at.now.cluster.now job.now }
     requires left { AreLeft at.now.cluster.now at.now.groups.now at.now.moment booked.now
         at.now.order.now room.now }
     requires asked { All (IsAsked at.now.cluster.now at.now.groups.now job.now) asked.now }
@@ -84,6 +87,7 @@ pub(crate) fn place_now(
     asked: &List<Counted>,
     job: &Job,
 ) -> Result<Option<List<Grant>>, AllocError>
+    requires there { IsInTable at.now.cluster.now job.now }
     requires left { AreLeft at.now.cluster.now at.now.groups.now at.now.moment booked.now
         at.now.order.now room.now }
     requires asked { All (IsAsked at.now.cluster.now at.now.groups.now job.now) asked.now }
@@ -114,6 +118,7 @@ pub(crate) fn place_then(
     job: &Job,
     moment: u64,
 ) -> Result<Option<List<Grant>>, AllocError>
+    requires there { IsInTable at.now.cluster.now job.now }
     requires left { AreLeft at.now.cluster.now at.now.groups.now at.now.moment booked.now
         at.now.order.now room.now }
     requires asked { All (IsAsked at.now.cluster.now at.now.groups.now job.now) asked.now }

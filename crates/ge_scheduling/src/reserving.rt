@@ -1,5 +1,6 @@
 // Slots that are kept for a task which can't start now.
 ghost use Rattle.std.specs.Prelude.{◌≡◌, Some, IfOk, All};
+ghost use Rattle.ge_scheduling.specs.Amounts.{IsInTable};
 ghost use Rattle.ge_scheduling.specs.Common.{IsAsked};
 ghost use Rattle.ge_scheduling.specs.Rests.{AreLeft};
 ghost use Rattle.ge_scheduling.specs.Verdicts.{reserved as reserved_for};
@@ -23,6 +24,7 @@ pub(crate) fn reserve(
     job: &Job,
     task: TaskId,
 ) -> Result<Decision, AllocError>
+    requires there { IsInTable at.now.cluster.now job.now }
     requires left { AreLeft at.now.cluster.now at.now.groups.now at.now.moment booked.now
         at.now.order.now room.now }
     requires asked { All (IsAsked at.now.cluster.now at.now.groups.now job.now) asked.now }

@@ -5,9 +5,11 @@ ghost use Rattle.ge_model_bookings.specs.Bookings.{same_instance};
 ghost use Rattle.ge_model_value.specs.Complexes.{is_consumable as is_consumed};
 ghost use Rattle.ge_model_place.specs.Limits.{consumables, resource_of};
 ghost use Rattle.ge_model_rows.specs.ScheduleRows.{Host};
+ghost use Rattle.ge_scheduling.specs.Amounts.{number_in};
 ghost use Rattle.ge_scheduling.specs.Rests.{rest_of as left_of, rests_at as left_at, numbered_at, renewed_rest, renewed_left, is_full as full_at, AreOpen, is_of, asks_more as more_than, is_short as short_of, is_short_now as short_now, are_short as all_short_of, left_then as rest_then, is_short_then as short_then, are_short_then as all_short_then, are_short_at as all_short_at, AreLeft};
 ghost use Rattle.ge_scheduling.specs.Vacant.{slots_of};
 
+use crate::amounts::{LeastAmounts, least_amounts, least_in};
 use crate::holding::{HostNumbers, hosts_of, number_of};
 use crate::setting::Setting;
 use crate::vacancy::{goes_on, slots_at};
@@ -29,7 +31,7 @@ pub(crate) struct Rest {
     pub(crate) there: u128,
     /// No more is left now.
     pub(crate) most: u128,
-    /// No task that counts for it takes less.
+    /// No task of a job of the table that counts for it takes less.
     pub(crate) least: u128,
 }
 
@@ -93,15 +95,17 @@ fn value_left(
     alloc: Global,
     at: &Setting<'_>,
     booked: &Timeline,
+    amounts: &LeastAmounts,
     host: &Text,
     name: &Text,
 ) -> Result<Rest, AllocError>
     ensures { IfOk result (λ rest. rest ≡ left_of at.now.cluster.now at.now.groups.now
-        at.now.moment booked.now (Host host.now name.now) 0) }
+        at.now.moment booked.now (Host host.now name.now) (number_in amounts.now name.now)) }
 {
+    let least = u128::from(least_in(amounts, name));
     let (host, name, resource) = twins3(alloc, host, name, name)?;
     let limit = LimitId::Host(host, name);
-    let rest = rest_of(alloc, at, booked, limit, resource, 0)?;
+    let rest = rest_of(alloc, at, booked, limit, resource, least)?;
     Ok(rest)
 }
 
@@ -109,18 +113,19 @@ fn add_value(
     alloc: Global,
     at: &Setting<'_>,
     booked: &Timeline,
+    amounts: &LeastAmounts,
     host: &Text,
     rests: &mut List<Rest>,
     name: &Text,
 ) -> Result<(), AllocError>
     ensures { OnOk result (rests.new ≡ rests.old ++ map (λ name. left_of at.now.cluster.now
-        at.now.groups.now at.now.moment booked.now (Host host.now name) 0)
-        (filter (is_consumed at.now.cluster.now) (name.now ∷ []))) }
+        at.now.groups.now at.now.moment booked.now (Host host.now name)
+        (number_in amounts.now name)) (filter (is_consumed at.now.cluster.now) (name.now ∷ []))) }
 {
     if !is_consumable(at.cluster, name) {
         return Ok(());
     }
-    let rest = value_left(alloc, at, booked, host, name)?;
+    let rest = value_left(alloc, at, booked, amounts, host, name)?;
     rests.push(rest)
 }
 
@@ -128,16 +133,17 @@ fn add_values(
     alloc: Global,
     at: &Setting<'_>,
     booked: &Timeline,
+    amounts: &LeastAmounts,
     host: &Text,
     rests: &mut List<Rest>,
     row: &HostRow,
 ) -> Result<(), AllocError>
     ensures { OnOk result (rests.new ≡ rests.old ++ map (λ name. left_of at.now.cluster.now
-        at.now.groups.now at.now.moment booked.now (Host host.now name) 0)
-        (consumables at.now.cluster.now row.now.values)) }
+        at.now.groups.now at.now.moment booked.now (Host host.now name)
+        (number_in amounts.now name)) (consumables at.now.cluster.now row.now.values)) }
 {
     for name in row.values.keys() {
-        add_value(alloc, at, booked, host, rests, name)?;
+        add_value(alloc, at, booked, amounts, host, rests, name)?;
     }
     Ok(())
 }
@@ -146,10 +152,11 @@ fn rests_at(
     alloc: Global,
     at: &Setting<'_>,
     booked: &Timeline,
+    amounts: &LeastAmounts,
     instance: &InstanceId,
 ) -> Result<List<Rest>, AllocError>
     ensures { IfOk result (λ rests. rests ≡ left_at at.now.cluster.now at.now.groups.now
-        at.now.moment booked.now instance.now) }
+        at.now.moment booked.now amounts.now instance.now) }
 {
     let mut rests = List::new(alloc);
     let slots = slots_left(alloc, at, booked, instance)?;
@@ -157,7 +164,7 @@ fn rests_at(
     let Some(row) = at.cluster.hosts.get(&instance.host) else {
         return Ok(rests);
     };
-    add_values(alloc, at, booked, &instance.host, &mut rests, row)?;
+    add_values(alloc, at, booked, amounts, &instance.host, &mut rests, row)?;
     Ok(rests)
 }
 
@@ -165,22 +172,23 @@ fn lefts_of_all(
     alloc: Global,
     at: &Setting<'_>,
     booked: &Timeline,
+    amounts: &LeastAmounts,
     hosts: &HostNumbers,
 ) -> Result<List<Left>, AllocError>
     ensures { IfOk result (λ lefts. lefts
-        ≡ map (numbered_at at.now.cluster.now at.now.groups.now at.now.moment booked.now hosts.now)
-        at.now.order.now) }
+        ≡ map (numbered_at at.now.cluster.now at.now.groups.now at.now.moment booked.now
+        amounts.now hosts.now) at.now.order.now) }
 {
     let mut lefts = List::new(alloc);
     for instance in at.order {
         let host = number_of(hosts, &instance.host);
-        let rests = rests_at(alloc, at, booked, instance)?;
+        let rests = rests_at(alloc, at, booked, amounts, instance)?;
         lefts.push(Left { host, rests })?;
     }
     Ok(lefts)
 }
 
-// Whether too little is left at an instance for any task.
+// Whether too little is left at an instance for any task of a job of the table.
 fn is_full(at: &Setting<'_>, left: &Left) -> bool
     ensures { result ≡ full_at at.now.cluster.now at.now.moment left.now }
 {
@@ -224,8 +232,9 @@ pub(crate) fn room_at(
     ensures { IfOk result (λ room. AreLeft at.now.cluster.now at.now.groups.now at.now.moment
         booked.now at.now.order.now room) }
 {
+    let amounts = least_amounts(alloc, at)?;
     let hosts = hosts_of(alloc, at.order)?;
-    let lefts = lefts_of_all(alloc, at, booked, &hosts)?;
+    let lefts = lefts_of_all(alloc, at, booked, &amounts, &hosts)?;
     let vacant = vacant_places(alloc, at, lefts.items())?;
     Ok(Room { lefts, vacant })
 }

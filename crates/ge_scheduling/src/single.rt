@@ -3,6 +3,7 @@ ghost use Rattle.std.specs.Prelude.{◌≡◌, ◌<◌, ◌==◌, true, None, So
 ghost use Rattle.ge_model_place.specs.Placement.{are_admissible, placement_of};
 ghost use Rattle.ge_model_place.specs.Runs.{one_slot};
 ghost use Rattle.ge_model_rows.specs.HostRows.{InstanceId as Instance};
+ghost use Rattle.ge_scheduling.specs.Amounts.{IsInTable};
 ghost use Rattle.ge_scheduling.specs.Common.{IsAsked};
 ghost use Rattle.ge_scheduling.specs.Rests.{IsLeft, AreLeft};
 ghost use Rattle.ge_scheduling.specs.Vacant.{goes_on as has_moment};
@@ -38,6 +39,7 @@ fn take_at(
 ) -> Result<Option<List<Grant>>, AllocError>
     requires goes_on { has_moment at.now.cluster.now at.now.moment ≡ true }
     requires free { (job.now.advance == 0) ≡ true }
+    requires there { IsInTable at.now.cluster.now job.now }
     requires single { job.now.request.pe ≡ None }
     requires left { All (IsLeft at.now.cluster.now at.now.groups.now at.now.moment booked.now
         instance.now) left.now }
@@ -55,7 +57,7 @@ fn take_at(
 }
 
 /// The grant of a slot at the first instance that takes one now. Each is asked by itself, and only where nothing is short, so
-/// that one that refuses makes none behind it be asked. Where no slot is left none is looked at.
+/// that one that refuses makes none behind it be asked. Those with too little left for any job aren't looked at.
 pub(crate) fn place_alone(
     alloc: Global,
     at: &Setting<'_>,
@@ -66,6 +68,7 @@ pub(crate) fn place_alone(
 ) -> Result<Option<List<Grant>>, AllocError>
     requires goes_on { has_moment at.now.cluster.now at.now.moment ≡ true }
     requires free { (job.now.advance == 0) ≡ true }
+    requires there { IsInTable at.now.cluster.now job.now }
     requires single { job.now.request.pe ≡ None }
     requires left { AreLeft at.now.cluster.now at.now.groups.now at.now.moment booked.now
         at.now.order.now room.now }

@@ -1,6 +1,7 @@
 // A placement over hosts alone at which something may be placed.
 ghost use Rattle.std.specs.Prelude.{◌≡◌, ℕ, ◌==◌, ◌||◌, true, false, ◌++◌, ◌∷◌, [], cond, filter, length, IfOk, OnOk, All, List as Items};
 ghost use Rattle.ge_model_place.specs.Placement.{placement_of};
+ghost use Rattle.ge_scheduling.specs.Amounts.{IsInTable};
 ghost use Rattle.ge_scheduling.specs.Common.{IsAsked};
 ghost use Rattle.ge_scheduling.specs.Rests.{is_kept as kept_in, are_short_at as all_short_at, AreKept, AreNumbered, AreLeft};
 ghost use Rattle.ge_scheduling.specs.Vacant.{goes_on as has_moment};
@@ -115,6 +116,7 @@ pub(crate) fn place_on_hosts(
 ) -> Result<Option<List<Grant>>, AllocError>
     requires goes_on { has_moment at.now.cluster.now moment ≡ true }
     requires free { (job.now.advance == 0) ≡ true }
+    requires there { IsInTable at.now.cluster.now job.now }
     requires left { AreLeft at.now.cluster.now at.now.groups.now at.now.moment booked.now
         at.now.order.now room.now }
     requires asked { All (IsAsked at.now.cluster.now at.now.groups.now job.now) asked.now }

@@ -107,8 +107,8 @@ pub fn decide_tasks(
     })
 }
 
-/// Whether each task that isn't decided yet waits, in whatever order they are: no instance has a slot left, there is no
-/// reservation that a job may be sent into, and as many tasks have slots kept as may, or no job asks for it (sched_conf,
+/// Whether each task that isn't decided yet waits, in whatever order they are: no instance has enough left for any job, there is
+/// no reservation that a job may be sent into, and as many tasks have slots kept as may, or no job asks for it (sched_conf,
 /// `max_reservation`; qsub, `-R`).
 pub fn others_wait(cluster: &Cluster, run: &Run) -> bool
     requires { IsUnderWay cluster.now run.now }

@@ -12,7 +12,8 @@ returns-then-no_slot_is_left c = λ _.
     let so_far = c.args.so_far.now in
     let left = c.no_slot_is_left.ensures.none c.if-no_slot_is_left.true in
     none_may_start C groups order c.args.at.now.moment so_far.booked so_far.decisions so_far.tally c.args.number c.in-Some.job.now c.requires.tallied (sym c.in-Some.ensures)
-    (nothing_placed C groups c.args.at.now.moment so_far.booked order (none_open C groups c.args.at.now.moment so_far.booked order so_far.room c.requires.left left.0) left.1 c.in-Some.job.now) (sym c.if-may_reserve.ensures)
+    (nothing_placed C groups c.args.at.now.moment so_far.booked order c.in-Some.job.now
+    (none_open C groups c.args.at.now.moment so_far.booked order so_far.room c.requires.left left.0 c.in-Some.job.now (record { number = c.args.number; there = sym c.in-Some.ensures })) left.1) (sym c.if-may_reserve.ensures)
 
 pub returns : goal.returns
 returns c = λ noted.

@@ -18,4 +18,4 @@ returns-then-nothing_is_left c = λ _.
     let so_far = c.args.so_far.now in
     let left = c.nothing_is_left.ensures c.if-nothing_is_left.true in
     all_must_wait C groups order c.args.at.now.moment so_far.booked so_far.decisions so_far.tally c.args.number c.requires.tallied
-    (nothing_placed C groups c.args.at.now.moment so_far.booked order (none_open C groups c.args.at.now.moment so_far.booked order so_far.room c.requires.left left.0) left.1) left.2
+    (λ job there. nothing_placed C groups c.args.at.now.moment so_far.booked order job (none_open C groups c.args.at.now.moment so_far.booked order so_far.room c.requires.left left.0 job there) left.1) left.2

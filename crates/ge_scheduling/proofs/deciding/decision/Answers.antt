@@ -1,6 +1,9 @@
-use Rattle.std.proofs.Common.{◌≡◌, IfOk, ap, subst}
+use Rattle.std.proofs.Common.{◌≡◌, IfOk, sym, ap, subst}
 use Rattle.ge_scheduling.specs.Verdicts.{decision_at}
 use Rattle.ge_scheduling.proofs.deciding.decision.Goals as goal
+
+pub decision_for-requires-clause-there : goal.decision_for-requires-clause-there
+decision_for-requires-clause-there c = record { number = c.args.task.job; there = sym c.in-Some.ensures }
 
 pub returns-in-Some : goal.returns-in-Some
 returns-in-Some c =

@@ -5,7 +5,7 @@ use Rattle.ge_scheduling.proofs.finding.has_candidate.Goals as goal
 
 pub may_take-requires-clause-left : goal.may_take-requires-clause-left
 may_take-requires-clause-left c =
-    let here = passed_at c.args.at.now.cluster.now c.args.at.now.groups.now c.args.at.now.moment c.args.booked.now c.args.at.now.order.now c.args.room.now c.requires.left c.args.job.now c.requires.free c.items-place-items.result.now
+    let here = passed_at c.args.at.now.cluster.now c.args.at.now.groups.now c.args.at.now.moment c.args.booked.now c.args.at.now.order.now c.args.room.now c.requires.left c.args.job.now c.requires.there c.requires.free c.items-place-items.result.now
     c.items-place-items.ensures c.loop-place.place-index c.loop-place.invariant c.loop-place-test.true in
     subst (λ left. All (IsLeft c.args.at.now.cluster.now c.args.at.now.groups.now c.args.at.now.moment c.args.booked.now c.index-order-place.result) left.rests) c.index-lefts-place.is
     (left_at c.args.at.now.cluster.now c.args.at.now.groups.now c.args.at.now.moment c.args.booked.now c.args.at.now.order.now c.args.room.now c.items-lefts.result.now (slice_index_or c.items-place-items.result.now c.loop-place.place-index 0)
@@ -13,11 +13,11 @@ may_take-requires-clause-left c =
 
 pub loop-place-preserved : goal.loop-place-preserved
 loop-place-preserved c =
-    passed_more c.args.at.now.cluster.now c.args.at.now.groups.now c.args.at.now.moment c.args.booked.now c.args.at.now.order.now c.args.room.now c.requires.left c.args.job.now c.requires.free c.items-place-items.result.now c.items-place-items.ensures
+    passed_more c.args.at.now.cluster.now c.args.at.now.groups.now c.args.at.now.moment c.args.booked.now c.args.at.now.order.now c.args.room.now c.requires.left c.args.job.now c.requires.there c.requires.free c.items-place-items.result.now c.items-place-items.ensures
     c.loop-place.place-index c.loop-place.invariant c.index-order-place.result c.loop-place-test.true c.index-order-place.is (c.in_ok-may_take.ensures c.if-branch.false)
 
 pub returns : goal.returns
 returns c = λ _.
     let past = c.loop-place-test.false in
-    passed_end c.args.at.now.cluster.now c.args.at.now.groups.now c.args.at.now.moment c.args.booked.now c.args.at.now.order.now c.args.room.now c.requires.left c.args.job.now c.requires.free c.items-place-items.result.now c.items-place-items.ensures
+    passed_end c.args.at.now.cluster.now c.args.at.now.groups.now c.args.at.now.moment c.args.booked.now c.args.at.now.order.now c.args.room.now c.requires.left c.args.job.now c.requires.there c.requires.free c.items-place-items.result.now c.items-place-items.ensures
     c.loop-place.place-index c.loop-place.invariant (omega (arith, past))

@@ -11,7 +11,7 @@ pub returns-then-are_short : goal.returns-then-are_short
 returns-then-are_short c =
     sym (cond-false (takes_one c.args.at.now.cluster.now c.args.at.now.groups.now c.args.job.now c.args.booked.now c.args.at.now.moment c.args.instance.now) (Some (one_slot c.args.instance.now)) None
     (refused_short c.args.at.now.cluster.now c.args.at.now.groups.now c.args.at.now.moment c.args.booked.now c.args.job.now c.args.instance.now c.requires.goes_on c.requires.free c.args.left.now c.args.asked.now
-    c.requires.left c.requires.asked
+    c.requires.there c.requires.left c.requires.asked
     (ap (λ asked. are_short asked c.args.left.now) (sym c.items.ensures) ∙ ap (λ rests. are_short c.items.result.now rests) (sym c.items-2.ensures) ∙ sym c.are_short.ensures ∙ c.if-are_short.true)))
 
 pub returns : goal.returns

@@ -19,5 +19,5 @@ returns c =
     let left = c.in_ok-instances.ensures are.number (subst (λ lefts. AreNumbered are.number order lefts) (sym c.items-lefts.ensures) are.hosts) in
     c.in_ok-grants.ensures
     ∙ ap (λ ats. placement_of C groups ats booked c.args.job.now c.args.moment) c.items-order.ensures
-    ∙ placed_on_hosts C groups c.args.at.now.moment c.args.moment booked c.args.job.now c.requires.goes_on c.requires.free c.args.asked.now order c.in_ok-instances.instances c.args.room.now c.in_ok-kept.kept are
+    ∙ placed_on_hosts C groups c.args.at.now.moment c.args.moment booked c.args.job.now c.requires.there c.requires.goes_on c.requires.free c.args.asked.now order c.in_ok-instances.instances c.args.room.now c.in_ok-kept.kept are
     c.requires.asked kept left
