@@ -1,5 +1,6 @@
 -- What is left at the moment of a run of an instance's slots and of its host's values, at most.
-use Rattle.std.specs.Prelude.{◌≡◌, ℕ, ◌+◌, ◌-◌, ◌≤◌, ◌<◌, ◌==◌, Bool, true, false, ◌&&◌, ◌||◌, nat_lt, cond, min, All, List, [], ◌∷◌, map, length, slice_index_or, Option, Some, None}
+use Rattle.std.specs.Prelude.{◌≡◌, ℕ, ◌+◌, ◌-◌, ◌≤◌, ◌<◌, ◌==◌, Bool, true, false, ◌&&◌, ◌||◌, nat_lt, nat_le, cond, min, All, List, [], ◌∷◌, map, length, slice_get, slice_index_or, Option, Some, None, IfSome}
+use Rattle.std.specs.Option.{option_or}
 use Rattle.std.specs.List.{list_any}
 use Rattle.ge_collections.specs.Keyed.{text_eq, at_text}
 use Rattle.ge_model_bookings.specs.Bookings.{plain_sum}
@@ -11,13 +12,14 @@ use Rattle.ge_model_rows.specs.ScheduleRows.{Advance as Booked}
 use Rattle.ge_model_place.specs.Demands.{counts_for}
 use Rattle.ge_model_place.specs.Limits.{greatest_demand, capacity_of, consumables, resource_of}
 use Rattle.ge_model_place.specs.Opening.{is_open}
-use Rattle.ge_model_place.specs.Windows.{next_moment}
+use Rattle.ge_model_place.specs.Windows.{next_moment, window_end_from}
 use Rattle.ge_timeline.specs.Looks.{window_peak}
 use Rattle.ge_demands.specs.declared.counting.Counted.{Counted}
 use Rattle.ge_scheduling.specs.declared.rests.Rest.{Rest}
 use Rattle.ge_scheduling.specs.declared.rests.Left.{Left}
 use Rattle.ge_scheduling.specs.declared.rests.Room.{Room}
-use Rattle.ge_scheduling.specs.Amounts.{IsLeast, number_in}
+use Rattle.ge_scheduling.specs.Amounts.{IsInTable, IsLeast, number_in}
+use Rattle.ge_scheduling.specs.Closing.{lacks_one, IsClosed}
 use Rattle.ge_scheduling.specs.Vacant.{goes_on, slots_of}
 
 -- what is left of a limit, of which no task of a job of the table takes less than the least
@@ -33,9 +35,10 @@ host_rests c groups now booked amounts host (Some row) = map (λ name. rest_of c
 abbrev pub rests_at : Cluster → Groups → ℕ → List Booking → List (List ℕ × ℕ) → InstanceId → List Rest
 rests_at c groups now booked amounts at = rest_of c groups now booked (slots_of at) 1 ∷ host_rests c groups now booked amounts at.host (at_text c.hosts at.host)
 
--- what is left at an instance, with the number of its host
-abbrev pub numbered_at : Cluster → Groups → ℕ → List Booking → List (List ℕ × ℕ) → List (List ℕ × ℕ) → InstanceId → Left
-numbered_at c groups now booked amounts hosts at = record { host = number_in hosts at.host; rests = rests_at c groups now booked amounts at }
+-- what is left at an instance before any decision, with the number of its host, and whether it lacks a name of some
+abbrev pub left_first : Cluster → Groups → ℕ → List Booking → List (List ℕ × ℕ) → List (List ℕ × ℕ) → List (List ℕ) → InstanceId → Left
+left_first c groups now booked amounts hosts names at =
+    record { host = number_in hosts at.host; closed = lacks_one c groups names at; rests = rests_at c groups now booked amounts at; kept_from = None; blocked = None }
 
 -- whether a limit counts a resource by its name
 abbrev pub is_of : LimitId → List ℕ → Bool
@@ -64,12 +67,9 @@ are_short asked rests = list_any (is_short_now asked) rests
 abbrev pub left_then : List Booking → ℕ → Rest → ℕ
 left_then booked moment rest = rest.there - window_peak booked rest.limit moment (next_moment moment)
 
--- what is left of it taken anew, at an instance too
+-- what is left of it taken anew
 abbrev pub renewed_rest : ℕ → List Booking → Rest → Rest
 renewed_rest now booked rest = record rest { most = left_then booked now rest }
-
-abbrev pub renewed_left : ℕ → List Booking → Left → Left
-renewed_left now booked left = record left { rests = map (renewed_rest now booked) left.rests }
 
 abbrev pub is_short_then : List Booking → ℕ → List Counted → Rest → Bool
 is_short_then booked moment asked rest = nat_lt (left_then booked moment rest) rest.least || is_short asked rest.resource (left_then booked moment rest)
@@ -81,9 +81,51 @@ are_short_then booked moment asked rests = list_any (is_short_then booked moment
 abbrev pub are_short_at : ℕ → List Booking → ℕ → List Counted → List Rest → Bool
 are_short_at now booked moment asked rests = cond (moment == now) (are_short asked rests) (are_short_then booked moment asked rests)
 
--- whether too little is left at an instance for any task of a job of the table
-abbrev pub is_full : Cluster → ℕ → Left → Bool
-is_full c now left = goes_on c now && are_short [] left.rests
+-- whether a moment is known that comes before another
+abbrev pub comes_before : Option ℕ → Option ℕ → Bool
+comes_before None until = false
+comes_before (Some moment) None = false
+comes_before (Some moment) (Some until) = nat_lt moment until
+
+-- whether a moment at which too little is left at a place comes before another
+abbrev pub blocked_there : Option Left → ℕ → Bool
+blocked_there None until = false
+blocked_there (Some left) until = comes_before left.blocked (Some until)
+
+abbrev pub blocked_in : List Left → ℕ → ℕ → Bool
+blocked_in lefts until place = blocked_there (slice_get lefts place) until
+
+-- whether a moment comes before one that may be known
+abbrev pub comes_sooner : ℕ → Option ℕ → Bool
+comes_sooner moment None = true
+comes_sooner moment (Some other) = nat_lt moment other
+
+-- a moment at which too little is left for any job of the table, or one that is known
+abbrev pub blocked_with : ℕ → List Booking → List Rest → ℕ → Option ℕ → Option ℕ
+blocked_with now booked rests moment known = cond (nat_le now moment && comes_sooner moment known && are_short_then booked moment [] rests) (Some moment) known
+
+abbrev pub blocked_since : ℕ → List Booking → List Rest → Option ℕ → Option ℕ → Option ℕ
+blocked_since now booked rests None known = known
+blocked_since now booked rests (Some moment) known = blocked_with now booked rests moment known
+
+-- the first moment from which slots are kept
+abbrev pub kept_with : Option ℕ → Option ℕ → Option ℕ
+kept_with None before = before
+kept_with (Some moment) None = Some moment
+kept_with (Some moment) (Some before) = Some (min moment before)
+
+-- what is left at an instance taken anew, after a start or after slots were kept from a moment on
+abbrev pub renewed_left : ℕ → List Booking → Option ℕ → Left → Left
+renewed_left now booked kept left =
+    record left {
+      rests = map (renewed_rest now booked) left.rests;
+      kept_from = kept_with kept left.kept_from;
+      blocked = blocked_since now booked (map (renewed_rest now booked) left.rests) (option_or kept left.kept_from) left.blocked;
+    }
+
+-- whether no task of a job of the table can take a slot at an instance: it is closed to all, too little is left, or too little will be before any window ends
+abbrev pub is_full : Cluster → ℕ → Option ℕ → Left → Bool
+is_full c now until left = goes_on c now && (left.closed || comes_before left.blocked until || are_short [] left.rests)
 
 -- these places rise from one to an end, and at the others between them nothing is left
 abbrev pub AreOpen : (Left → Bool) → List Left → ℕ → ℕ → List ℕ → Type 0
@@ -118,10 +160,25 @@ module _ (c : Cluster) (groups : Groups) (now : ℕ) (booked : List Booking) whe
     pub within : capacity_of c groups rest.limit ≤ plain_sum booked rest.limit now + rest.most
     pub least : IsLeast c (resource_of rest.limit) rest.least
 
+  -- at a moment from that of the run on too little is left for any job of the table
+  abbrev pub IsBlocked : List Rest → ℕ → Type 0
+  IsBlocked rests moment = (now ≤ moment) × (are_short_then booked moment [] rests ≡ true)
+
+  -- what is known of an instance is so
+  pub record IsLeftAt (at : InstanceId) (left : Left) : Type 0 where
+    pub rests : All (IsLeft at) left.rests
+    pub shut : left.closed ≡ true → IsClosed c groups at
+    pub blocked : IfSome left.blocked (IsBlocked left.rests)
+
+  -- no window of a task that starts now ends before a moment
+  abbrev pub LastsUntil : ℕ → Type 0
+  LastsUntil until = (job : Job) → IsInTable c job → until ≤ window_end_from c job now
+
   -- for each instance what is left there, and where something may be
   pub record AreLeft (order : List InstanceId) (room : Room) : Type 0 where
     pub number : List ℕ → ℕ
     pub hosts : AreNumbered number order room.lefts
     pub long : length room.lefts ≡ length order
-    pub each : (k : ℕ) (at : InstanceId) (none : Left) → k < length order → All (IsLeft (slice_index_or order k at)) (slice_index_or room.lefts k none).rests
-    pub others : AreOpen (is_full c now) room.lefts (length room.lefts) 0 room.vacant
+    pub each : (k : ℕ) (at : InstanceId) (none : Left) → k < length order → IsLeftAt (slice_index_or order k at) (slice_index_or room.lefts k none)
+    pub lasts : IfSome room.until LastsUntil
+    pub others : AreOpen (is_full c now room.until) room.lefts (length room.lefts) 0 room.vacant

@@ -9,7 +9,8 @@ use crate::bookings::book;
 use crate::counting::{Tally, count, first_tally, may_reserve};
 use crate::deciding::decision;
 use crate::kinds::{is_noted, note};
-use crate::rests::{Room, renew_started, room_at};
+use crate::renewing::renew;
+use crate::rests::{Room, room_at};
 use crate::setting::Setting;
 use crate::vacancy::no_slot_is_left;
 use ge_rows::{Decision, List, TaskId};
@@ -142,7 +143,7 @@ fn weigh(
     book(alloc, at, &mut so_far.booked, &made)?;
     count(alloc, at.cluster, &mut so_far.tally, &made)?;
     note(at.cluster, at.kinds, &mut so_far.full, task.job, &made)?;
-    renew_started(alloc, at, &so_far.booked, &mut so_far.room, &made);
+    renew(alloc, at, &so_far.booked, &mut so_far.room, &made);
     so_far.passed = passed_by(task.job, &made);
     so_far.decisions.push(made)?;
     Ok(())

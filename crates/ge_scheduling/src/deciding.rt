@@ -1,23 +1,25 @@
 // The decision of one task.
-ghost use Rattle.std.specs.Prelude.{◌≡◌, Some, IfOk, All};
+ghost use Rattle.std.specs.Prelude.{◌≡◌, true, None, Some, IfOk};
+ghost use Rattle.std.specs.List.{list_all};
 ghost use Rattle.ge_collections.specs.Keyed.{at_number};
+ghost use Rattle.ge_model_place.specs.Placement.{placement_of};
 ghost use Rattle.ge_model_place.specs.Running.{start_with as started};
 ghost use Rattle.ge_scheduling.specs.Amounts.{IsInTable};
-ghost use Rattle.ge_scheduling.specs.Common.{IsAsked};
 ghost use Rattle.ge_scheduling.specs.Counts.{is_over, may_be_reserved};
-ghost use Rattle.ge_scheduling.specs.Rests.{AreLeft};
+ghost use Rattle.ge_scheduling.specs.Rests.{blocked_in, AreLeft};
 ghost use Rattle.ge_scheduling.specs.Verdicts.{waiting, decision_by, decision_at};
 
 use crate::asking::asked_limits;
 use crate::counting::{Tally, is_full, may_reserve};
 use crate::placing::place_now;
 use crate::reserving::reserve;
-use crate::rests::Room;
+use crate::rests::{Left, Room, is_before};
 use crate::setting::Setting;
-use ge_demands::Counted;
+use crate::vacancy::goes_on;
 use ge_limits::LAST_SERIAL;
 use ge_rows::{Decision, Grant, Job, List, Start, TaskId};
 use ge_timeline::Timeline;
+use ge_windows::window_end_from;
 use std::alloc::{AllocError, Global};
 
 // A start, where there is a number left.
@@ -35,6 +37,39 @@ fn start_with(task: TaskId, serial: u64, grants: List<Grant>) -> Decision
     }
 }
 
+// Whether too little is left for any job at a place before a window ends.
+fn is_blocked(lefts: &[Left], until: u64, place: usize) -> bool
+    ensures { result ≡ blocked_in lefts.now until place }
+{
+    match lefts.get(place) {
+        Some(left) => is_before(left.blocked, Some(until)),
+        None => false,
+    }
+}
+
+fn all_blocked(room: &Room, until: u64) -> bool
+    ensures { result ≡ list_all (blocked_in room.now.lefts until) room.now.vacant }
+{
+    let lefts = room.lefts.items();
+    room.vacant
+        .items()
+        .iter()
+        .all(|place| is_blocked(lefts, until, *place))
+}
+
+// Whether no instance takes a slot of a job now, by what is known of the vacant ones alone.
+fn none_takes(at: &Setting<'_>, _booked: &Timeline, room: &Room, job: &Job) -> bool
+    requires there { IsInTable at.now.cluster.now job.now }
+    requires left { AreLeft at.now.cluster.now at.now.groups.now at.now.moment _booked.now
+        at.now.order.now room.now }
+    ensures { result ≡ true → placement_of at.now.cluster.now at.now.groups.now at.now.order.now
+        _booked.now job.now at.now.moment ≡ None }
+{
+    job.advance == 0
+        && goes_on(at.cluster, at.moment)
+        && all_blocked(room, window_end_from(at.cluster, job, at.moment))
+}
+
 // Of a task that can't start now.
 fn keep_waiting(
     alloc: Global,
@@ -42,23 +77,21 @@ fn keep_waiting(
     booked: &Timeline,
     tally: &Tally,
     room: &Room,
-    asked: &List<Counted>,
     job: &Job,
     task: TaskId,
 ) -> Result<Decision, AllocError>
     requires there { IsInTable at.now.cluster.now job.now }
     requires left { AreLeft at.now.cluster.now at.now.groups.now at.now.moment booked.now
         at.now.order.now room.now }
-    requires asked { All (IsAsked at.now.cluster.now at.now.groups.now job.now) asked.now }
     ensures { IfOk result (λ decision. decision
         ≡ waiting at.now.cluster.now at.now.groups.now at.now.order.now at.now.moment
         booked.now (may_be_reserved at.now.cluster.now.sched tally.now job.now) (Some job.now) task) }
 {
-    if may_reserve(&at.cluster.sched, tally, job) {
-        reserve(alloc, at, booked, room, asked, job, task)
-    } else {
-        Ok(Decision::Skip(task))
+    if !may_reserve(&at.cluster.sched, tally, job) {
+        return Ok(Decision::Skip(task));
     }
+    let asked = asked_limits(alloc, at, job)?;
+    reserve(alloc, at, booked, room, &asked, job, task)
 }
 
 // Of a task of a job.
@@ -83,10 +116,13 @@ fn decision_for(
     if is_full(&at.cluster.sched, tally, &job.owner) {
         return Ok(Decision::Skip(task));
     }
+    if none_takes(at, booked, room, job) {
+        return keep_waiting(alloc, at, booked, tally, room, job, task);
+    }
     let asked = asked_limits(alloc, at, job)?;
     match place_now(alloc, at, booked, room, &asked, job)? {
         Some(grants) => Ok(start_with(task, tally.serial, grants)),
-        None => keep_waiting(alloc, at, booked, tally, room, &asked, job, task),
+        None => keep_waiting(alloc, at, booked, tally, room, job, task),
     }
 }
 

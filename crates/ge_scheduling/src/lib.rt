@@ -6,8 +6,9 @@
 //!
 //! - `setting`: what stays the same during a run. `counting`: what is counted of the decisions so far. `kinds`: the kinds of jobs
 //!   of which no task can start any more. `vacancy`: the instances that have a slot left.
-//! - `rests`: what is left at each instance, and where too little is for any job. `amounts`: what any job asks of values of
-//!   hosts, at least. `holding`: where each value of hosts is; hosts' numbers.
+//! - `rests`: what is left at each instance, and where too little is for any job. `renewing`: that as slots are given and kept.
+//!   `amounts`: what any job asks of values of hosts, at least. `closing`: instances that are closed to each job. `holding`:
+//!   where each value of hosts is; hosts' numbers.
 //! - `asking`: what one slot of a job asks of limits, and which of them count at whatever instance.
 //! - `finding`: whether an instance may take a slot now. `single`: the start of a task that takes one slot. `thinning`: a
 //!   placement over hosts alone at which something may be placed. `placing`: the placement of a task, now and later.
@@ -24,12 +25,14 @@ mod amounts;
 mod asking;
 mod basis;
 mod bookings;
+mod closing;
 mod counting;
 mod deciding;
 mod finding;
 mod holding;
 mod kinds;
 mod placing;
+mod renewing;
 mod reserving;
 mod rests;
 mod running;

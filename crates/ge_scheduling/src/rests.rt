@@ -1,22 +1,23 @@
 // What is left at each instance, so that one which has too little is passed by before anything else is asked of it.
-ghost use Rattle.std.specs.Prelude.{◌≡◌, ◌<◌, ◌++◌, ◌∷◌, [], cond, length, map, filter, IfOk, IfSome, OnOk};
-ghost use Rattle.std.specs.List.{remove};
+ghost use Rattle.std.specs.Prelude.{◌≡◌, ◌++◌, ◌∷◌, [], None, cond, length, map, filter, IfOk, OnOk};
 ghost use Rattle.ge_model_bookings.specs.Bookings.{same_instance};
 ghost use Rattle.ge_model_value.specs.Complexes.{is_consumable as is_consumed};
 ghost use Rattle.ge_model_place.specs.Limits.{consumables, resource_of};
 ghost use Rattle.ge_model_rows.specs.ScheduleRows.{Host};
 ghost use Rattle.ge_scheduling.specs.Amounts.{number_in};
-ghost use Rattle.ge_scheduling.specs.Rests.{rest_of as left_of, rests_at as left_at, numbered_at, renewed_rest, renewed_left, is_full as full_at, AreOpen, is_of, asks_more as more_than, is_short as short_of, is_short_now as short_now, are_short as all_short_of, left_then as rest_then, is_short_then as short_then, are_short_then as all_short_then, are_short_at as all_short_at, AreLeft};
+ghost use Rattle.ge_scheduling.specs.Rests.{rest_of as left_of, rests_at as left_at, left_first, comes_before, is_full as full_at, AreOpen, is_of, asks_more as more_than, is_short as short_of, is_short_now as short_now, are_short as all_short_of, left_then as rest_then, is_short_then as short_then, are_short_then as all_short_then, are_short_at as all_short_at, AreLeft};
 ghost use Rattle.ge_scheduling.specs.Vacant.{slots_of};
 
 use crate::amounts::{LeastAmounts, least_amounts, least_in};
+use crate::closing::{is_closed, names_asked_by_all};
 use crate::holding::{HostNumbers, hosts_of, number_of};
 use crate::setting::Setting;
 use crate::vacancy::{goes_on, slots_at};
-use ge_bookings::{is_same_instance, is_same_name};
+use ge_bookings::is_same_name;
 use ge_complex::is_consumable;
 use ge_demands::{Counted, capacity};
-use ge_rows::{Decision, Grant, HostRow, InstanceId, LimitId, List, Text, Twin, twins3};
+use ge_queues::global_host;
+use ge_rows::{HostRow, InstanceId, LimitId, List, Text, Twin, twins3};
 use ge_timeline::Timeline;
 use std::alloc::{AllocError, Global};
 
@@ -40,8 +41,14 @@ pub(crate) struct Rest {
 pub(crate) struct Left {
     /// The number of its host, which all instances on that have.
     pub(crate) host: usize,
+    /// Whether it is closed to each job of the table.
+    pub(crate) closed: bool,
     /// Of each limit.
     pub(crate) rests: List<Rest>,
+    /// The first moment from which on slots are kept there for a task, in seconds.
+    pub(crate) kept_from: Option<u64>,
+    /// A moment at which too little is left for any job, not before that of the run, in seconds.
+    pub(crate) blocked: Option<u64>,
 }
 
 /// What is left at each instance, and the places in the order at which something may be left.
@@ -51,6 +58,8 @@ pub(crate) struct Room {
     pub(crate) lefts: List<Left>,
     /// The places, which rise.
     pub(crate) vacant: List<usize>,
+    /// A moment before which the window of no job's task ends that starts now, in seconds: found out once slots are kept.
+    pub(crate) until: Option<u64>,
 }
 
 fn rest_of(
@@ -174,25 +183,46 @@ fn lefts_of_all(
     booked: &Timeline,
     amounts: &LeastAmounts,
     hosts: &HostNumbers,
+    names: &[Text],
 ) -> Result<List<Left>, AllocError>
     ensures { IfOk result (λ lefts. lefts
-        ≡ map (numbered_at at.now.cluster.now at.now.groups.now at.now.moment booked.now
-        amounts.now hosts.now) at.now.order.now) }
+        ≡ map (left_first at.now.cluster.now at.now.groups.now at.now.moment booked.now
+        amounts.now hosts.now names.now) at.now.order.now) }
 {
+    let global = global_host(alloc, at.cluster)?;
     let mut lefts = List::new(alloc);
     for instance in at.order {
-        let host = number_of(hosts, &instance.host);
         let rests = rests_at(alloc, at, booked, amounts, instance)?;
-        lefts.push(Left { host, rests })?;
+        lefts.push(Left {
+            host: number_of(hosts, &instance.host),
+            closed: is_closed(at, global, names, instance),
+            rests,
+            kept_from: None,
+            blocked: None,
+        })?;
     }
     Ok(lefts)
 }
 
-// Whether too little is left at an instance for any task of a job of the table.
-fn is_full(at: &Setting<'_>, left: &Left) -> bool
-    ensures { result ≡ full_at at.now.cluster.now at.now.moment left.now }
+/// Whether a moment is known that comes before another.
+pub(crate) fn is_before(moment: Option<u64>, until: Option<u64>) -> bool
+    ensures { result ≡ comes_before moment until }
 {
-    goes_on(at.cluster, at.moment) && are_short(&[], left.rests.items())
+    match (moment, until) {
+        (Some(moment), Some(until)) => moment < until,
+        _ => false,
+    }
+}
+
+/// Whether no task of a job of the table can take a slot at an instance now: that is closed to all, too little is left, or too
+/// little will be before any window ends.
+pub(crate) fn is_full(at: &Setting<'_>, until: Option<u64>, left: &Left) -> bool
+    ensures { result ≡ full_at at.now.cluster.now at.now.moment until left.now }
+{
+    goes_on(at.cluster, at.moment)
+        && (left.closed
+            || is_before(left.blocked, until)
+            || are_short(&[], left.rests.items()))
 }
 
 fn add_vacant(
@@ -202,16 +232,16 @@ fn add_vacant(
     left: &Left,
 ) -> Result<(), AllocError>
     ensures { OnOk result (vacant.new ≡ vacant.old
-        ++ cond (full_at at.now.cluster.now at.now.moment left.now) [] (place ∷ [])) }
+        ++ cond (full_at at.now.cluster.now at.now.moment None left.now) [] (place ∷ [])) }
 {
-    if is_full(at, left) {
+    if is_full(at, None, left) {
         return Ok(());
     }
     vacant.push(place)
 }
 
 fn vacant_places(alloc: Global, at: &Setting<'_>, lefts: &[Left]) -> Result<List<usize>, AllocError>
-    ensures { IfOk result (λ vacant. AreOpen (full_at at.now.cluster.now at.now.moment)
+    ensures { IfOk result (λ vacant. AreOpen (full_at at.now.cluster.now at.now.moment None)
         lefts.now (length lefts.now) 0 vacant) }
 {
     let mut vacant = List::new(alloc);
@@ -234,133 +264,14 @@ pub(crate) fn room_at(
 {
     let amounts = least_amounts(alloc, at)?;
     let hosts = hosts_of(alloc, at.order)?;
-    let lefts = lefts_of_all(alloc, at, booked, &amounts, &hosts)?;
+    let names = names_asked_by_all(alloc, at)?;
+    let lefts = lefts_of_all(alloc, at, booked, &amounts, &hosts, names.items())?;
     let vacant = vacant_places(alloc, at, lefts.items())?;
-    Ok(Room { lefts, vacant })
-}
-
-fn is_at(order: &[InstanceId], place: usize, instance: &InstanceId) -> bool {
-    match order.get(place) {
-        Some(other) => is_same_instance(other, instance),
-        None => false,
-    }
-}
-
-// Which of these places is that of an instance.
-fn index_of(order: &[InstanceId], places: &[usize], instance: &InstanceId) -> Option<usize>
-    ensures { IfSome result (λ index. index < length places.now) }
-{
-    places
-        .iter()
-        .position(|place| is_at(order, *place, instance))
-}
-
-fn leave_out_full(at: &Setting<'_>, vacant: &mut List<usize>, index: usize, left: &Left)
-    requires { index < length vacant.old }
-    ensures { vacant.new ≡ cond (full_at at.now.cluster.now at.now.moment left.now)
-        (remove vacant.old index) vacant.old }
-{
-    if is_full(at, left) {
-        let _place = vacant.remove(index);
-    }
-}
-
-// The limits are the same, and so is what there is of them.
-fn renew_rests(at: &Setting<'_>, booked: &Timeline, rests: &mut [Rest])
-    ensures { rests.new ≡ map (renewed_rest at.now.moment booked.now) rests.old }
-{
-    for rest in rests.iter_mut() {
-        let most = left_then(booked, at.moment, rest);
-        rest.most = most;
-    }
-}
-
-fn renewed(at: &Setting<'_>, booked: &Timeline, left: Left) -> Left
-    ensures { result ≡ renewed_left at.now.moment booked.now left }
-{
-    let Left { host, rests } = left;
-    let mut rests = rests.into_vec();
-    renew_rests(at, booked, rests.as_mut_slice());
-    Left {
-        host,
-        rests: List::from_vec(rests),
-    }
-}
-
-// What is left at a vacant place is taken anew.
-fn renew_vacant(alloc: Global, at: &Setting<'_>, booked: &Timeline, room: &mut Room, index: usize)
-    requires left { AreLeft at.now.cluster.now at.now.groups.now at.now.moment booked.now
-        at.now.order.now room.old }
-    requires within { index < length room.old.vacant }
-    ensures { AreLeft at.now.cluster.now at.now.groups.now at.now.moment booked.now
-        at.now.order.now room.new }
-{
-    let place = room.vacant.items()[index];
-    if is_full(at, &room.lefts.items()[place]) {
-        return;
-    }
-    let none = Left {
-        host: 0,
-        rests: List::new(alloc),
-    };
-    let before = room.lefts.replace(place, none);
-    let left = renewed(at, booked, before);
-    leave_out_full(at, &mut room.vacant, index, &left);
-    let _none = room.lefts.replace(place, left);
-}
-
-fn renew_at(
-    alloc: Global,
-    at: &Setting<'_>,
-    booked: &Timeline,
-    room: &mut Room,
-    instance: &InstanceId,
-)
-    requires { AreLeft at.now.cluster.now at.now.groups.now at.now.moment booked.now
-        at.now.order.now room.old }
-    ensures { AreLeft at.now.cluster.now at.now.groups.now at.now.moment booked.now
-        at.now.order.now room.new }
-{
-    if let Some(index) = index_of(at.order, room.vacant.items(), instance) {
-        renew_vacant(alloc, at, booked, room, index);
-    }
-}
-
-fn renew_granted(
-    alloc: Global,
-    at: &Setting<'_>,
-    booked: &Timeline,
-    room: &mut Room,
-    grants: &[Grant],
-)
-    requires { AreLeft at.now.cluster.now at.now.groups.now at.now.moment booked.now
-        at.now.order.now room.old }
-    ensures { AreLeft at.now.cluster.now at.now.groups.now at.now.moment booked.now
-        at.now.order.now room.new }
-{
-    for grant in grants {
-        renew_at(alloc, at, booked, room, &grant.at);
-    }
-}
-
-/// What is left where a start took slots is taken anew; where it took the last ones the place is vacant no more. What a
-/// reservation takes is taken later.
-pub(crate) fn renew_started(
-    alloc: Global,
-    at: &Setting<'_>,
-    booked: &Timeline,
-    room: &mut Room,
-    decision: &Decision,
-)
-    requires { AreLeft at.now.cluster.now at.now.groups.now at.now.moment booked.now
-        at.now.order.now room.old }
-    ensures { AreLeft at.now.cluster.now at.now.groups.now at.now.moment booked.now
-        at.now.order.now room.new }
-{
-    match decision {
-        Decision::Start(start) => renew_granted(alloc, at, booked, room, start.grants.items()),
-        Decision::Reserve(_) | Decision::Skip(_) => {}
-    }
+    Ok(Room {
+        lefts,
+        vacant,
+        until: None,
+    })
 }
 
 /// Whether a limit counts a resource.
@@ -404,7 +315,8 @@ pub(crate) fn are_short(asked: &[Counted], rests: &[Rest]) -> bool
     rests.iter().any(|rest| is_short_now(asked, rest))
 }
 
-fn left_then(booked: &Timeline, moment: u64, rest: &Rest) -> u128
+/// What is left at a moment.
+pub(crate) fn left_then(booked: &Timeline, moment: u64, rest: &Rest) -> u128
     ensures { result ≡ rest_then booked.now moment rest.now }
 {
     let taken = booked.greatest(&rest.limit, moment, moment.saturating_add(1));
@@ -418,8 +330,8 @@ fn is_short_then(booked: &Timeline, moment: u64, asked: &[Counted], rest: &Rest)
     left < rest.least || is_short(asked, &rest.resource, left)
 }
 
-// Whether more is asked than is left of one of these by what is booked at a moment.
-fn are_short_then(booked: &Timeline, moment: u64, asked: &[Counted], rests: &[Rest]) -> bool
+/// Whether more is asked than is left of one of these by what is booked at a moment.
+pub(crate) fn are_short_then(booked: &Timeline, moment: u64, asked: &[Counted], rests: &[Rest]) -> bool
     ensures { result ≡ all_short_then booked.now moment asked.now rests.now }
 {
     rests

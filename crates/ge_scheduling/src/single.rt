@@ -2,18 +2,20 @@
 ghost use Rattle.std.specs.Prelude.{◌≡◌, ◌<◌, ◌==◌, true, None, Some, cond, ◌∷◌, [], length, slice_index_or, IfOk, All};
 ghost use Rattle.ge_model_place.specs.Placement.{are_admissible, placement_of};
 ghost use Rattle.ge_model_place.specs.Runs.{one_slot};
+ghost use Rattle.ge_model_place.specs.Windows.{window_end_from as window_end};
 ghost use Rattle.ge_model_rows.specs.HostRows.{InstanceId as Instance};
 ghost use Rattle.ge_scheduling.specs.Amounts.{IsInTable};
 ghost use Rattle.ge_scheduling.specs.Common.{IsAsked};
-ghost use Rattle.ge_scheduling.specs.Rests.{IsLeft, AreLeft};
+ghost use Rattle.ge_scheduling.specs.Rests.{IsLeftAt, AreLeft};
 ghost use Rattle.ge_scheduling.specs.Vacant.{goes_on as has_moment};
 
-use crate::rests::{Rest, Room, are_short};
+use crate::rests::{Left, Room, are_short, is_before};
 use crate::setting::Setting;
 use ge_demands::Counted;
 use ge_place::place_job;
 use ge_rows::{Grant, InstanceId, Job, List};
 use ge_timeline::Timeline;
+use ge_windows::window_end_from;
 use std::alloc::{AllocError, Global};
 
 // The instance at a place, alone.
@@ -31,7 +33,8 @@ fn take_at(
     alloc: Global,
     at: &Setting<'_>,
     booked: &Timeline,
-    left: &List<Rest>,
+    left: &Left,
+    until: u64,
     asked: &List<Counted>,
     job: &Job,
     instance: &InstanceId,
@@ -41,15 +44,16 @@ fn take_at(
     requires free { (job.now.advance == 0) ≡ true }
     requires there { IsInTable at.now.cluster.now job.now }
     requires single { job.now.request.pe ≡ None }
-    requires left { All (IsLeft at.now.cluster.now at.now.groups.now at.now.moment booked.now
-        instance.now) left.now }
+    requires left { IsLeftAt at.now.cluster.now at.now.groups.now at.now.moment booked.now
+        instance.now left.now }
+    requires ends { until ≡ window_end at.now.cluster.now job.now at.now.moment }
     requires asked { All (IsAsked at.now.cluster.now at.now.groups.now job.now) asked.now }
     requires one { one.now ≡ instance.now ∷ [] }
     ensures { IfOk result (λ grants. grants ≡ cond (are_admissible at.now.cluster.now
         at.now.groups.now job.now booked.now at.now.moment (one_slot instance.now))
         (Some (one_slot instance.now)) None) }
 {
-    if are_short(asked.items(), left.items()) {
+    if is_before(left.blocked, Some(until)) || are_short(asked.items(), left.rests.items()) {
         return Ok(None);
     }
     let grants = place_job(alloc, at.cluster, at.groups, one, booked, job, at.moment)?;
@@ -79,11 +83,12 @@ pub(crate) fn place_alone(
 {
     let order = at.order;
     let lefts = room.lefts.items();
+    let until = window_end_from(at.cluster, job, at.moment);
     for place in room.vacant.items() {
         let instance = &order[*place];
-        let left = &lefts[*place].rests;
+        let left = &lefts[*place];
         let one = one_at(order, *place);
-        if let Some(grants) = take_at(alloc, at, booked, left, asked, job, instance, one)? {
+        if let Some(grants) = take_at(alloc, at, booked, left, until, asked, job, instance, one)? {
             return Ok(Some(grants));
         }
     }

@@ -1,0 +1,124 @@
+// Instances that are closed to each job of the table, since they lack a consumable that each asks for.
+ghost use Rattle.std.specs.Prelude.{◌≡◌, ◌++◌, ◌∷◌, [], true, codes, filter, IfOk, OnOk};
+ghost use Rattle.std.specs.List.{list_all};
+ghost use Rattle.std.specs.Option.{option_copied};
+ghost use Rattle.ge_collections.specs.Keyed.{at_text};
+ghost use Rattle.ge_model_place.specs.Opening.{has_value as is_named_in, host_names, is_configured};
+ghost use Rattle.ge_scheduling.specs.Closing.{asks_itself, asked_by_all, lacks_in, lacks_one as lacks_one_of};
+
+use crate::setting::Setting;
+use ge_complex::is_consumable;
+use ge_pieces::is_word;
+use ge_queues::at_host;
+use ge_rows::{Cluster, HostRow, InstanceId, Job, List, QueueRow, Table, Text, Twin, Value};
+use std::alloc::{AllocError, Global};
+
+fn all_ask(jobs: &Table<u32, Job>, name: &Text) -> bool
+    ensures { result ≡ list_all (asks_itself name.now) jobs.now }
+{
+    for (_number, job) in jobs.iter() {
+        if job.request.asked.get(name).is_none() {
+            return false;
+        }
+    }
+    true
+}
+
+fn is_asked_by_all(cluster: &Cluster, name: &Text) -> bool
+    ensures { result ≡ asked_by_all cluster.now name.now }
+{
+    is_consumable(cluster, name) && all_ask(&cluster.jobs, name)
+}
+
+fn add_asked_by_all(
+    alloc: Global,
+    cluster: &Cluster,
+    names: &mut List<Text>,
+    name: &Text,
+) -> Result<(), AllocError>
+    ensures { OnOk result (names.new ≡ names.old
+        ++ filter (asked_by_all cluster.now) (name.now ∷ [])) }
+{
+    if !is_asked_by_all(cluster, name) {
+        return Ok(());
+    }
+    let name = name.twin(alloc)?;
+    names.push(name)
+}
+
+/// Values of hosts that are consumables for which each job of the table asks itself.
+pub(crate) fn names_asked_by_all(alloc: Global, at: &Setting<'_>) -> Result<List<Text>, AllocError>
+    ensures { IfOk result (λ names. list_all (asked_by_all at.now.cluster.now) names ≡ true) }
+{
+    let mut names = List::new(alloc);
+    for name in at.holders.keys() {
+        add_asked_by_all(alloc, at.cluster, &mut names, name)?;
+    }
+    Ok(names)
+}
+
+fn names(values: &Table<Text, Value>, name: &Text) -> bool
+    ensures { result ≡ is_named_in values.now name.now }
+{
+    values.get(name).is_some()
+}
+
+fn is_named_on(host: Option<&HostRow>, name: &Text) -> bool
+    ensures { result ≡ host_names name.now (option_copied host.entry) }
+{
+    match host {
+        Some(row) => names(&row.values, name),
+        None => false,
+    }
+}
+
+// Whether the queue there, its host or the host of all has an amount of a name.
+fn has_amount(
+    at: &Setting<'_>,
+    global: Option<&HostRow>,
+    instance: &InstanceId,
+    queue: &QueueRow,
+    name: &Text,
+) -> bool
+    requires { option_copied global ≡ at_text at.now.cluster.now.hosts (codes "global") }
+    ensures { result ≡ is_configured at.now.cluster.now at.now.groups.now instance.now
+        queue.now name.now }
+{
+    is_word(name.bytes(), b"slots")
+        || names(at_host(&queue.values, at.groups, &instance.host), name)
+        || is_named_on(at.cluster.hosts.get(&instance.host), name)
+        || is_named_on(global, name)
+}
+
+fn lacks_one(
+    at: &Setting<'_>,
+    global: Option<&HostRow>,
+    names: &[Text],
+    instance: &InstanceId,
+    queue: Option<&QueueRow>,
+) -> bool
+    requires { option_copied global ≡ at_text at.now.cluster.now.hosts (codes "global") }
+    ensures { result ≡ lacks_in at.now.cluster.now at.now.groups.now names.now instance.now
+        (option_copied queue.entry) }
+{
+    match queue {
+        Some(queue) => names
+            .iter()
+            .any(|name| !has_amount(at, global, instance, queue, name)),
+        None => false,
+    }
+}
+
+/// Whether an instance lacks one of these names. The row of the host `global` is handed in, so that a run looks it up once.
+pub(crate) fn is_closed(
+    at: &Setting<'_>,
+    global: Option<&HostRow>,
+    names: &[Text],
+    instance: &InstanceId,
+) -> bool
+    requires { option_copied global ≡ at_text at.now.cluster.now.hosts (codes "global") }
+    ensures { result ≡ lacks_one_of at.now.cluster.now at.now.groups.now names.now
+        instance.now }
+{
+    lacks_one(at, global, names, instance, at.cluster.queues.get(&instance.queue))
+}

@@ -1,0 +1,254 @@
+// What is left is taken anew as slots are given and kept.
+ghost use Rattle.std.specs.Prelude.{◌≡◌, ◌≤◌, ◌<◌, cond, length, map, IfSome};
+ghost use Rattle.std.specs.List.{remove};
+ghost use Rattle.ge_model_rows.specs.JobRows.{Job};
+ghost use Rattle.ge_model_place.specs.Windows.{window_end_from as window_end};
+ghost use Rattle.ge_scheduling.specs.Amounts.{IsInTable};
+ghost use Rattle.ge_scheduling.specs.Rests.{renewed_rest, renewed_left, comes_sooner, blocked_with, blocked_since, kept_with, is_full as full_at, AreLeft};
+
+use crate::rests::{Left, Rest, Room, are_short_then, is_full, left_then};
+use crate::setting::Setting;
+use ge_bookings::is_same_instance;
+use ge_rows::{Decision, Grant, InstanceId, List};
+use ge_timeline::Timeline;
+use ge_windows::window_end_from;
+use std::alloc::Global;
+
+fn is_at(order: &[InstanceId], place: usize, instance: &InstanceId) -> bool {
+    match order.get(place) {
+        Some(other) => is_same_instance(other, instance),
+        None => false,
+    }
+}
+
+// Which of these places is that of an instance.
+fn index_of(order: &[InstanceId], places: &[usize], instance: &InstanceId) -> Option<usize>
+    ensures { IfSome result (λ index. index < length places.now) }
+{
+    places
+        .iter()
+        .position(|place| is_at(order, *place, instance))
+}
+
+fn leave_out_full(
+    at: &Setting<'_>,
+    until: Option<u64>,
+    vacant: &mut List<usize>,
+    index: usize,
+    left: &Left,
+)
+    requires { index < length vacant.old }
+    ensures { vacant.new ≡ cond (full_at at.now.cluster.now at.now.moment until left.now)
+        (remove vacant.old index) vacant.old }
+{
+    if is_full(at, until, left) {
+        let _place = vacant.remove(index);
+    }
+}
+
+// The limits are the same, and so is what there is of them.
+fn renew_rests(at: &Setting<'_>, booked: &Timeline, rests: &mut [Rest])
+    ensures { rests.new ≡ map (renewed_rest at.now.moment booked.now) rests.old }
+{
+    for rest in rests.iter_mut() {
+        let most = left_then(booked, at.moment, rest);
+        rest.most = most;
+    }
+}
+
+fn is_sooner(moment: u64, known: Option<u64>) -> bool
+    ensures { result ≡ comes_sooner moment known }
+{
+    match known {
+        Some(other) => moment < other,
+        None => true,
+    }
+}
+
+// A moment at which too little is left for any job, or the one that is known.
+fn blocked_by(
+    at: &Setting<'_>,
+    booked: &Timeline,
+    rests: &[Rest],
+    moment: u64,
+    known: Option<u64>,
+) -> Option<u64>
+    ensures { result ≡ blocked_with at.now.moment booked.now rests.now moment known }
+{
+    if at.moment <= moment
+        && is_sooner(moment, known)
+        && are_short_then(booked, moment, &[], rests)
+    {
+        return Some(moment);
+    }
+    known
+}
+
+fn blocked_from(
+    at: &Setting<'_>,
+    booked: &Timeline,
+    rests: &[Rest],
+    kept_from: Option<u64>,
+    known: Option<u64>,
+) -> Option<u64>
+    ensures { result ≡ blocked_since at.now.moment booked.now rests.now kept_from known }
+{
+    match kept_from {
+        Some(moment) => blocked_by(at, booked, rests, moment, known),
+        None => known,
+    }
+}
+
+fn first_kept(kept: Option<u64>, before: Option<u64>) -> Option<u64>
+    ensures { result ≡ kept_with kept before }
+{
+    match (kept, before) {
+        (Some(kept), Some(before)) => Some(kept.min(before)),
+        (Some(kept), None) => Some(kept),
+        (None, before) => before,
+    }
+}
+
+// What is left after a start, or after slots were kept from a moment on.
+fn renewed(at: &Setting<'_>, booked: &Timeline, kept: Option<u64>, left: Left) -> Left
+    ensures { result ≡ renewed_left at.now.moment booked.now kept left }
+{
+    let Left {
+        host,
+        closed,
+        rests,
+        kept_from,
+        blocked,
+    } = left;
+    let mut rests = rests.into_vec();
+    renew_rests(at, booked, rests.as_mut_slice());
+    let blocked = blocked_from(at, booked, rests.as_slice(), kept.or(kept_from), blocked);
+    Left {
+        host,
+        closed,
+        rests: List::from_vec(rests),
+        kept_from: first_kept(kept, kept_from),
+        blocked,
+    }
+}
+
+// What is left at a vacant place is taken anew.
+fn renew_vacant(
+    alloc: Global,
+    at: &Setting<'_>,
+    booked: &Timeline,
+    room: &mut Room,
+    index: usize,
+    kept: Option<u64>,
+)
+    requires left { AreLeft at.now.cluster.now at.now.groups.now at.now.moment booked.now
+        at.now.order.now room.old }
+    requires within { index < length room.old.vacant }
+    ensures { AreLeft at.now.cluster.now at.now.groups.now at.now.moment booked.now
+        at.now.order.now room.new }
+{
+    let place = room.vacant.items()[index];
+    if is_full(at, room.until, &room.lefts.items()[place]) {
+        return;
+    }
+    let none = Left {
+        host: 0,
+        closed: false,
+        rests: List::new(alloc),
+        kept_from: None,
+        blocked: None,
+    };
+    let before = room.lefts.replace(place, none);
+    let left = renewed(at, booked, kept, before);
+    leave_out_full(at, room.until, &mut room.vacant, index, &left);
+    let _none = room.lefts.replace(place, left);
+}
+
+fn renew_at(
+    alloc: Global,
+    at: &Setting<'_>,
+    booked: &Timeline,
+    room: &mut Room,
+    instance: &InstanceId,
+    kept: Option<u64>,
+)
+    requires { AreLeft at.now.cluster.now at.now.groups.now at.now.moment booked.now
+        at.now.order.now room.old }
+    ensures { AreLeft at.now.cluster.now at.now.groups.now at.now.moment booked.now
+        at.now.order.now room.new }
+{
+    if let Some(index) = index_of(at.order, room.vacant.items(), instance) {
+        renew_vacant(alloc, at, booked, room, index, kept);
+    }
+}
+
+fn renew_granted(
+    alloc: Global,
+    at: &Setting<'_>,
+    booked: &Timeline,
+    room: &mut Room,
+    grants: &[Grant],
+    kept: Option<u64>,
+)
+    requires { AreLeft at.now.cluster.now at.now.groups.now at.now.moment booked.now
+        at.now.order.now room.old }
+    ensures { AreLeft at.now.cluster.now at.now.groups.now at.now.moment booked.now
+        at.now.order.now room.new }
+{
+    for grant in grants {
+        renew_at(alloc, at, booked, room, &grant.at, kept);
+    }
+}
+
+// No window of a job of the table ends before, of a task that starts now. The walk ends at a window that has no later moment.
+fn shortest_end(at: &Setting<'_>) -> u64
+    ensures { (job : Job) → IsInTable at.now.cluster.now job
+        → result ≤ window_end at.now.cluster.now job at.now.moment }
+{
+    let mut end = u64::MAX;
+    for (_number, job) in at.cluster.jobs.iter() {
+        end = end.min(window_end_from(at.cluster, job, at.moment));
+        if end <= at.moment.saturating_add(1) {
+            return 0;
+        }
+    }
+    end
+}
+
+// Where the shortest window ends is found out once, when slots are kept for the first time.
+fn find_until(at: &Setting<'_>, _booked: &Timeline, room: &mut Room)
+    requires { AreLeft at.now.cluster.now at.now.groups.now at.now.moment _booked.now
+        at.now.order.now room.old }
+    ensures { AreLeft at.now.cluster.now at.now.groups.now at.now.moment _booked.now
+        at.now.order.now room.new }
+{
+    if room.until.is_none() {
+        room.until = Some(shortest_end(at));
+    }
+}
+
+/// What is left where a start took slots, or where some are kept, is taken anew; where too little is left for any job the place
+/// is vacant no more.
+pub(crate) fn renew(
+    alloc: Global,
+    at: &Setting<'_>,
+    booked: &Timeline,
+    room: &mut Room,
+    decision: &Decision,
+)
+    requires { AreLeft at.now.cluster.now at.now.groups.now at.now.moment booked.now
+        at.now.order.now room.old }
+    ensures { AreLeft at.now.cluster.now at.now.groups.now at.now.moment booked.now
+        at.now.order.now room.new }
+{
+    match decision {
+        Decision::Start(start) => {
+            renew_granted(alloc, at, booked, room, start.grants.items(), None);
+        }
+        Decision::Reserve(kept) => {
+            find_until(at, booked, room);
+            renew_granted(alloc, at, booked, room, kept.grants.items(), Some(kept.at));
+        }
+        Decision::Skip(_) => {}
+    }
+}
