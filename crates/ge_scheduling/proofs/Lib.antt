@@ -11,6 +11,8 @@ pub mod Everywhere
 pub mod LeftOut
 pub mod Open
 pub mod LeastAsked
+pub mod Closed
+pub mod Blocked
 pub mod Remaining
 pub mod Singly
 pub mod Kept

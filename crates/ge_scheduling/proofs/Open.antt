@@ -1,19 +1,19 @@
 -- Places at which something may be left: they rise, and at all others nothing is left.
 use Rattle.std.proofs.Common.{◌≡◌, ℕ, zero, suc, ◌+◌, ◌≤◌, ◌<◌, inl, inr, Bool, true, cond, List, [], ◌∷◌, ◌++◌, length, slice_index_or, sym, subst, ap, ◌∙◌, arith, below_more}
-use Rattle.std.specs.List.{remove}
-use Rattle.std.proofs.lemmas.Bool.{cond_both, cases_lt}
+use Rattle.std.specs.List.{list_all, remove}
+use Rattle.std.proofs.lemmas.Bool.{cond_both, cases_lt, and_parts}
 use Rattle.std.proofs.lemmas.List.{append-nil, get_or_read}
 use Rattle.ge_scheduling.specs.declared.rests.Left.{Left}
 use Rattle.ge_scheduling.specs.Rests.{AreOpen}
 
-module _ (full : Left → Bool) where
-  -- where as much is full
-  pub open_on : (old new : List Left) (end from : ℕ) (places : List ℕ) → ((k : ℕ) (none : Left) → full (slice_index_or old k none) ≡ true → full (slice_index_or new k none) ≡ true)
-      → AreOpen full old end from places → AreOpen full new end from places
-  open_on old new end from [] as_full are = λ k none least less. as_full k none (are k none least less)
-  open_on old new end from (place ∷ places) as_full are =
-      (are.0, are.1, λ k none least less. as_full k none (are.2 k none least less), open_on old new end (place + 1) places as_full are.3)
+-- where as much is full
+pub open_on : (before after : Left → Bool) (old new : List Left) (end from : ℕ) (places : List ℕ) → ((k : ℕ) (none : Left) → before (slice_index_or old k none) ≡ true → after (slice_index_or new k none) ≡ true)
+    → AreOpen before old end from places → AreOpen after new end from places
+open_on before after old new end from [] as_full are = λ k none least less. as_full k none (are k none least less)
+open_on before after old new end from (place ∷ places) as_full are =
+    (are.0, are.1, λ k none least less. as_full k none (are.2 k none least less), open_on before after old new end (place + 1) places as_full are.3)
 
+module _ (full : Left → Bool) where
   module _ (lefts : List Left) where
     -- they lie before the end
     pub open_within : (end from : ℕ) (places : List ℕ) (index : ℕ) → index < length places → AreOpen full lefts end from places → slice_index_or places index 0 < end
@@ -23,6 +23,21 @@ module _ (full : Left → Bool) where
 
     abbrev IsFullAt : ℕ → Type 0
     IsFullAt k = (none : Left) → full (slice_index_or lefts k none) ≡ true
+
+    -- what holds of full ones and of these places holds of each
+    pub open_each : (P : ℕ → Type 0) (test : ℕ → Bool) (end from : ℕ) (places : List ℕ) → ((k : ℕ) → k < end → IsFullAt k → P k) → ((k : ℕ) → k < end → test k ≡ true → P k) → list_all test places ≡ true
+        → AreOpen full lefts end from places → (k : ℕ) → from ≤ k → k < end → P k
+    open_each P test end from [] of_full of_open all are k since less = of_full k less (λ none. are k none since less)
+    open_each P test end from (place ∷ places) of_full of_open all are k since less =
+        let parts = and_parts (test place) (list_all test places) all in
+        elim (cases_lt k place) [
+          | inl below ↦ of_full k less (λ none. are.2 k none since below)
+          | inr behind ↦
+              elim (cases_lt k (place + 1)) [
+                | inl here ↦ let same : place ≡ k = omega (arith, behind, here) in subst P same (of_open place are.1 parts.0)
+                | inr later ↦ open_each P test end (place + 1) places of_full of_open parts.1 are.3 k later less
+              ]
+        ]
 
     -- from an earlier place, where all between are full
     wider : (end from place : ℕ) (places : List ℕ) → from ≤ place → ((k : ℕ) (none : Left) → from ≤ k → k < place → full (slice_index_or lefts k none) ≡ true) → IsFullAt place

@@ -5,6 +5,7 @@ pub mod Vacant
 pub mod Bases
 pub mod Common
 pub mod Amounts
+pub mod Closing
 pub mod Rests
 pub mod Passing
 pub mod Sooner

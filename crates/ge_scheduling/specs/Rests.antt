@@ -1,5 +1,5 @@
 -- What is left at the moment of a run of an instance's slots and of its host's values, at most.
-use Rattle.std.specs.Prelude.{◌≡◌, ℕ, ◌+◌, ◌-◌, ◌≤◌, ◌<◌, ◌==◌, Bool, true, false, ◌&&◌, ◌||◌, nat_lt, nat_le, cond, min, All, List, [], ◌∷◌, map, length, slice_get, slice_index_or, Option, Some, None, IfSome}
+use Rattle.std.specs.Prelude.{◌≡◌, ℕ, ◌+◌, ◌-◌, ◌^◌, ◌≤◌, ◌<◌, ◌==◌, Bool, true, false, ◌&&◌, ◌||◌, nat_lt, nat_le, cond, min, All, List, [], ◌∷◌, map, fold, length, slice_get, slice_index_or, Option, Some, None, IfSome}
 use Rattle.std.specs.Option.{option_or}
 use Rattle.std.specs.List.{list_any}
 use Rattle.ge_collections.specs.Keyed.{text_eq, at_text}
@@ -126,6 +126,14 @@ renewed_left now booked kept left =
 -- whether no task of a job of the table can take a slot at an instance: it is closed to all, too little is left, or too little will be before any window ends
 abbrev pub is_full : Cluster → ℕ → Option ℕ → Left → Bool
 is_full c now until left = goes_on c now && (left.closed || comes_before left.blocked until || are_short [] left.rests)
+
+-- the sooner of an end and that of the window of a task of a row's job that starts now
+abbrev pub lesser_end : Cluster → ℕ → ℕ → ℕ × Job → ℕ
+lesser_end c now end row = min end (window_end_from c row.1 now)
+
+-- where the first window ends of a task that starts now, of a job of the table
+abbrev pub shortest_end_of : Cluster → ℕ → ℕ
+shortest_end_of c now = fold (lesser_end c now) (2 ^ 64 - 1) c.jobs
 
 -- these places rise from one to an end, and at the others between them nothing is left
 abbrev pub AreOpen : (Left → Bool) → List Left → ℕ → ℕ → List ℕ → Type 0

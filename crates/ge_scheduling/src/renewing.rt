@@ -1,10 +1,7 @@
 // What is left is taken anew as slots are given and kept.
 ghost use Rattle.std.specs.Prelude.{◌≡◌, ◌≤◌, ◌<◌, cond, length, map, IfSome};
 ghost use Rattle.std.specs.List.{remove};
-ghost use Rattle.ge_model_rows.specs.JobRows.{Job};
-ghost use Rattle.ge_model_place.specs.Windows.{window_end_from as window_end};
-ghost use Rattle.ge_scheduling.specs.Amounts.{IsInTable};
-ghost use Rattle.ge_scheduling.specs.Rests.{renewed_rest, renewed_left, comes_sooner, blocked_with, blocked_since, kept_with, is_full as full_at, AreLeft};
+ghost use Rattle.ge_scheduling.specs.Rests.{renewed_rest, renewed_left, comes_sooner, blocked_with, blocked_since, kept_with, is_full as full_at, shortest_end_of, AreLeft};
 
 use crate::rests::{Left, Rest, Room, are_short_then, is_full, left_then};
 use crate::setting::Setting;
@@ -202,8 +199,7 @@ fn renew_granted(
 
 // No window of a job of the table ends before, of a task that starts now. The walk ends at a window that has no later moment.
 fn shortest_end(at: &Setting<'_>) -> u64
-    ensures { (job : Job) → IsInTable at.now.cluster.now job
-        → result ≤ window_end at.now.cluster.now job at.now.moment }
+    ensures { result ≤ shortest_end_of at.now.cluster.now at.now.moment }
 {
     let mut end = u64::MAX;
     for (_number, job) in at.cluster.jobs.iter() {

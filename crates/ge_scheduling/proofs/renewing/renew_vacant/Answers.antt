@@ -3,7 +3,7 @@ use Rattle.std.proofs.lemmas.List.{length-set, set-set, get_or_read}
 use Rattle.std.proofs.lemmas.Option.{slice_get-get_or}
 use Rattle.ge_scheduling.specs.Rests.{is_full, renewed_left}
 use Rattle.ge_scheduling.proofs.Remaining.{renewed, vacant_within}
-use Rattle.ge_scheduling.proofs.rests.renew_vacant.Goals as goal
+use Rattle.ge_scheduling.proofs.renewing.renew_vacant.Goals as goal
 
 pub offset_bounds-items-place : goal.offset_bounds-items-place
 offset_bounds-items-place c =
@@ -39,9 +39,9 @@ returns c =
     get_or_read lefts place c.index-items-place.result inside (c.index-items-place.is ∙ ap (λ xs. slice_index_or xs place c.index-items-place.result) c.items-2.ensures) left in
     let taken : c.replace-before.result ≡ slice_index_or lefts place left =
     (let value = c.replace-before.ensures.value in let there = slice_get-get_or lefts place left inside in cc) in
-    renewed C c.args.at.now.groups.now now c.args.booked.now c.args.at.now.order.now c.args.room.now (record { lefts = c.replace-none.new.self; vacant = c.leave_out_full.new.vacant }) place c.args.index left
+    renewed C c.args.at.now.groups.now now c.args.booked.now c.args.at.now.order.now c.args.room.now c.replace-none.new.self c.leave_out_full.new.vacant c.args.kept place c.args.index left
     c.requires.left c.requires.within (ap (λ xs. slice_index_or xs c.args.index 0) c.items.ensures)
-    (ap (λ l. is_full C now l) (sym was) ∙ sym c.is_full.ensures ∙ c.if-is_full.false)
-    (c.renewed-left.ensures ∙ ap (λ l. renewed_left now c.args.booked.now l) taken)
+    (ap (λ l. is_full C now c.args.room.now.until l) (sym was) ∙ sym c.is_full.ensures ∙ c.if-is_full.false)
+    (c.renewed-left.ensures ∙ ap (λ l. renewed_left now c.args.booked.now c.args.kept l) taken)
     (c.replace-none.ensures.rest ∙ ap (λ xs. slice_set xs place left) c.replace-before.ensures.rest ∙ set-set lefts place _ left)
     c.leave_out_full.ensures

@@ -3,7 +3,7 @@ use Rattle.std.proofs.lemmas.List.{get_or_default}
 use Rattle.std.proofs.lemmas.List.Edits.{map_over_more}
 use Rattle.ge_scheduling.specs.declared.rests.Rest.{Rest}
 use Rattle.ge_scheduling.specs.Rests.{renewed_rest}
-use Rattle.ge_scheduling.proofs.rests.renew_rests.Goals as goal
+use Rattle.ge_scheduling.proofs.renewing.renew_rests.Goals as goal
 
 pub loop-rest-preserved : goal.loop-rest-preserved
 loop-rest-preserved c =
