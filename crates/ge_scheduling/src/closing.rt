@@ -1,6 +1,6 @@
 // Instances that are closed to each job of the table, since they lack a consumable that each asks for.
-ghost use Rattle.std.specs.Prelude.{◌≡◌, ◌++◌, ◌∷◌, [], true, codes, filter, IfOk, OnOk};
-ghost use Rattle.std.specs.List.{list_all};
+ghost use Rattle.std.specs.Prelude.{◌≡◌, ◌++◌, ◌∷◌, [], true, not, codes, filter, IfOk, OnOk};
+ghost use Rattle.std.specs.List.{list_any, list_all};
 ghost use Rattle.std.specs.Option.{option_copied};
 ghost use Rattle.ge_collections.specs.Keyed.{at_text};
 ghost use Rattle.ge_model_place.specs.Opening.{has_value as is_named_in, host_names, is_configured};
@@ -13,11 +13,17 @@ use ge_queues::at_host;
 use ge_rows::{Cluster, HostRow, InstanceId, Job, List, QueueRow, Table, Text, Twin, Value};
 use std::alloc::{AllocError, Global};
 
+fn names(values: &Table<Text, Value>, name: &Text) -> bool
+    ensures { result ≡ is_named_in values.now name.now }
+{
+    values.get(name).is_some()
+}
+
 fn all_ask(jobs: &Table<u32, Job>, name: &Text) -> bool
     ensures { result ≡ list_all (asks_itself name.now) jobs.now }
 {
     for (_number, job) in jobs.iter() {
-        if job.request.asked.get(name).is_none() {
+        if !names(&job.request.asked, name) {
             return false;
         }
     }
@@ -57,12 +63,6 @@ pub(crate) fn names_asked_by_all(alloc: Global, at: &Setting<'_>) -> Result<List
     Ok(names)
 }
 
-fn names(values: &Table<Text, Value>, name: &Text) -> bool
-    ensures { result ≡ is_named_in values.now name.now }
-{
-    values.get(name).is_some()
-}
-
 fn is_named_on(host: Option<&HostRow>, name: &Text) -> bool
     ensures { result ≡ host_names name.now (option_copied host.entry) }
 {
@@ -90,6 +90,25 @@ fn has_amount(
         || is_named_on(global, name)
 }
 
+fn lacks_one_there(
+    at: &Setting<'_>,
+    global: Option<&HostRow>,
+    names: &[Text],
+    instance: &InstanceId,
+    queue: &QueueRow,
+) -> bool
+    requires { option_copied global ≡ at_text at.now.cluster.now.hosts (codes "global") }
+    ensures { result ≡ list_any (λ name. not (is_configured at.now.cluster.now at.now.groups.now
+        instance.now queue.now name)) names.now }
+{
+    for name in names {
+        if !has_amount(at, global, instance, queue, name) {
+            return true;
+        }
+    }
+    false
+}
+
 fn lacks_one(
     at: &Setting<'_>,
     global: Option<&HostRow>,
@@ -102,9 +121,7 @@ fn lacks_one(
         (option_copied queue.entry) }
 {
     match queue {
-        Some(queue) => names
-            .iter()
-            .any(|name| !has_amount(at, global, instance, queue, name)),
+        Some(queue) => lacks_one_there(at, global, names, instance, queue),
         None => false,
     }
 }

@@ -1,5 +1,5 @@
 // The decision of one task.
-ghost use Rattle.std.specs.Prelude.{◌≡◌, true, None, Some, IfOk};
+ghost use Rattle.std.specs.Prelude.{◌≡◌, ◌==◌, true, None, Some, IfOk};
 ghost use Rattle.std.specs.List.{list_all};
 ghost use Rattle.ge_collections.specs.Keyed.{at_number};
 ghost use Rattle.ge_model_place.specs.Placement.{placement_of};
@@ -7,13 +7,14 @@ ghost use Rattle.ge_model_place.specs.Running.{start_with as started};
 ghost use Rattle.ge_scheduling.specs.Amounts.{IsInTable};
 ghost use Rattle.ge_scheduling.specs.Counts.{is_over, may_be_reserved};
 ghost use Rattle.ge_scheduling.specs.Rests.{blocked_in, AreLeft};
+ghost use Rattle.ge_scheduling.specs.Vacant.{goes_on as has_moment};
 ghost use Rattle.ge_scheduling.specs.Verdicts.{waiting, decision_by, decision_at};
 
 use crate::asking::asked_limits;
 use crate::counting::{Tally, is_full, may_reserve};
 use crate::placing::place_now;
 use crate::reserving::reserve;
-use crate::rests::{Left, Room, is_before};
+use crate::rests::{Room, is_before};
 use crate::setting::Setting;
 use crate::vacancy::goes_on;
 use ge_limits::LAST_SERIAL;
@@ -38,10 +39,10 @@ fn start_with(task: TaskId, serial: u64, grants: List<Grant>) -> Decision
 }
 
 // Whether too little is left for any job at a place before a window ends.
-fn is_blocked(lefts: &[Left], until: u64, place: usize) -> bool
-    ensures { result ≡ blocked_in lefts.now until place }
+fn is_blocked(room: &Room, until: u64, place: usize) -> bool
+    ensures { result ≡ blocked_in room.now.lefts until place }
 {
-    match lefts.get(place) {
+    match room.lefts.items().get(place) {
         Some(left) => is_before(left.blocked, Some(until)),
         None => false,
     }
@@ -50,24 +51,37 @@ fn is_blocked(lefts: &[Left], until: u64, place: usize) -> bool
 fn all_blocked(room: &Room, until: u64) -> bool
     ensures { result ≡ list_all (blocked_in room.now.lefts until) room.now.vacant }
 {
-    let lefts = room.lefts.items();
     room.vacant
         .items()
         .iter()
-        .all(|place| is_blocked(lefts, until, *place))
+        .all(|place| is_blocked(room, until, *place))
 }
 
-// Whether no instance takes a slot of a job now, by what is known of the vacant ones alone.
-fn none_takes(at: &Setting<'_>, _booked: &Timeline, room: &Room, job: &Job) -> bool
+// Whether no instance takes a slot of a job that is sent into no reservation, by what is known of the vacant ones alone.
+fn all_refuse(at: &Setting<'_>, _booked: &Timeline, room: &Room, job: &Job) -> bool
+    requires goes_on { has_moment at.now.cluster.now at.now.moment ≡ true }
+    requires free { (job.now.advance == 0) ≡ true }
     requires there { IsInTable at.now.cluster.now job.now }
     requires left { AreLeft at.now.cluster.now at.now.groups.now at.now.moment _booked.now
         at.now.order.now room.now }
     ensures { result ≡ true → placement_of at.now.cluster.now at.now.groups.now at.now.order.now
         _booked.now job.now at.now.moment ≡ None }
 {
-    job.advance == 0
-        && goes_on(at.cluster, at.moment)
-        && all_blocked(room, window_end_from(at.cluster, job, at.moment))
+    all_blocked(room, window_end_from(at.cluster, job, at.moment))
+}
+
+// Whether a job is known to have no placement now before it is weighed.
+fn none_takes(at: &Setting<'_>, booked: &Timeline, room: &Room, job: &Job) -> bool
+    requires there { IsInTable at.now.cluster.now job.now }
+    requires left { AreLeft at.now.cluster.now at.now.groups.now at.now.moment booked.now
+        at.now.order.now room.now }
+    ensures { result ≡ true → placement_of at.now.cluster.now at.now.groups.now at.now.order.now
+        booked.now job.now at.now.moment ≡ None }
+{
+    if job.advance == 0 && goes_on(at.cluster, at.moment) {
+        return all_refuse(at, booked, room, job);
+    }
+    false
 }
 
 // Of a task that can't start now.

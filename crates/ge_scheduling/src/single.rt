@@ -53,7 +53,10 @@ fn take_at(
         at.now.groups.now job.now booked.now at.now.moment (one_slot instance.now))
         (Some (one_slot instance.now)) None) }
 {
-    if is_before(left.blocked, Some(until)) || are_short(asked.items(), left.rests.items()) {
+    if is_before(left.blocked, Some(until)) {
+        return Ok(None);
+    }
+    if are_short(asked.items(), left.rests.items()) {
         return Ok(None);
     }
     let grants = place_job(alloc, at.cluster, at.groups, one, booked, job, at.moment)?;

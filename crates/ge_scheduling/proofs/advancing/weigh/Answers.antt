@@ -19,12 +19,12 @@ returns-clause-follows c =
     let C = c.args.at.now.cluster.now in
     let was = c.args.so_far.now in
     weighed_follows C c.args.at.now.groups.now c.args.at.now.order.now c.args.at.now.moment c.args.at.now.kinds.now.entries was.booked c.book.new.booked was.decisions c.push.new.self was.tally c.count.new.tally
-    c.passed_by-so_far.result was.passed was.full c.note.new.full was.room c.renew_started.new.room c.args.task c.in_ok-made.made c.requires
+    c.passed_by-so_far.result was.passed was.full c.note.new.full was.room c.renew.new.room c.args.task c.in_ok-made.made c.requires
     (c.in_ok-made.ensures ∙ decision_tallied C c.args.at.now.groups.now c.args.at.now.order.now c.args.at.now.moment was.booked was.decisions was.tally c.requires.tallied c.args.task)
-    c.in_ok-book.ensures c.in_ok-push.ensures.ok (c.in_ok-count.ensures was.decisions c.requires.tallied) c.passed_by-so_far.ensures c.in_ok-note.ensures c.renew_started.ensures
+    c.in_ok-book.ensures c.in_ok-push.ensures.ok (c.in_ok-count.ensures was.decisions c.requires.tallied) c.passed_by-so_far.ensures c.in_ok-note.ensures c.renew.ensures
 
-pub renew_started-requires : goal.renew_started-requires
-renew_started-requires c =
+pub renew-requires : goal.renew-requires
+renew-requires c =
     let C = c.args.at.now.cluster.now in
     let was = c.args.so_far.now in
     subst (λ bs. AreLeft C c.args.at.now.groups.now c.args.at.now.moment bs c.args.at.now.order.now was.room) (sym c.in_ok-book.ensures)

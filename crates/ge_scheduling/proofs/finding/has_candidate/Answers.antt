@@ -1,15 +1,15 @@
-use Rattle.std.proofs.Common.{All, slice_index_or, subst, arith}
+use Rattle.std.proofs.Common.{slice_index_or, subst, arith}
 use Rattle.ge_scheduling.proofs.Remaining.{left_at, passed_at, passed_more, passed_end}
-use Rattle.ge_scheduling.specs.Rests.{IsLeft}
+use Rattle.ge_scheduling.specs.Rests.{IsLeftAt}
 use Rattle.ge_scheduling.proofs.finding.has_candidate.Goals as goal
 
 pub may_take-requires-clause-left : goal.may_take-requires-clause-left
 may_take-requires-clause-left c =
     let here = passed_at c.args.at.now.cluster.now c.args.at.now.groups.now c.args.at.now.moment c.args.booked.now c.args.at.now.order.now c.args.room.now c.requires.left c.args.job.now c.requires.there c.requires.free c.items-place-items.result.now
     c.items-place-items.ensures c.loop-place.place-index c.loop-place.invariant c.loop-place-test.true in
-    subst (λ left. All (IsLeft c.args.at.now.cluster.now c.args.at.now.groups.now c.args.at.now.moment c.args.booked.now c.index-order-place.result) left.rests) c.index-lefts-place.is
+    (subst (λ left. IsLeftAt c.args.at.now.cluster.now c.args.at.now.groups.now c.args.at.now.moment c.args.booked.now c.index-order-place.result left) c.index-lefts-place.is
     (left_at c.args.at.now.cluster.now c.args.at.now.groups.now c.args.at.now.moment c.args.booked.now c.args.at.now.order.now c.args.room.now c.items-lefts.result.now (slice_index_or c.items-place-items.result.now c.loop-place.place-index 0)
-    c.index-order-place.result c.index-lefts-place.result c.requires.left c.items-lefts.ensures here.0 c.index-order-place.is c.index-lefts-place.is)
+    c.index-order-place.result c.index-lefts-place.result c.requires.left c.items-lefts.ensures here.0 c.index-order-place.is c.index-lefts-place.is)).rests
 
 pub loop-place-preserved : goal.loop-place-preserved
 loop-place-preserved c =
