@@ -1,11 +1,11 @@
 -- Moments at which too little is left at an instance, and ends of windows: they stay as bookings grow and what is left is taken anew.
-use Rattle.std.proofs.Common.{◌≡◌, ℕ, ◌-◌, ◌^◌, ◌≤◌, inl, inr, Bool, true, false, ◌&&◌, ◌||◌, min, List, [], ◌∷◌, ◌++◌, map, fold, Option, Some, None, refl, sym, subst, ap, ◌∙◌, arith}
+use Rattle.std.proofs.Common.{◌≡◌, ℕ, ◌-◌, ◌^◌, ◌≤◌, inl, inr, Bool, true, false, ◌&&◌, ◌||◌, List, [], ◌∷◌, ◌++◌, map, fold, Option, Some, None, is_some, refl, sym, subst, ap, ◌∙◌, arith}
 use Rattle.std.specs.Prelude.{nat_lt, nat_le, cond, IfSome}
 use Rattle.std.specs.BTreeMap.{is_at}
 use Rattle.std.specs.Ordering.{nat_cmp}
 use Rattle.std.proofs.lemmas.Bool.{cases_Bool, cond-true, cond-false, cond_both, and_parts, and_from, or_cases, or_left, or_right, true≢false, ltb-true, leb-true, lt-ltb}
 use Rattle.ge_collections.specs.Keyed.{at_number}
-use Rattle.ge_model_bookings.specs.Bookings.{plain_sum, peak}
+use Rattle.ge_model_bookings.specs.Bookings.{peak}
 use Rattle.ge_model_bookings.proofs.Peaks.{within_peak}
 use Rattle.ge_model_place.specs.Windows.{window_end_from, next_moment}
 use Rattle.ge_model_rows.specs.ClusterRows.{Cluster}
@@ -16,7 +16,7 @@ use Rattle.ge_timeline.specs.Looks.{window_peak}
 use Rattle.ge_scheduling.specs.declared.rests.Rest.{Rest}
 use Rattle.ge_scheduling.specs.declared.rests.Left.{Left}
 use Rattle.ge_scheduling.specs.Amounts.{IsInTable}
-use Rattle.ge_scheduling.specs.Rests.{renewed_rest, are_short, left_then, is_short_then, are_short_then, comes_before, comes_sooner, blocked_with, blocked_since, is_full, lesser_end, shortest_end_of, IsBlocked, LastsUntil}
+use Rattle.ge_scheduling.specs.Rests.{renewed_rest, are_short, left_then, is_short_then, are_short_then, comes_before, comes_sooner, blocked_since, is_full, lesser_end, shortest_end_of, IsBlocked, LastsUntil}
 use Rattle.ge_scheduling.specs.Vacant.{goes_on}
 use Rattle.ge_scheduling.proofs.Grown.{sum_grows}
 use Rattle.ge_scheduling.proofs.LeftOut.{peak_there}
@@ -24,6 +24,10 @@ use Rattle.ge_scheduling.proofs.LeftOut.{peak_there}
 some_on : {X : Type 0} (P Q : X → Type 0) (known : Option X) → ((x : X) → P x → Q x) → IfSome known P → IfSome known Q
 some_on P Q None on is = is
 some_on P Q (Some x) on is = on x is
+
+pub not_known : {X : Type 0} (known : Option X) → is_some known ≡ false → known ≡ None
+not_known None e = refl
+not_known (Some x) e = absurd (true≢false e)
 
 -- as bookings grow no more is left at a moment
 

@@ -3,7 +3,7 @@ use Rattle.std.proofs.Common.{◌≡◌, ℕ, suc, ◌+◌, ◌-◌, ◌≤◌, 
 use Rattle.std.proofs.Math.ListN.{drop_of_length-le}
 use Rattle.std.proofs.Math.Seq.{drop-cons}
 use Rattle.std.specs.List.{list_any, list_all}
-use Rattle.std.specs.Prelude.{nat_lt, slice_get, IfSome}
+use Rattle.std.specs.Prelude.{nat_lt, IfSome}
 use Rattle.std.specs.Option.{option_or}
 use Rattle.std.proofs.lemmas.Bool.{cond-true, cond-false, cases_Bool, cases_lt, cond_both, eqb-true, and_parts, or_cases, or_from, or_left, or_right, cases_eq, true≢false, false_from_ne_true, ltb-true}
 use Rattle.std.proofs.lemmas.List.{length-map, length-set, get_or-map, get_or_default, get_or_read}
@@ -34,8 +34,8 @@ use Rattle.ge_scheduling.specs.declared.rests.Left.{Left}
 use Rattle.ge_scheduling.specs.declared.rests.Room.{Room}
 use Rattle.ge_scheduling.specs.Common.{IsAsked}
 use Rattle.ge_scheduling.specs.Amounts.{IsInTable, number_in, AreLeast}
-use Rattle.ge_scheduling.specs.Closing.{asked_by_all, lacks_one, IsClosed}
-use Rattle.ge_scheduling.specs.Rests.{rest_of, host_rests, rests_at, left_first, is_full, renewed_rest, renewed_left, AreOpen, ArePassed, is_of, asks_more, is_short, is_short_now, are_short, left_then, is_short_then, are_short_then, are_short_at, comes_before, blocked_there, blocked_in, shortest_end_of, is_kept, AreKept, IsLeft, IsBlocked, IsLeftAt, LastsUntil, AreLeft}
+use Rattle.ge_scheduling.specs.Closing.{asked_by_all}
+use Rattle.ge_scheduling.specs.Rests.{rest_of, host_rests, rests_at, left_first, is_full, renewed_rest, renewed_left, AreOpen, ArePassed, is_of, asks_more, is_short, is_short_now, are_short, left_then, is_short_then, are_short_then, are_short_at, comes_before, blocked_there, blocked_in, shortest_end_of, is_kept, AreKept, IsLeft, IsBlocked, IsLeftAt, AreLeft}
 use Rattle.ge_scheduling.specs.Vacant.{goes_on, slots_of}
 use Rattle.ge_scheduling.proofs.Admitting.{any_first, any_second, counts_here, slots_count, has_room_for}
 use Rattle.ge_scheduling.proofs.Blocked.{blocked_later, blocked_anew, before_each_end, shortest_lasts, full_before}
