@@ -1,8 +1,7 @@
-use Rattle.std.proofs.Common.{length, slice_index_or, sym, subst, ◌∙◌, arith}
+use Rattle.std.proofs.Common.{length, slice_index_or, sym, ◌∙◌, arith}
 use Rattle.ge_model_place.proofs.First.{takes_one}
 use Rattle.ge_scheduling.proofs.Remaining.{left_at, passed_at, passed_more, passed_end, placed_nowhere}
 use Rattle.ge_model_place.specs.Runs.{one_slot}
-use Rattle.ge_scheduling.specs.Rests.{IsLeftAt}
 use Rattle.ge_scheduling.proofs.Singly.{takes_nothing, placed_first}
 use Rattle.ge_scheduling.proofs.single.place_alone.Goals as goal
 
@@ -10,9 +9,8 @@ pub take_at-requires-clause-left : goal.take_at-requires-clause-left
 take_at-requires-clause-left c =
     let here = passed_at c.args.at.now.cluster.now c.args.at.now.groups.now c.args.at.now.moment c.args.booked.now c.args.at.now.order.now c.args.room.now c.requires.left c.args.job.now c.requires.there c.requires.free c.items-place-items.result.now
     c.items-place-items.ensures c.loop-place.place-index c.loop-place.invariant c.loop-place-test.true in
-    subst (λ left. IsLeftAt c.args.at.now.cluster.now c.args.at.now.groups.now c.args.at.now.moment c.args.booked.now c.index-order-place.result left) c.index-lefts-place.is
-    (left_at c.args.at.now.cluster.now c.args.at.now.groups.now c.args.at.now.moment c.args.booked.now c.args.at.now.order.now c.args.room.now c.items-lefts.result.now (slice_index_or c.items-place-items.result.now c.loop-place.place-index 0)
-    c.index-order-place.result c.index-lefts-place.result c.requires.left c.items-lefts.ensures here.0 c.index-order-place.is c.index-lefts-place.is)
+    left_at c.args.at.now.cluster.now c.args.at.now.groups.now c.args.at.now.moment c.args.booked.now c.args.at.now.order.now c.args.room.now c.items-lefts.result.now (slice_index_or c.items-place-items.result.now c.loop-place.place-index 0)
+    c.index-order-place.result c.index-lefts-place.result c.requires.left c.items-lefts.ensures here.0 c.index-order-place.is c.index-lefts-place.is
 
 pub loop-place-preserved : goal.loop-place-preserved
 loop-place-preserved c =
