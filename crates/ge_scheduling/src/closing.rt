@@ -137,5 +137,11 @@ pub(crate) fn is_closed(
     ensures { result ≡ lacks_one_of at.now.cluster.now at.now.groups.now names.now
         instance.now }
 {
-    lacks_one(at, global, names, instance, at.cluster.queues.get(&instance.queue))
+    lacks_one(
+        at,
+        global,
+        names,
+        instance,
+        at.cluster.queues.get(&instance.queue),
+    )
 }

@@ -220,9 +220,7 @@ pub(crate) fn is_full(at: &Setting<'_>, until: Option<u64>, left: &Left) -> bool
     ensures { result ≡ full_at at.now.cluster.now at.now.moment until left.now }
 {
     goes_on(at.cluster, at.moment)
-        && (left.closed
-            || is_before(left.blocked, until)
-            || are_short(&[], left.rests.items()))
+        && (left.closed || is_before(left.blocked, until) || are_short(&[], left.rests.items()))
 }
 
 fn add_vacant(
@@ -331,7 +329,12 @@ fn is_short_then(booked: &Timeline, moment: u64, asked: &[Counted], rest: &Rest)
 }
 
 /// Whether more is asked than is left of one of these by what is booked at a moment.
-pub(crate) fn are_short_then(booked: &Timeline, moment: u64, asked: &[Counted], rests: &[Rest]) -> bool
+pub(crate) fn are_short_then(
+    booked: &Timeline,
+    moment: u64,
+    asked: &[Counted],
+    rests: &[Rest],
+) -> bool
     ensures { result ≡ all_short_then booked.now moment asked.now rests.now }
 {
     rests
