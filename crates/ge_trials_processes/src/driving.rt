@@ -1,6 +1,6 @@
-//! A server, and two questions to it.
+//! A faulty line, then a server, and two questions to it.
 use crate::ports::{is_free, port_at};
-use crate::starting::{Place, answer, own_program, start_server};
+use crate::starting::{FAULTY, Place, answer, end_of_faulty, own_program, start_server};
 use std::io::{Eprint, ErrorKind, Print};
 use std::process::{Child, ExitCode, Output};
 use std::{fs, io, process};
@@ -104,9 +104,16 @@ fn serve_at_port(rt: &HostRuntime, program: &str, folder: &str, port: u16) -> io
     serve_at(rt, &place)
 }
 
+// Tells how the program ends with a word that is no command: its status is not to be lost.
+fn tell_faulty(rt: &HostRuntime, program: &str) -> io::Result<()> {
+    let status = end_of_faulty(rt, program)?.status;
+    println!(rt; "{FAULTY}: {status}")
+}
+
 // Serves two questions at the first port where that can be done.
 fn serve(rt: &HostRuntime, process: u32, folder: &str) -> io::Result<()> {
     let program = own_program(rt)?;
+    tell_faulty(rt, program.as_str())?;
     for turn in 0..PORTS {
         if serve_at_port(rt, program.as_str(), folder, port_at(process, turn))? {
             return Ok(());

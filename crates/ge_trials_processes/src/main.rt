@@ -1,8 +1,8 @@
-//! A server and its clients, each a process of its own.
+//! A faulty line, a server and its clients, each a process of its own.
 //!
 //! With `ask` and the words of `gq` the program does what `gq` does, and with any other words what `gridmaster` does with
-//! them. Without words it is the driver: it starts itself as a server of two connections and twice as a client, and writes
-//! what the clients wrote and how each of the three ended.
+//! them. Without words it is the driver: it starts itself with a word that is no command, then as a server of two connections and
+//! twice as a client, and writes what the clients wrote and how each of the four ended.
 #![tactic(auto)]
 
 mod asking;

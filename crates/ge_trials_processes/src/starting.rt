@@ -3,6 +3,9 @@ use std::io::{ErrorKind, Write};
 use std::process::{Child, Command, Output, Stdio};
 use std::{env, fs, io};
 
+/// A word that is no command.
+pub(crate) const FAULTY: &str = "simulat";
+
 /// Where a server is: the program that it and its clients run, the folder of its files, and its port.
 #[derive(Drop)]
 pub(crate) struct Place<'a> {
@@ -17,6 +20,17 @@ pub(crate) fn own_program(rt: &HostRuntime) -> io::Result<String> {
         Some(name) => Ok(fs::canonicalize(rt, name.as_str())?.into_string()),
         None => Err(io::Error::from(ErrorKind::NotFound)),
     }
+}
+
+/// How this program ends with a word that is no command.
+pub(crate) fn end_of_faulty(rt: &HostRuntime, program: &str) -> io::Result<Output> {
+    let mut command = Command::new(rt.alloc(), program)?;
+    command.arg(FAULTY)?;
+    command
+        .stdin(Stdio::null())
+        .stdout(Stdio::piped())
+        .stderr(Stdio::null());
+    command.spawn(rt)?.wait_with_output(rt.alloc())
 }
 
 /// Starts a server of two connections.
