@@ -1,8 +1,22 @@
-//! Tries printed objects and accounting lines, each call on its happy path, with values from outside. Nothing stands on this
-//! crate.
+//! Tries calls below the core, each on its happy path, with values from outside: tables, rows, jobs, order, bookings, runs, lists,
+//! what is printed, and the script that is made from a number. Nothing stands on this crate.
 #![tactic(auto)]
 
 #[cfg(test)]
-mod accounting;
+mod collections;
 #[cfg(test)]
-mod printing;
+mod jobs;
+#[cfg(test)]
+mod lists;
+#[cfg(test)]
+mod order;
+#[cfg(test)]
+mod printed;
+#[cfg(test)]
+mod rows;
+#[cfg(test)]
+mod run;
+#[cfg(test)]
+mod script;
+#[cfg(test)]
+mod timeline;

@@ -2,7 +2,8 @@
 
 use crate::areas::Areas;
 use crate::{
-    command_lines, generating, keeping, large, masters, planning, running, stepping, streaming,
+    command_lines, generating, keeping, large, masters, parsing, planning, running, stepping,
+    streaming,
 };
 use ge_pieces::{before, behind, behind_word, first_word, is_word};
 use std::alloc::Global;
@@ -51,6 +52,11 @@ pub(crate) fn report(alloc: Global, page: &[u8], areas: &mut Areas) -> io::Resul
     if is_word(kind, b"large") {
         let line = large::line(alloc, name, body)?;
         let text = Vec::from_slice(alloc, line.as_bytes())?;
+        return Ok(text);
+    }
+    if is_word(kind, b"command") {
+        let line = parsing::line(alloc, body)?;
+        let text = Vec::from_slice(alloc, line.bytes())?;
         return Ok(text);
     }
     let mut text = Vec::from_slice(alloc, b"== ")?;

@@ -111,24 +111,25 @@ fn value(
 }
 
 /// The answer of a call of this name.
-pub(crate) fn answer(alloc: Global, name: &[u8], given: &[u8]) -> Result<Text, AllocError> {
+pub(crate) fn answer(alloc: Global, name: &[u8], given: &[u8]) -> Result<Option<Text>, AllocError> {
     let cluster = site(alloc)?;
     let groups = expand(alloc, &cluster)?;
-    if is_named(name, b"slots_at") {
-        slots_there(alloc, &groups, given)
+    let text = if is_named(name, b"slots_at") {
+        slots_there(alloc, &groups, given)?
     } else if is_named(name, b"instances") {
-        hosts(alloc, &cluster, &groups)
+        hosts(alloc, &cluster, &groups)?
     } else if is_named(name, b"at_host") {
-        environments(alloc, given)
+        environments(alloc, given)?
     } else if is_named(name, b"limit_at") {
-        limit(alloc, &groups, before(b'|', given), behind(b'|', given))
+        limit(alloc, &groups, before(b'|', given), behind(b'|', given))?
     } else if is_named(name, b"resolve") {
-        value(alloc, &cluster, &groups, given)
+        value(alloc, &cluster, &groups, given)?
     } else if is_named(name, b"limit_key") {
-        key_of(alloc, cluster, &groups)
+        key_of(alloc, cluster, &groups)?
     } else if is_named(name, b"keys") {
-        count_of_keys(alloc, cluster, &groups)
+        count_of_keys(alloc, cluster, &groups)?
     } else {
-        Text::from_bytes(alloc, b"no such call")
-    }
+        return Ok(None);
+    };
+    Ok(Some(text))
 }

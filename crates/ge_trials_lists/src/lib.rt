@@ -1,8 +1,0 @@
-//! Tries each list on a cluster of three jobs, one of which runs, and an advance reservation, with what an independent program
-//! lists for them. Nothing stands on this crate.
-#![tactic(auto)]
-
-#[cfg(test)]
-mod given;
-#[cfg(test)]
-mod lists;

@@ -1,8 +1,0 @@
-//! Tries scheduling runs, of three and of 20,000 waiting tasks, the sums of bookings at moments, their greatest in a
-//! window, and where a window ends, with values that were worked out by hand. Nothing stands on this crate.
-#![tactic(auto)]
-
-#[cfg(test)]
-mod runs;
-#[cfg(test)]
-mod sums;
