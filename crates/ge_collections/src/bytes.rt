@@ -1,10 +1,14 @@
 // A text's bytes: few in the value itself, more in memory of their own.
 ghost use Rattle.std.specs.Prelude.{◌≡◌, [], ◌++◌, take, IfOk, OnOk, OnErr, IfNone};
 ghost use Rattle.std.specs.Option.{option_to_list};
+ghost use Rattle.std.specs.Cmp.Lexicographic.{slice_cmp};
+ghost use Rattle.std.specs.Ordering.{nat_cmp};
 ghost use Rattle.ge_collections.specs.Bytes.{bytes_of};
 
+use crate::comparing::compare;
 use crate::inline_bytes::InlineBytes;
 use std::alloc::{AllocError, Global};
+use std::cmp::Ordering;
 
 /// Bytes. Names are mostly so short that they take no memory of their own.
 #[derive(Debug, Drop)]
@@ -52,6 +56,15 @@ impl Bytes {
             Bytes::Few(_, bytes) => bytes.as_slice(),
             Bytes::Many(bytes) => bytes.as_slice(),
         }
+    }
+
+    /// The order of the bytes, wherever they lie. It stands apart, so that the comparison of short texts is small enough to be
+    /// a part of its callers.
+    #[inline(never)]
+    pub(crate) fn order(&self, other: &Bytes) -> Ordering
+        ensures { result ≡ slice_cmp nat_cmp (bytes_of self.now) (bytes_of other.now) }
+    {
+        compare(self.as_slice(), other.as_slice())
     }
 
     /// Puts bytes at the end, all of them or none.

@@ -30,7 +30,8 @@ fn set_count<K: Ord>(keys: &mut BTreeMap<K, u64>, key: &K, count: u64)
     }
 }
 
-/// Notes a key once more, if there is memory and the count fits.
+/// Notes a key once more, if there is memory and the count fits. A key that wasn't noted is first noted no times, so that it is
+/// looked up once.
 pub(crate) fn raise_count<K: Ord + Twin + Drop>(
     alloc: Global,
     keys: &mut BTreeMap<K, u64>,
@@ -40,18 +41,18 @@ pub(crate) fn raise_count<K: Ord + Twin + Drop>(
         ≡ cond (is_at (K.cmp key.now) q) (Some (unwrap_or (lookup (is_at (K.cmp key.now)) keys.old.entries) 0
         + 1)) (lookup (is_at (K.cmp q)) keys.old.entries) }
 {
-    let count = count_of(keys, key);
+    let Ok(copy) = key.twin(alloc) else {
+        return false;
+    };
+    let Ok(entry) = keys.entry(copy) else {
+        return false;
+    };
+    let count = entry.or_insert(0);
     let Some(more) = count.checked_add(1) else {
         return false;
     };
-    if count > 0 {
-        set_count(keys, key, more);
-        return true;
-    }
-    match key.twin(alloc) {
-        Ok(copy) => keys.insert(copy, more).is_ok(),
-        Err(_want) => false,
-    }
+    *count = more;
+    true
 }
 
 /// Notes a key once less.

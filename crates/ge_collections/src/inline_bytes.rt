@@ -63,7 +63,16 @@ impl InlineBytes {
         &self.cells[..self.len as usize]
     }
 
+    // The order of bytes whose first ones are the same, one by one.
+    #[inline(never)]
+    fn order_each(&self, other: &InlineBytes) -> Ordering
+        ensures { result ≡ slice_cmp nat_cmp self.now other.now }
+    {
+        compare(self.as_slice(), other.as_slice())
+    }
+
     /// The order of the bytes: that of their numbers, and where one number holds both whole, that of their lengths.
+    #[inline]
     pub(crate) fn order(&self, other: &InlineBytes) -> Ordering
         ensures { result ≡ slice_cmp nat_cmp self.now other.now }
     {
@@ -73,7 +82,7 @@ impl InlineBytes {
         if self.len as usize <= HEAD && other.len as usize <= HEAD {
             return self.len.cmp(&other.len);
         }
-        compare(self.as_slice(), other.as_slice())
+        self.order_each(other)
     }
 
     /// Puts bytes at the end, if they are few enough; nothing changes where they aren't.
@@ -81,6 +90,9 @@ impl InlineBytes {
         ensures value { self.new ≡ cond result (self.old ++ bytes.now) self.old }
         ensures fits { length self.old + length bytes.now ≤ 15 → IsTrue result }
     {
+        if bytes.is_empty() {
+            return true;
+        }
         let start = self.len as usize;
         if bytes.len() > FEW - start {
             return false;

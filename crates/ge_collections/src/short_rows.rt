@@ -42,7 +42,22 @@ fn number_label<L: Ord + Twin + Drop>(
     Some(found)
 }
 
-// The numbers of three labels.
+// The numbers of three labels that have one each, as those of most rows do.
+fn known_numbers<L: Ord>(numbers: &BTreeMap<L, u32>, labels: &(L, L, L)) -> Option<(u32, u32, u32)>
+    ensures first { IfSome result (λ three. number_in L.cmp numbers.now.entries labels.now.0
+        ≡ Some three.0) }
+    ensures second { IfSome result (λ three. number_in L.cmp numbers.now.entries labels.now.1
+        ≡ Some three.1) }
+    ensures third { IfSome result (λ three. number_in L.cmp numbers.now.entries labels.now.2
+        ≡ Some three.2) }
+{
+    let first = numbers.get(&labels.0)?;
+    let second = numbers.get(&labels.1)?;
+    let third = numbers.get(&labels.2)?;
+    Some((*first, *second, *third))
+}
+
+// The numbers of three labels. Only where one is new do they move.
 fn number_labels<L: Ord + Twin + Drop>(
     numbers: &mut BTreeMap<L, u32>,
     bound: &mut u32,
@@ -57,6 +72,9 @@ fn number_labels<L: Ord + Twin + Drop>(
     ensures third { IfSome result (λ three. number_in L.cmp numbers.new.entries labels.2
         ≡ Some three.2) }
 {
+    if let Some(known) = known_numbers(numbers, &labels) {
+        return Some(known);
+    }
     let (first, second, third) = labels;
     let first = number_label(numbers, bound, first)?;
     let second = number_label(numbers, bound, second)?;
