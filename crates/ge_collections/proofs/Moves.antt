@@ -28,11 +28,3 @@ module _ (whole : Bool) (first second a b : ℕ) where
       → AreSums whole first second (a - unwrap_or (option_map f found) 0) (b - unwrap_or (option_map g found) 0)
   sums_found {V} f g found row is known =
       subst (λ (o : Option V). AreSums whole first second (a - unwrap_or (option_map f o) 0) (b - unwrap_or (option_map g o) 0)) (sym is) known
-
-module _ {K M : Type 0} (R : K → K → Ordering) (C : M → M → Ordering) where
-  -- the same lost marks under another name
-  pub same_lost : (ledger : List (M × Keys K)) (count : M → K → ℕ) (key : K) (gained less lost : List M) → less ≡ lost
-      → Counts R C ledger (λ m q. count m q + only_at R key (times C m gained) q - only_at R key (times C m less) q)
-      → Counts R C ledger (λ m q. count m q + only_at R key (times C m gained) q - only_at R key (times C m lost) q)
-  same_lost ledger count key gained less lost l known m q =
-      known m q ∙ ap (λ (list : List M). nonzero (count m q + only_at R key (times C m gained) q - only_at R key (times C m list) q)) l

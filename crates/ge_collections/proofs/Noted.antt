@@ -1,14 +1,14 @@
 -- What a ledger notes after one key is noted otherwise at one mark.
-use Rattle.std.proofs.Common.{◌≡◌, ℕ, zero, suc, ◌+◌, ◌-◌, Bool, true, false, cond, ◌&&◌, List, [], ◌∷◌, ◌++◌, Option, Some, None, refl, sym, ap, ◌∙◌, ◌<◌, length, take, get_or, arith, add-one}
+use Rattle.std.proofs.Common.{◌≡◌, ℕ, zero, suc, ◌+◌, ◌-◌, Bool, true, false, cond, ◌&&◌, List, [], ◌∷◌, ◌++◌, Option, Some, None, refl, sym, ap, ◌∙◌, length, arith, add-one}
 use Rattle.std.specs.Option.{unwrap_or, IsSome}
 use Rattle.std.specs.Prelude.{Result, Ok, Err, OnOk}
 use Rattle.std.specs.Result.{is_ok}
-use Rattle.std.specs.BTreeMap.{BTreeMap, is_at}
+use Rattle.std.specs.BTreeMap.{is_at}
 use Rattle.std.specs.Cmp.{IsTotalOrder}
 use Rattle.std.specs.Map.{lookup}
 use Rattle.std.specs.declared.cmp.Ordering.{Ordering}
 use Rattle.std.proofs.lemmas.Cmp.{eq_by_cmp_equiv}
-use Rattle.std.proofs.lemmas.List.Sums.{sum_by_more, sum_by_push}
+use Rattle.std.proofs.lemmas.List.Sums.{sum_by_push}
 use Rattle.ge_collections.specs.Kept.{entries_of, nonzero, noted_in, Counts, only_at}
 use Rattle.ge_collections.specs.Marked.{times}
 use Rattle.ge_collections.specs.declared.keys.Keys.{Keys}
@@ -124,32 +124,13 @@ module _ {K M : Type 0} {R : K → K → Ordering} {C : M → M → Ordering} (k
       counts_at (λ n. n - 1) ledger after mark key (Some known) (Some left) count is shown changed
 
   -- the last key of a mark is gone
-  pub lowered_last : (ledger between after : List (M × Keys K)) (mark : M) (key : K) (known left : Keys K)
+  pub lowered_last : (ledger after : List (M × Keys K)) (mark : M) (key : K) (known : Keys K)
       → lookup (is_at (C mark)) ledger ≡ Some known
-      → ((m : M) → lookup (is_at (C m)) between ≡ cond (is_at (C mark) m) (Some left) (lookup (is_at (C m)) ledger))
-      → ((m : M) → lookup (is_at (C m)) after ≡ cond (is_at (C mark) m) None (lookup (is_at (C m)) between))
+      → ((m : M) → lookup (is_at (C m)) after ≡ cond (is_at (C mark) m) None (lookup (is_at (C m)) ledger))
       → ((q : K) → cond (is_at (R key) q) (nonzero (unwrap_or (lookup (is_at (R key)) (entries_of known)) 0 - 1)) (lookup (is_at (R q)) (entries_of known)) ≡ None)
       → (count : M → K → ℕ) → Counts R C ledger count → Counts R C after (λ m q. cond (is_at (C mark) m && is_at (R key) q) (count m q - 1) (count m q))
-  lowered_last ledger between after mark key known left is mid shown gone_all count =
-      counts_at (λ n. n - 1) ledger after mark key (Some known) None count is
-      (λ m. shown m ∙ gone (is_at (C mark) m) m (mid m))
-      (λ q. sym (gone_all q))
-    where
-      gone : (b : Bool) (m : M) → lookup (is_at (C m)) between ≡ cond b (Some left) (lookup (is_at (C m)) ledger) → cond b None (lookup (is_at (C m)) between) ≡ cond b None (lookup (is_at (C m)) ledger)
-      gone true m h = refl
-      gone false m h = h
-
-  -- a mark that no key has loses none
-  pub lowered_none : (ledger after : BTreeMap M (Keys K)) (mark : M) (key : K) → None ≡ lookup (is_at (C mark)) ledger.entries → after ≡ ledger
-      → (count : M → K → ℕ) → Counts R C ledger.entries count → Counts R C after.entries (λ m q. cond (is_at (C mark) m && is_at (R key) q) (count m q - 1) (count m q))
-  lowered_none ledger after mark key is same count =
-      counts_at (λ n. n - 1) ledger.entries after.entries mark key None None count (sym is)
-      (λ m. ap (λ (l : BTreeMap M (Keys K)). lookup (is_at (C m)) l.entries) same ∙ lookup_stays marks mark m ledger.entries None (sym is))
-      (λ q. nothing (is_at (R key) q))
-    where
-      nothing : (b : Bool) → None ≡ cond b (nonzero (0 - 1)) None
-      nothing true = refl
-      nothing false = refl
+  lowered_last ledger after mark key known is shown gone count =
+      counts_at (λ n. n - 1) ledger after mark key (Some known) None count is shown (λ q. sym (gone q))
 
 -- one more mark of a list is counted, and one less
 added : (a b : Bool) (n t : ℕ) → cond (a && b) (n + cond b t 0 + 1) (n + cond b t 0) ≡ n + cond b (t + cond a 1 0) 0
@@ -165,13 +146,6 @@ taken false true n t = omega arith
 taken false false n t = refl
 
 module _ {M : Type 0} {C : M → M → Ordering} (order : IsTotalOrder C) where
-  times_more : (marks : List M) (i : ℕ) (x : M) → x ≡ get_or marks i x → i < length marks → (m : M)
-      → times C m (take (i + 1) marks) ≡ times C m (take i marks) + cond (is_at (C x) m) 1 0
-  times_more marks i x is lt m =
-      sum_by_more (λ y. cond (is_at (C m) y) 1 0) marks i x lt
-      ∙ ap (λ y. times C m (take i marks) + cond (is_at (C m) y) 1 0) (sym is)
-      ∙ ap (λ b. times C m (take i marks) + cond b 1 0) ((eq_by_cmp_equiv order).symm m x)
-
   -- a mark behind marks stands once more
   times_pushed : (marks : List M) (x m : M) → times C m (marks ++ x ∷ []) ≡ times C m marks + cond (is_at (C x) m) 1 0
   times_pushed marks x m =
@@ -188,11 +162,11 @@ module _ {K M : Type 0} {R : K → K → Ordering} {C : M → M → Ordering} (k
       ∙ ap nonzero (added (is_at (C x) m) (is_at (R key) q) (count m q) (times C m marks)
       ∙ ap (λ t. count m q + only_at R key t q) (sym (times_pushed order marks x m)))
 
-  pub lowered_more : (before start after : List (M × Keys K)) (key : K) (marks : List M) (i : ℕ) (x : M) → x ≡ get_or marks i x → i < length marks
-      → ((count : M → K → ℕ) → Counts R C before count → Counts R C start (λ m q. count m q - only_at R key (times C m (take i marks)) q))
+  pub lowered_more : (before start after : List (M × Keys K)) (key : K) (marks : List M) (x : M)
+      → ((count : M → K → ℕ) → Counts R C before count → Counts R C start (λ m q. count m q - only_at R key (times C m marks) q))
       → ((count : M → K → ℕ) → Counts R C start count → Counts R C after (λ m q. cond (is_at (C x) m && is_at (R key) q) (count m q - 1) (count m q)))
-      → (count : M → K → ℕ) → Counts R C before count → Counts R C after (λ m q. count m q - only_at R key (times C m (take (i + 1) marks)) q)
-  lowered_more before start after key marks i x is lt so_far next count known m q =
-      next (λ m q. count m q - only_at R key (times C m (take i marks)) q) (so_far count known) m q
-      ∙ ap nonzero (taken (is_at (C x) m) (is_at (R key) q) (count m q) (times C m (take i marks))
-      ∙ ap (λ t. count m q - only_at R key t q) (sym (times_more order marks i x is lt m)))
+      → (count : M → K → ℕ) → Counts R C before count → Counts R C after (λ m q. count m q - only_at R key (times C m (marks ++ x ∷ [])) q)
+  lowered_more before start after key marks x so_far next count known m q =
+      next (λ m q. count m q - only_at R key (times C m marks) q) (so_far count known) m q
+      ∙ ap nonzero (taken (is_at (C x) m) (is_at (R key) q) (count m q) (times C m marks)
+      ∙ ap (λ t. count m q - only_at R key t q) (sym (times_pushed order marks x m)))

@@ -58,7 +58,7 @@ fn forget_row<K: Ord + Drop, V: Row>(
         return;
     }
     match row.marks(alloc) {
-        Ok(marks) => forget(ledger, key, &marks),
+        Ok(marks) => forget(ledger, key, marks),
         Err(_want) => ledger.whole = false,
     }
 }
@@ -137,7 +137,7 @@ fn shift_marks<K: Ord + Twin + Drop, M: Ord + Twin + Drop>(
     match marks {
         Some(Marks { lost, gained }) => {
             learn(alloc, ledger, key, gained);
-            forget(ledger, key, &lost);
+            forget(ledger, key, lost);
         }
         None => ledger.whole = false,
     }
