@@ -43,11 +43,7 @@ fn raise<K: Ord + Twin + Drop, M: Ord + Drop>(
 
 // A mark once less at a key, if a key has it. A mark that no key has any more is forgotten, at the place where it was found,
 // so that it is looked up once.
-fn lower<K: Ord + Drop, M: Ord + Drop>(
-    bearers: &mut BTreeMap<M, Keys<K>>,
-    mark: M,
-    key: &K,
-) -> bool
+fn lower<K: Ord + Drop, M: Ord + Drop>(bearers: &mut BTreeMap<M, Keys<K>>, mark: M, key: &K) -> bool
     ensures { IsTrue result → (count : M → K → ℕ) → Counts K.cmp M.cmp bearers.old.entries count
         → Counts K.cmp M.cmp bearers.new.entries
         (λ m q. cond (is_at (M.cmp mark) m && is_at (K.cmp key.now) q) (count m q

@@ -11,7 +11,7 @@ use crate::labels::{JobFacts, JobLabel, labels_of};
 use crate::marks::{JobMark, MarkSort};
 use crate::tasks::{TaskSet, TaskSpan};
 use crate::values::Value;
-use ge_collections::{Row, Table, Text};
+use ge_collections::{Row, Table, Text, Twin, twins2};
 use std::alloc::{AllocError, Global};
 
 impl Row for Running {
@@ -57,18 +57,43 @@ impl Row for Running {
     fn orderly(&self) {}
 }
 
-// One mark more.
+// One mark more, of one name.
 fn push(
     alloc: Global,
     marks: &mut Vec<JobMark>,
     sort: MarkSort,
     name: &Text,
-    other: &[u8],
     number: u64,
 ) -> Result<(), AllocError>
-    ensures { OnOk result (marks.new.items ≡ marks.old.items ++ mark_of sort name.now other.now number ∷ []) }
+    ensures { OnOk result (marks.new.items ≡ marks.old.items ++ mark_of sort name.now [] number ∷ []) }
 {
-    let mark = JobMark::new(alloc, sort, name.bytes(), other, number)?;
+    let mark = JobMark {
+        sort,
+        name: name.twin(alloc)?,
+        other: Text::new(alloc),
+        number,
+    };
+    marks.push(mark)?;
+    Ok(())
+}
+
+// One mark more, of two names.
+fn push_two(
+    alloc: Global,
+    marks: &mut Vec<JobMark>,
+    sort: MarkSort,
+    name: &Text,
+    other: &Text,
+) -> Result<(), AllocError>
+    ensures { OnOk result (marks.new.items ≡ marks.old.items ++ mark_of sort name.now other.now 0 ∷ []) }
+{
+    let (name, other) = twins2(alloc, name, other)?;
+    let mark = JobMark {
+        sort,
+        name,
+        other,
+        number: 0,
+    };
     marks.push(mark)?;
     Ok(())
 }
@@ -78,8 +103,8 @@ fn push_grants(alloc: Global, marks: &mut Vec<JobMark>, grants: &[Grant]) -> Res
     ensures { OnOk result (marks.new.items ≡ marks.old.items ++ flat_map grant_marks grants.now) }
 {
     for grant in grants {
-        push(alloc, marks, MarkSort::Queue, &grant.at.queue, b"", 0)?;
-        push(alloc, marks, MarkSort::Host, &grant.at.host, b"", 0)?;
+        push(alloc, marks, MarkSort::Queue, &grant.at.queue, 0)?;
+        push(alloc, marks, MarkSort::Host, &grant.at.host, 0)?;
     }
     Ok(())
 }
@@ -94,7 +119,7 @@ fn push_run(
     ensures { OnOk result (marks.new.items ≡ marks.old.items ++ run_marks serial grants.now) }
 {
     match grants.first() {
-        Some(grant) => push(alloc, marks, MarkSort::RunsOn, &grant.at.host, b"", serial),
+        Some(grant) => push(alloc, marks, MarkSort::RunsOn, &grant.at.host, serial),
         None => Ok(()),
     }
 }
@@ -104,17 +129,22 @@ fn push_task(alloc: Global, marks: &mut Vec<JobMark>, task: &Running) -> Result<
     ensures { OnOk result (marks.new.items ≡ marks.old.items ++ marks_of_task task.now) }
 {
     let none = Text::new(alloc);
-    push(alloc, marks, MarkSort::Runs, &none, b"", 0)?;
-    push(alloc, marks, MarkSort::Serial, &none, b"", task.serial)?;
+    push(alloc, marks, MarkSort::Runs, &none, 0)?;
+    push(alloc, marks, MarkSort::Serial, &none, task.serial)?;
     push_run(alloc, marks, task.serial, task.grants.items())?;
     push_grants(alloc, marks, task.grants.items())
+}
+
+// How many marks a running task has, so that room for them is made once.
+fn room_for(task: &Running) -> usize {
+    task.grants.len().saturating_mul(2).saturating_add(3)
 }
 
 /// The marks that a running task gives its job. An edit that starts or ends one tells them to the table of jobs.
 pub fn task_marks(alloc: Global, task: &Running) -> Result<Vec<JobMark>, AllocError>
     ensures { IfOk result (λ marks. marks.items ≡ marks_of_task task.now) }
 {
-    let mut marks = Vec::new(alloc);
+    let mut marks = Vec::with_capacity(alloc, room_for(task))?;
     push_task(alloc, &mut marks, task)?;
     Ok(marks)
 }
@@ -142,7 +172,7 @@ fn push_asked(
     ensures { OnOk result (marks.new.items ≡ marks.old.items ++ map attribute_mark (keys_of asked.now)) }
 {
     for name in asked.keys() {
-        push(alloc, marks, MarkSort::Attribute, name, b"", 0)?;
+        push(alloc, marks, MarkSort::Attribute, name, 0)?;
     }
     Ok(())
 }
@@ -154,7 +184,7 @@ fn push_project(alloc: Global, marks: &mut Vec<JobMark>, project: &Text) -> Resu
     if project.is_empty() {
         return Ok(());
     }
-    push(alloc, marks, MarkSort::Project, project, b"", 0)
+    push(alloc, marks, MarkSort::Project, project, 0)
 }
 
 // The mark of an advance reservation, where there is one.
@@ -169,7 +199,6 @@ fn push_advance(alloc: Global, marks: &mut Vec<JobMark>, advance: u32) -> Result
         marks,
         MarkSort::Advance,
         &Text::new(alloc),
-        b"",
         u64::from(advance),
     )
 }
@@ -183,7 +212,7 @@ fn push_pe(
     ensures { OnOk result (marks.new.items ≡ marks.old.items ++ pe_marks pe.now) }
 {
     match pe {
-        Some(pe) => push(alloc, marks, MarkSort::Pe, &pe.name, b"", 0),
+        Some(pe) => push(alloc, marks, MarkSort::Pe, &pe.name, 0),
         None => Ok(()),
     }
 }
@@ -192,14 +221,7 @@ fn push_pe(
 fn push_own(alloc: Global, marks: &mut Vec<JobMark>, job: &Job) -> Result<(), AllocError>
     ensures { OnOk result (marks.new.items ≡ marks.old.items ++ own_marks job.now) }
 {
-    push(
-        alloc,
-        marks,
-        MarkSort::Owner,
-        &job.owner,
-        job.name.bytes(),
-        0,
-    )?;
+    push_two(alloc, marks, MarkSort::Owner, &job.owner, &job.name)?;
     push_project(alloc, marks, &job.project)?;
     push_advance(alloc, marks, job.advance)?;
     push_pe(alloc, marks, &job.request.pe)?;
@@ -323,6 +345,11 @@ fn facts_of(job: &Job) -> JobFacts
     }
 }
 
+// How many marks most jobs have: a few of their own, and those of tasks that have slots at one place.
+fn room_of(job: &Job) -> usize {
+    job.running.len().saturating_mul(5).saturating_add(3)
+}
+
 impl Row for Job {
     ghost use Rattle.std.specs.Prelude.{◌≡◌, true};
     ghost use Rattle.std.specs.List.Sorted.{IsStrictlySortedBy};
@@ -360,7 +387,7 @@ impl Row for Job {
     }
 
     fn marks(&self, alloc: Global) -> Result<Vec<JobMark>, AllocError> {
-        let mut marks = Vec::new(alloc);
+        let mut marks = Vec::with_capacity(alloc, room_of(self))?;
         push_own(alloc, &mut marks, self)?;
         push_tasks(alloc, &mut marks, &self.running)?;
         Ok(marks)
