@@ -2,10 +2,7 @@
 use Rattle.std.proofs.Common.{◌≡◌, ℕ, ◌+◌, ◌-◌, Bool, List, Option, Some, None, sym, ap, subst, ◌∙◌}
 use Rattle.std.specs.Option.{unwrap_or, option_map}
 use Rattle.std.specs.Prelude.{IfSome}
-use Rattle.std.specs.declared.cmp.Ordering.{Ordering}
-use Rattle.ge_collections.specs.Kept.{AreSums, Counts, nonzero, only_at}
-use Rattle.ge_collections.specs.Marked.{times}
-use Rattle.ge_collections.specs.declared.keys.Keys.{Keys}
+use Rattle.ge_collections.specs.Kept.{AreSums}
 
 module _ {X M : Type 0} (lost gained : X → List M) (count : M → List M → ℕ) where
   -- the marks that move are those that an edit told
