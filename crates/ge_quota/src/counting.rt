@@ -9,7 +9,9 @@ use crate::ruling::{Numbered, matching_rule};
 use ge_rows::{Cluster, Filter, Groups, List, QuotaKey, QuotaRow, Rule, Text, Twin};
 use std::alloc::{AllocError, Global};
 
-// What a filter keeps of a name: in braces each name counts apart. Most filters keep none, which takes no memory.
+// What a filter keeps of a name: in braces each name counts apart. Most filters keep none, which takes no memory, and
+// is no call then.
+#[inline(always)]
 fn kept(alloc: Global, filter: &Option<Filter>, name: &Text) -> Result<Text, AllocError>
     ensures { IfOk result (λ kept. kept ≡ kept_name filter.now name.now) }
 {
@@ -22,29 +24,6 @@ fn kept(alloc: Global, filter: &Option<Filter>, name: &Text) -> Result<Text, All
         }
         None => Ok(Text::new(alloc)),
     }
-}
-
-fn asker(alloc: Global, who: &Who<'_>, rule: &Rule) -> Result<(Text, Text, Text), AllocError>
-    ensures { IfOk result (λ names. names
-        ≡ (
-          kept_name rule.now.users who.now.user.now,
-          kept_name rule.now.projects who.now.project.now,
-          kept_name rule.now.pes who.now.pe.now,
-        )) }
-{
-    let user = kept(alloc, &rule.users, who.user)?;
-    let project = kept(alloc, &rule.projects, who.project)?;
-    let pe = kept(alloc, &rule.pes, who.pe)?;
-    Ok((user, project, pe))
-}
-
-fn place(alloc: Global, who: &Who<'_>, rule: &Rule) -> Result<(Text, Text), AllocError>
-    ensures { IfOk result (λ names. names
-        ≡ (kept_name rule.now.queues who.now.queue.now, kept_name rule.now.hosts who.now.host.now)) }
-{
-    let queue = kept(alloc, &rule.queues, who.queue)?;
-    let host = kept(alloc, &rule.hosts, who.host)?;
-    Ok((queue, host))
 }
 
 // A rule's number as keys have it, cut at the greatest of its type.
@@ -65,19 +44,16 @@ pub fn rule_key(
     ensures { IfOk result (λ key. key
         ≡ rule_key set.now (asked_by who.now) resource.now (found.now.number, found.now.rule.now)) }
 {
-    let (user, project, pe) = asker(alloc, who, found.rule)?;
-    let (queue, host) = place(alloc, who, found.rule)?;
-    let set = set.twin(alloc)?;
-    let resource = Text::from_bytes(alloc, resource)?;
+    let rule = found.rule;
     Ok(QuotaKey {
-        set,
+        set: set.twin(alloc)?,
         rule: number_in_key(found.number),
-        user,
-        project,
-        pe,
-        queue,
-        host,
-        resource,
+        user: kept(alloc, &rule.users, who.user)?,
+        project: kept(alloc, &rule.projects, who.project)?,
+        pe: kept(alloc, &rule.pes, who.pe)?,
+        queue: kept(alloc, &rule.queues, who.queue)?,
+        host: kept(alloc, &rule.hosts, who.host)?,
+        resource: Text::from_bytes(alloc, resource)?,
     })
 }
 

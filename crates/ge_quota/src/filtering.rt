@@ -1,7 +1,9 @@
 //! Filters of rules.
 
-ghost use Rattle.std.specs.Prelude.{◌≡◌, ℕ, Bool, List, IfOk};
+ghost use Rattle.std.specs.Prelude.{◌≡◌, ◌∷◌, [], ℕ, Bool, List, IfOk};
 ghost use Rattle.std.specs.List.{list_any};
+ghost use Rattle.ge_collections.specs.Keyed.{text_eq};
+ghost use Rattle.ge_model_text.specs.Pattern.{pattern_covers};
 ghost use Rattle.ge_model_value.specs.Pieces.{is_empty};
 ghost use Rattle.ge_model_place.specs.Quotas.{names_one, filter_admits, admits_name};
 
@@ -11,6 +13,23 @@ use ge_hosts::group_has;
 use ge_rows::{Cluster, Filter, Groups, Text};
 use ge_text::matches;
 use std::alloc::{AllocError, Global};
+
+fn is_star(pattern: &[u8]) -> bool
+    ensures { result ≡ text_eq pattern.now (42 ∷ []) }
+{
+    match pattern {
+        [b'*'] => true,
+        _ => false,
+    }
+}
+
+// Whether a pattern stands for a name. Most patterns of filters are `*`, which stands for every name.
+#[tactic(auto, using(crate::proofs::Patterns::star_covers))]
+fn stands_for(pattern: &[u8], name: &[u8]) -> bool
+    ensures { result ≡ pattern_covers pattern.now name.now }
+{
+    is_star(pattern) || matches(pattern, name)
+}
 
 /// Whether an element of a filter names what is asked for.
 pub(crate) trait Asked {
@@ -41,7 +60,7 @@ impl<'a> Asked for AskedUser<'a> {
                     let set = Text::from_bytes(alloc, name)?;
                     Ok(in_set(self.cluster, &set, self.who.user, self.who.group))
                 } else {
-                    Ok(matches(element.bytes(), self.who.user.bytes()))
+                    Ok(stands_for(element.bytes(), self.who.user.bytes()))
                 }
             }
             [] => Ok(false),
@@ -67,7 +86,7 @@ impl<'a> Asked for AskedHost<'a> {
                 if *first == b'@' {
                     Ok(group_has(self.groups, element, self.host))
                 } else {
-                    Ok(matches(element.bytes(), self.host.bytes()))
+                    Ok(stands_for(element.bytes(), self.host.bytes()))
                 }
             }
             [] => Ok(false),
@@ -87,7 +106,7 @@ impl<'a> Asked for AskedName<'a> {
     ghost names_by = { λ asked. names asked.name.now };
 
     fn is_named(&self, _alloc: Global, element: &Text) -> Result<bool, AllocError> {
-        Ok(matches(element.bytes(), self.name.bytes()))
+        Ok(stands_for(element.bytes(), self.name.bytes()))
     }
 }
 
