@@ -1,33 +1,63 @@
 //! Windows of tasks.
 
-ghost use Rattle.std.specs.Prelude.{◌≡◌, ◌&&◌, ◌||◌};
-ghost use Rattle.std.specs.Option.{option_copied};
+ghost use Rattle.std.specs.Prelude.{◌≡◌, ◌∷◌, ◌&&◌, ◌||◌, Some, None, codes, cond};
+ghost use Rattle.std.specs.Option.{option_copied, option_or};
 ghost use Rattle.std.specs.BTreeMap.{is_at};
-ghost use Rattle.ge_collections.specs.Keyed.{at_text, text_cmp};
+ghost use Rattle.ge_collections.specs.Keyed.{at_text, text_cmp, text_eq};
 ghost use Rattle.ge_model_place.specs.Windows.{duration_of, lasts_at, least_asked, no_later_than};
 ghost use Rattle.ge_model_place.specs.Windows as windows;
 
 use ge_bookings::end_of_window;
 use ge_complex::amount_in;
-use ge_pieces::is_word;
 use ge_rows::{Advance, Cluster, Job, Text, Value};
 
-fn is_key(name: &[u8], key: &Text) -> bool
-    ensures { result ≡ is_at (text_cmp name.now) key.now }
+// Whether a name is that of a time: a letter of its own, and what the names of both times (queue_conf h_rt, s_rt) end in.
+fn is_time(letter: u8, name: &[u8]) -> bool
+    ensures { result ≡ text_eq (letter ∷ codes "_rt") name.now }
 {
-    is_word(name, key.bytes())
+    match name {
+        [first, b'_', b'r', b't'] => *first == letter,
+        _ => false,
+    }
 }
 
-// What a job asks for under a name. Jobs ask for few things, so a walk costs less than a text to look up.
-fn asked_for<'a>(job: &'a Job, name: &[u8]) -> Option<&'a Value>
-    ensures { option_copied result ≡ at_text job.now.request.asked name.now }
+fn is_key_of_time(letter: u8, key: &Text) -> bool
+    ensures { result ≡ is_at (text_cmp (letter ∷ codes "_rt")) key.now }
 {
-    for (key, value) in job.request.asked.iter() {
-        if is_key(name, key) {
-            return Some(value);
-        }
+    is_time(letter, key.bytes())
+}
+
+// What was met of a time, or else a value whose name is that of the time.
+fn met_or<'a>(met: Option<&'a Value>, is_named: bool, value: &'a Value) -> Option<&'a Value>
+    ensures { option_copied result
+        ≡ option_or (option_copied met.entry) (cond is_named (Some value.now) None) }
+{
+    match met {
+        Some(first) => Some(first),
+        None => { if is_named { Some(value) } else { None } }
     }
-    None
+}
+
+/// The times that a job asks for.
+#[derive(Clone, Copy)]
+struct Times<'a> {
+    hard: Option<&'a Value>,
+    soft: Option<&'a Value>,
+}
+
+// Jobs ask for few things, so one walk for both times costs less than texts to look up.
+#[tactic(auto, using(crate::proofs::FirstMet::met_more, crate::proofs::FirstMet::met_all))]
+fn times_of(job: &Job) -> Times<'_>
+    ensures hard { option_copied result.hard ≡ at_text job.now.request.asked (codes "h_rt") }
+    ensures soft { option_copied result.soft ≡ at_text job.now.request.asked (codes "s_rt") }
+{
+    let mut hard: Option<&Value> = None;
+    let mut soft: Option<&Value> = None;
+    for (key, value) in job.request.asked.iter() {
+        hard = met_or(hard, is_key_of_time(b'h', key), value);
+        soft = met_or(soft, is_key_of_time(b's', key), value);
+    }
+    Times { hard, soft }
 }
 
 fn least_of(hard: Option<&Value>, soft: Option<&Value>, default: u64) -> u64
@@ -45,8 +75,7 @@ fn least_of(hard: Option<&Value>, soft: Option<&Value>, default: u64) -> u64
 fn duration(cluster: &Cluster, job: &Job) -> u64
     ensures { result ≡ duration_of cluster.now job.now }
 {
-    let hard = asked_for(job, b"h_rt");
-    let soft = asked_for(job, b"s_rt");
+    let Times { hard, soft } = times_of(job);
     least_of(hard, soft, cluster.sched.default_duration).max(1)
 }
 
