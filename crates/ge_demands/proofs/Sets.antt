@@ -1,5 +1,5 @@
 -- A walk over a table by name, each row of which is found at its name: a rule set, or a value, which says how much there is.
-use Rattle.std.proofs.Common.{◌≡◌, ℕ, cond, List, [], ◌∷◌, Some, sym, ap, subst, ◌∙◌}
+use Rattle.std.proofs.Common.{◌≡◌, ℕ, cond, List, [], ◌∷◌, Some, fold, sym, ap, subst, ◌∙◌}
 use Rattle.std.specs.List.{AllByRecursion}
 use Rattle.std.specs.List.Sorted.{IsStrictlySortedBy}
 use Rattle.std.specs.Map.{keys_of}
@@ -30,6 +30,14 @@ found_each {V} (row ∷ rows) rising =
     further [] above all = tt
     further (e ∷ more) above all =
         (ap (λ o. cond (is_eq o) (Some row.1) (at_text rows e.0)) (nat_list_cmp_total.antisymm e.0 row.0 ∙ ap ordering_reverse above.0) ∙ all.0, further more above.1 all.1)
+
+-- a walk over no rows counts nothing
+pub none_counted : {A V : Type 0} (more : A → List ℕ → A) (found : A) (rows : List (List ℕ × V)) → rows ≡ [] → fold more found (keys_of rows) ≡ found
+none_counted {A} {V} more found rows none = ap (λ (es : List (List ℕ × V)). fold more found (keys_of es)) none
+
+pub none_rise : {V : Type 0} (rows : List (List ℕ × V)) → rows ≡ [] → IsStrictlySortedBy text_cmp (keys_of rows)
+unfolding IsStrictlySortedBy
+none_rise {V} rows none = subst (λ (es : List (List ℕ × V)). IsStrictlySortedBy text_cmp (keys_of es)) (sym none) tt
 
 -- so each row of a walk that begins is found
 pub rising_found : {V : Type 0} (rows entries : List (List ℕ × V)) → entries ≡ rows → IsStrictlySortedBy text_cmp (keys_of rows) → AllByRecursion (λ e. at_text rows e.0 ≡ Some e.1) entries

@@ -9,7 +9,6 @@ ghost use Rattle.ge_model_place.specs.Limits.{advance_capacity, amount_or_none, 
 
 use ge_bookings::is_same_instance;
 use ge_complex::amount_in;
-use ge_pieces::is_word;
 use ge_queues::{at_host, global_host, slots_at};
 use ge_rows::{
     Advance, Cluster, Grant, Groups, HostRow, InstanceId, LimitId, PeRow, QueueRow, QuotaKey,
@@ -17,11 +16,14 @@ use ge_rows::{
 };
 use std::alloc::{AllocError, Global};
 
-/// Whether a name is that of slots.
+/// Whether a name is that of slots. It is asked of each name, so it looks at the bytes in place.
 pub(crate) fn is_slots(name: &Text) -> bool
     ensures { result ≡ text_eq name.now slots_name }
 {
-    is_word(name.bytes(), b"slots")
+    match name.bytes() {
+        [b's', b'l', b'o', b't', b's'] => true,
+        _ => false,
+    }
 }
 
 fn amount_or_zero(value: Option<&Value>) -> u64

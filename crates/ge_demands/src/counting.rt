@@ -85,6 +85,8 @@ fn add_of_instance(
     add(found, limit, u128::from(amount_in(value)), asked)
 }
 
+// Most queues have no values of their own, so no walk begins then.
+#[tactic(auto, using(crate::proofs::Sets::none_counted, crate::proofs::Sets::none_rise))]
 fn add_values_of_instance(
     alloc: Global,
     cluster: &Cluster,
@@ -100,7 +102,11 @@ fn add_values_of_instance(
         (keys_of (attr_at queue.now.values groups.now at.now.host))) }
     ensures rising { OnOk result (AreRising (attr_at queue.now.values groups.now at.now.host)) }
 {
-    for (name, value) in at_host(&queue.values, groups, &at.host).iter() {
+    let values = at_host(&queue.values, groups, &at.host);
+    if values.is_empty() {
+        return Ok(());
+    }
+    for (name, value) in values.iter() {
         add_of_instance(alloc, cluster, groups, job, at, found, name, value)?;
     }
     Ok(())
@@ -238,6 +244,8 @@ fn add_of_all(
     add(found, limit, u128::from(amount_in(value)), asked)
 }
 
+// Mostly the host `global` has no values, and no walk begins.
+#[tactic(auto, using(crate::proofs::Sets::none_counted, crate::proofs::Sets::none_rise))]
 fn add_values_of_all(
     alloc: Global,
     cluster: &Cluster,
@@ -252,6 +260,9 @@ fn add_values_of_all(
         (keys_of row.now.values)) }
     ensures rising { OnOk result (AreRising row.now.values) }
 {
+    if row.values.is_empty() {
+        return Ok(());
+    }
     for (name, value) in row.values.iter() {
         add_of_all(alloc, cluster, groups, job, found, name, value)?;
     }

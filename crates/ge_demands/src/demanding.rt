@@ -17,6 +17,10 @@ const GREATEST: u128 = 18_446_744_073_709_551_615;
 // Up to so many grants, a look through their demands takes less than an index.
 const FEW_GRANTS: usize = 12;
 
+// What a further grant mostly comes to that no earlier one did: the slots of its instance, and a value of its host. With room
+// for them the demands, which are large, aren't moved.
+const MOSTLY_NEW: usize = 2;
+
 // What slots ask of a limit, cut at the greatest demand.
 fn amount_for(slots: u32, counted: &Counted) -> u128
     ensures { result ≡ (demand_for slots (counted_as counted.now)).amount }
@@ -133,15 +137,17 @@ fn add_grants(
     Ok(())
 }
 
+// What slots ask of each of these limits, with room for more demands.
 fn demands_on_each(
     alloc: Global,
     slots: u32,
     limits: Vec<Counted>,
+    more: usize,
 ) -> Result<Vec<Demand>, AllocError>
     ensures { IfOk result (λ demands. demands.items
         ≡ map (demand_for slots) (all_counted limits.items)) }
 {
-    let mut demands = Vec::with_capacity(alloc, limits.len())?;
+    let mut demands = Vec::with_capacity(alloc, limits.len().saturating_add(more))?;
     for counted in limits {
         demands.push(demand_of(slots, counted))?;
     }
@@ -156,12 +162,13 @@ fn demands_at(
     job: &Job,
     slots: u32,
     at: &InstanceId,
+    more: usize,
 ) -> Result<Vec<Demand>, AllocError>
     ensures { IfOk result (λ demands. demands.items
         ≡ fold (with_demand slots) [] (counted_at cluster.now groups.now job.now at.now)) }
 {
     let limits = counted_limits(alloc, cluster, groups, job, at)?;
-    let demands = demands_on_each(alloc, slots, limits)?;
+    let demands = demands_on_each(alloc, slots, limits, more)?;
     Ok(demands)
 }
 
@@ -171,6 +178,7 @@ fn demands_of_first(
     groups: &Groups,
     job: &Job,
     grant: &Grant,
+    more: usize,
 ) -> Result<Vec<Demand>, AllocError>
     ensures { IfOk result (λ demands. demands.items
         ≡ with_grant cluster.now groups.now job.now [] grant.now) }
@@ -178,7 +186,7 @@ fn demands_of_first(
     if grant.slots == 0 {
         return Ok(Vec::new(alloc));
     }
-    demands_at(alloc, cluster, groups, job, grant.slots, &grant.at)
+    demands_at(alloc, cluster, groups, job, grant.slots, &grant.at, more)
 }
 
 // Most tasks have one grant.
@@ -195,7 +203,8 @@ fn demands_of_few(
     match grants {
         [] => Ok(Vec::new(alloc)),
         [first, rest @ ..] => {
-            let mut demands = demands_of_first(alloc, cluster, groups, job, first)?;
+            let more = rest.len().saturating_mul(MOSTLY_NEW);
+            let mut demands = demands_of_first(alloc, cluster, groups, job, first, more)?;
             add_grants(alloc, cluster, groups, job, &mut demands, rest)?;
             Ok(demands)
         }

@@ -10,7 +10,7 @@ use Rattle.ge_demands.proofs.counting.add_values_of_instance.Goals as goal
 pub loop-name-init : goal.loop-name-init
 loop-name-init c =
     let values = attr_at c.args.queue.now.values c.args.groups.now c.args.at.now.host in
-    let rising = subst (λ (l : List (List ℕ × Value)). AreRising l) c.at_host.ensures c.iter-name-items.ensures.rising in
+    let rising = subst (λ (l : List (List ℕ × Value)). AreRising l) c.at_host-values.ensures c.iter-name-items.ensures.rising in
     let is : c.into_iter-name-iterator.result ≡ values = search rules in
     record {
       counted = ap (λ entries. fold (with_instance_value c.args.cluster.now c.args.groups.now c.args.job.now c.args.at.now) (all_counted c.args.found.now.items) (keys_of entries)) is;
