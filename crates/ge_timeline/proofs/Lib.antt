@@ -3,6 +3,7 @@ pub mod Ended
 pub mod Joined
 pub mod Matched
 pub mod Numbering
+pub mod Parted
 pub mod Putting
 pub mod Renewed
 pub mod Summing

@@ -92,7 +92,7 @@ fn put_entry(
     Ok(())
 }
 
-// Puts the entries into four times as many buckets, so that few of them share one.
+// Puts the entries into four times as many buckets, so that few of them share one: at most half of the buckets have an entry.
 fn make_room(
     alloc: Global,
     entries: &mut Vec<Entry>,
@@ -140,7 +140,7 @@ impl Index {
     ) -> Result<(), AllocError>
         ensures { OnOk result (self.new ≡ (limit, number) ∷ self.old) }
     {
-        if self.entries.len() >= self.heads.len() {
+        if self.entries.len() >= self.heads.len() / 2 {
             make_room(alloc, &mut self.entries, &mut self.heads)?;
         }
         put_entry(&mut self.entries, self.heads.as_mut_slice(), limit, number)

@@ -1,24 +1,48 @@
 // Limits are scattered over buckets.
-ghost use Rattle.std.specs.Prelude.{◌≡◌, ◌<◌};
-ghost use Rattle.ge_timeline.specs.Scattered.{with_byte, with_text, with_instance, with_filters, scattered, bucket_of};
+ghost use Rattle.std.specs.Prelude.{◌≡◌, ◌*◌, ◌/◌, ◌^◌, ◌<◌, fold};
+ghost use Rattle.ge_timeline.specs.Scattered.{with_number, with_four, with_text, with_instance, with_filters, scattered, bucket_of};
 
 use ge_rows::{InstanceId, LimitId, QuotaKey, Text};
 
-#[tactic(auto, unfolding(crate::specs::Scattered::with_byte))]
-fn add_byte(sum: u64, byte: u8) -> u64
-    ensures { result ≡ with_byte sum byte }
+#[tactic(auto, unfolding(crate::specs::Scattered::with_number))]
+fn add_number(sum: u64, number: u32) -> u64
+    ensures { result ≡ with_number sum number }
 {
-    sum.wrapping_add(u64::from(byte))
+    sum.wrapping_add(u64::from(number))
         .wrapping_mul(6_364_136_223_846_793_005)
+}
+
+fn add_byte(sum: u64, byte: u8) -> u64
+    ensures { result ≡ with_number sum byte }
+{
+    add_number(sum, u32::from(byte))
+}
+
+#[tactic(auto, unfolding(crate::specs::Scattered::with_four))]
+fn add_four(sum: u64, bytes: &[u8; 4]) -> u64
+    ensures { result ≡ with_four sum bytes.now }
+{
+    add_number(sum, u32::from_le_bytes(*bytes))
+}
+
+fn add_fours(sum: u64, fours: &[[u8; 4]]) -> u64
+    ensures { result ≡ fold with_four sum fours.now }
+{
+    fours.iter().fold(sum, |sum, bytes| add_four(sum, bytes))
+}
+
+fn add_each(sum: u64, bytes: &[u8]) -> u64
+    ensures { result ≡ fold with_number sum bytes.now }
+{
+    bytes.iter().fold(sum, |sum, byte| add_byte(sum, *byte))
 }
 
 #[tactic(auto, unfolding(crate::specs::Scattered::with_text))]
 fn add_text(sum: u64, text: &Text) -> u64
     ensures { result ≡ with_text sum text.now }
 {
-    text.bytes()
-        .iter()
-        .fold(sum, |sum, byte| add_byte(sum, *byte))
+    let (fours, rest) = text.bytes().as_chunks::<4>();
+    add_each(add_fours(sum, fours), rest)
 }
 
 #[tactic(auto, unfolding(crate::specs::Scattered::with_instance))]
@@ -52,6 +76,16 @@ fn scatter(limit: &LimitId) -> u64
     }
 }
 
+// The part of so many that a number is of all numbers. It costs less than a remainder, which divides.
+#[tactic(auto, using(crate::proofs::Parted::part_fits, crate::proofs::Parted::part_within))]
+fn part_of(size: usize, number: u64) -> usize
+    requires { 0 < size }
+    ensures part { result ≡ number * size / 2 ^ 64 }
+    ensures within { result < size }
+{
+    ((u128::from(number) * size as u128) >> 64) as usize
+}
+
 /// The bucket of a limit among so many.
 #[tactic(auto, unfolding(crate::specs::Scattered::bucket_of))]
 pub(crate) fn bucket_among(size: usize, limit: &LimitId) -> usize
@@ -59,5 +93,5 @@ pub(crate) fn bucket_among(size: usize, limit: &LimitId) -> usize
     ensures bucket { result ≡ bucket_of size limit.now }
     ensures within { result < size }
 {
-    (scatter(limit) >> 32) as usize % size
+    part_of(size, scatter(limit))
 }
