@@ -6,13 +6,14 @@ ghost use Rattle.std.specs.Option.{option_copied};
 ghost use Rattle.ge_collections.specs.Keyed.{text_eq};
 ghost use Rattle.ge_model_value.specs.Complexes.{has_consumable};
 ghost use Rattle.ge_model_place.specs.Opening.{admits_value, has_value, host_names, is_configured, consumes_what_is, is_forced, asks_for, meets_forced};
+ghost use Rattle.ge_opening.specs.Forced.{is_any_forced};
 
 use crate::looking::Instance;
 use crate::matching::is_met;
 use ge_complex::{complex_at, is_consumed};
 use ge_pieces::is_word;
 use ge_queues::{at_host, resolved_at};
-use ge_rows::{ComplexDef, HostRow, Job, Requestable, Table, Text, Value};
+use ge_rows::{Cluster, ComplexDef, HostRow, Job, Requestable, Table, Text, Value};
 
 fn names(values: &Table<Text, Value>, name: &Text) -> bool
     ensures { result ≡ has_value values.now name.now }
@@ -103,6 +104,18 @@ fn is_asking_for(job: &Job, name: &Text) -> bool
     is_word(name.bytes(), b"slots") || names(&job.request.asked, name)
 }
 
+/// Whether any complex is `FORCED` (complex, `requestable`). Takes no memory.
+pub fn any_forced(cluster: &Cluster) -> bool
+    ensures { result ≡ is_any_forced cluster.now }
+{
+    for (_, complex) in cluster.complexes.iter() {
+        if is_only_for_askers(complex.requestable) {
+            return true;
+        }
+    }
+    false
+}
+
 // Whether the job asks for each attribute that is there only for those who do.
 fn asks_for_all(here: &Instance<'_>, job: &Job) -> bool
     ensures { result ≡ list_all (meets_forced here.now.cluster.now here.now.groups.now job.now
@@ -119,6 +132,19 @@ fn asks_for_all(here: &Instance<'_>, job: &Job) -> bool
     true
 }
 
+// Whether the job asks for each attribute that is there only for those who do. Where none is `FORCED`, the complexes aren't gone
+// through.
+fn meets_all_forced(here: &Instance<'_>, job: &Job) -> bool
+    ensures { result ≡ list_all (meets_forced here.now.cluster.now here.now.groups.now job.now
+        here.now.at.now here.now.queue.now) here.now.cluster.now.complexes }
+{
+    if here.may_force {
+        asks_for_all(here, job)
+    } else {
+        true
+    }
+}
+
 /// Whether an instance has what a job asks for, and keeps nothing for jobs that ask for it, where this one doesn't: each
 /// attribute that is asked for admits the value, each consumable that is asked for is configured, and each that is `FORCED` and
 /// configured is asked for (complex).
@@ -131,5 +157,5 @@ pub(crate) fn offers(here: &Instance<'_>, job: &Job) -> bool
         && list_all (meets_forced here.now.cluster.now here.now.groups.now job.now here.now.at.now
         here.now.queue.now) here.now.cluster.now.complexes) }
 {
-    offers_each(here, &job.request.asked) && asks_for_all(here, job)
+    offers_each(here, &job.request.asked) && meets_all_forced(here, job)
 }
