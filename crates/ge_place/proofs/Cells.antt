@@ -13,7 +13,7 @@ use Rattle.ge_model_rows.specs.JobRows.{Grant}
 use Rattle.ge_model_rows.specs.ScheduleRows.{LimitId}
 use Rattle.ge_model_place.specs.Placement.{Cell, slot_asks, cell_asks, asked_so_far, takes_one_more, with_slot, slots_given, hosts_in, grant_of}
 use Rattle.ge_model_place.proofs.Filled.{times_slots}
-use Rattle.ge_place.specs.declared.spots.Search.{Search}
+use Rattle.ge_place.specs.declared.searching.Search.{Search}
 use Rattle.ge_place.specs.Spots.{cell_with, cells_with, no_slots_at, one_more_at, host_of, hosts_among, cell_in}
 
 -- first places

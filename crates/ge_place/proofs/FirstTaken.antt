@@ -12,7 +12,7 @@ use Rattle.ge_model_place.specs.Placement.{Room, Cell, cell_asks, asked_so_far, 
 use Rattle.ge_model_place.specs.Runs.{one_slot}
 use Rattle.ge_model_place.proofs.Greatest.{gives_one}
 use Rattle.ge_model_place.proofs.Taken.{with_one}
-use Rattle.ge_place.specs.declared.spots.Search.{Search}
+use Rattle.ge_place.specs.declared.searching.Search.{Search}
 use Rattle.ge_place.specs.Spots.{is_free_at, rooms_at, cell_in}
 use Rattle.ge_place.specs.Singles.{has_room_alone, takes_first}
 

@@ -45,19 +45,18 @@ sum_put limit sum old new changes other =
       | inr apart ↦ ap (λ o. unwrap_or o 0) (is ∙ cond-false _ _ _ apart) ∙ sym (cond-false _ _ _ apart)
     ]
 
--- a limit that wasn't asked for before, and the copy of it that is kept
-pub first_asked : {A : Type 0} (limit copy : Rc LimitId A) (amount : ℕ) (old middle new : List (Rc LimitId A × ℕ)) (sums : List (LimitId × ℕ))
-    → copy.value ≡ limit.value → shown old ≡ sums → middle ≡ old → sum_in (shown old) limit.value ≡ 0 → amount ≤ greatest_demand
-    → ((q : Rc LimitId A) → lookup (λ key. is_at (cmp-value.it q.value) key.value) new ≡ cond (is_at (cmp-value.it copy.value) q.value) (Some amount) (lookup (λ key. is_at (cmp-value.it q.value) key.value) middle))
+-- a limit that is asked more, by the copy of it that is kept where it has no sum yet
+pub sum_grown : {A : Type 0} (limit copy : Rc LimitId A) (amount had sum : ℕ) (old new : List (Rc LimitId A × ℕ)) (sums : List (LimitId × ℕ))
+    → copy.value ≡ limit.value → shown old ≡ sums → had ≡ unwrap_or (lookup (λ key. is_at (cmp-value.it copy.value) key.value) old) 0 → sum ≡ min (had + amount) greatest_demand
+    → ((q : Rc LimitId A) → lookup (λ key. is_at (cmp-value.it q.value) key.value) new ≡ cond (is_at (cmp-value.it copy.value) q.value) (Some sum) (lookup (λ key. is_at (cmp-value.it q.value) key.value) old))
     → (other : LimitId) → sum_in (shown new) other ≡ cond (same_limit limit.value other) (min (sum_in sums limit.value + amount) greatest_demand) (sum_in sums other)
-first_asked limit copy amount old middle new sums same view kept none fits changes other =
-    let before : sum_in sums limit.value ≡ 0 = ap (λ ss. sum_in ss limit.value) (sym view) ∙ none in
-    let sum : amount ≡ min (sum_in sums limit.value + amount) greatest_demand = omega (arith, before, fits) in
-    sum_put copy amount middle new changes other
-    ∙ ap (λ l. cond (same_limit l other) amount (sum_in (shown middle) other)) same
-    ∙ ap (λ rows. cond (same_limit limit.value other) amount (sum_in (shown rows) other)) kept
-    ∙ ap (λ ss. cond (same_limit limit.value other) amount (sum_in ss other)) view
-    ∙ ap (λ n. cond (same_limit limit.value other) n (sum_in sums other)) sum
+sum_grown limit copy amount had sum old new sums same view before is changes other =
+    let known : had ≡ sum_in sums limit.value = before ∙ ap (λ o. unwrap_or o 0) (shown_at copy.value old) ∙ ap (λ l. sum_in (shown old) l) same ∙ ap (λ ss. sum_in ss limit.value) view in
+    let total : sum ≡ min (sum_in sums limit.value + amount) greatest_demand = is ∙ ap (λ n. min (n + amount) greatest_demand) known in
+    sum_put copy sum old new changes other
+    ∙ ap (λ l. cond (same_limit l other) sum (sum_in (shown old) other)) same
+    ∙ ap (λ ss. cond (same_limit limit.value other) sum (sum_in ss other)) view
+    ∙ ap (λ n. cond (same_limit limit.value other) n (sum_in sums other)) total
 
 -- what one more limit of an instance is asked
 pub asks_next : (bounds : List Bound) (bound : Bound) (old middle new : List (LimitId × ℕ)) → AsksMore (rooms_as bounds) old middle

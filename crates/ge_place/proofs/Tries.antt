@@ -17,12 +17,18 @@ module _ (here : InstanceId → Bool) (most given : ℕ) (spots : List Cell) (ol
     by_all : takes_by here before since spot ≡ takes_by everywhere before since spot
     by_all = one_of_these here before since spot (ap (λ (x : Cell). here x.at) is ∙ at.on_site spot)
 
-    pub slot_taken : (more : List (LimitId × ℕ)) → takes_by everywhere before since spot ≡ true → AsksMore spot.rooms since more → given < most
-        → Fills here most (given + 1) spots old (one_more_at slots place) × AreTold before more (cells_with spots (one_more_at slots place)) × AreRefused here before more spots (next_place here spots index)
-    slot_taken more takes asks less =
+    pub slot_fills : takes_by everywhere before since spot ≡ true → given < most → Fills here most (given + 1) spots old (one_more_at slots place)
+    slot_fills takes less =
         let first = first_at (takes_by here before since) spots place spot at.inside is (λ k d less. refused k d (omega (arith, at.next, less))) (by_all ∙ takes) in
         let long : length (one_more_at slots place) ≡ length spots = length-set slots place (slice_index slots place + 1) ∙ fills.long in
-        (fills_more here most given spots old slots before since told fills place first at.inside less long, told_more before since more spots slots place spot fills.long at.inside is asks told, refused_more before since more spot.rooms asks here spots (next_place here spots index) refused)
+        fills_more here most given spots old slots before since told fills place first at.inside less long
+
+    pub slot_told : (more : List (LimitId × ℕ)) → AsksMore spot.rooms since more → AreTold before more (cells_with spots (one_more_at slots place)) × AreRefused here before more spots (next_place here spots index)
+    slot_told more asks = (told_more before since more spots slots place spot fills.long at.inside is asks told, refused_more before since more spot.rooms asks here spots (next_place here spots index) refused)
+
+    pub slot_taken : (more : List (LimitId × ℕ)) → takes_by everywhere before since spot ≡ true → AsksMore spot.rooms since more → given < most
+        → Fills here most (given + 1) spots old (one_more_at slots place) × AreTold before more (cells_with spots (one_more_at slots place)) × AreRefused here before more spots (next_place here spots index)
+    slot_taken more takes asks less = let after = slot_told more asks in (slot_fills takes less, after.0, after.1)
 
     pub place_passed : takes_by everywhere before since spot ≡ false → AreRefused here before since spots (next_place here spots (index + 1))
     place_passed fails = refused_next here before since spots index place spot at.next at.inside is (by_all ∙ fails) (λ k d less. refused k d (omega (arith, at.next, less)))

@@ -4,7 +4,7 @@ use Rattle.std.specs.List.{list_all}
 use Rattle.ge_model_rows.specs.HostRows.{InstanceId}
 use Rattle.ge_model_place.specs.Limits.{greatest_demand}
 use Rattle.ge_model_place.specs.Placement.{Room}
-use Rattle.ge_place.specs.declared.spots.Search.{Search}
+use Rattle.ge_place.specs.declared.searching.Search.{Search}
 use Rattle.ge_place.specs.Spots.{is_free_at, rooms_at}
 
 -- whether a limit has room for one slot

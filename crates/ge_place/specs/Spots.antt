@@ -8,7 +8,7 @@ use Rattle.ge_model_place.specs.Opening.{is_open}
 use Rattle.ge_model_place.specs.Placement.{Room, Cell, rooms_in, everywhere, is_on}
 use Rattle.ge_place.specs.declared.spots.Bound.{Bound}
 use Rattle.ge_place.specs.declared.spots.HostSpots.{HostSpots}
-use Rattle.ge_place.specs.declared.spots.Search.{Search}
+use Rattle.ge_place.specs.declared.searching.Search.{Search}
 use Rattle.ge_place.specs.declared.spots.Sight.{Sight}
 use Rattle.ge_place.specs.declared.spots.Sight.TheVariants.{Closed, Open}
 use Rattle.ge_place.specs.declared.spots.Site.{Site}

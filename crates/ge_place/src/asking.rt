@@ -1,5 +1,5 @@
 //! What the slots given so far ask of each limit.
-ghost use Rattle.std.specs.Prelude.{◌≡◌, ◌+◌, min, nat_le, true, false, IfOk, OnOk};
+ghost use Rattle.std.specs.Prelude.{◌≡◌, ◌+◌, ◌<◌, min, nat_le, true, false, IfOk, OnOk};
 ghost use Rattle.std.specs.List.{list_all};
 ghost use Rattle.ge_model_place.specs.Limits.{greatest_demand};
 ghost use Rattle.ge_model_place.specs.Placement.{everywhere};
@@ -54,6 +54,16 @@ fn ask_all(sums: &mut Sums, bounds: &[Bound]) -> Result<(), AllocError>
     Ok(())
 }
 
+// Whether one more slot is taken by what was seen.
+fn is_taken_there(sight: &Sight, before: &Sums, since: &Sums) -> bool
+    ensures { result ≡ takes_seen before.now since.now sight.now }
+{
+    match sight {
+        Sight::Closed => false,
+        Sight::Open(bounds) => all_fit(before, since, bounds.as_slice()),
+    }
+}
+
 // Whether one more slot is taken by what was seen. What it asks is added then.
 fn takes_there(sight: &Sight, before: &Sums, since: &mut Sums) -> Result<bool, AllocError>
     ensures takes { IfOk result (λ takes. takes ≡ takes_seen before.now since.old sight.now) }
@@ -90,5 +100,46 @@ pub(crate) fn takes(
     let sight = spot.sight(alloc)?;
     let taken = takes_there(&sight, before, since)?;
     spot.keep(sight);
+    Ok(taken)
+}
+
+// Whether an instance takes one more slot, behind which none is tried: so nothing is added.
+fn takes_last(
+    alloc: Global,
+    before: &Sums,
+    since: &Sums,
+    spot: &mut Spot<'_>,
+) -> Result<bool, AllocError>
+    ensures same { OnOk result (spot.new ≡ spot.old) }
+    ensures takes { IfOk result (λ takes. takes
+        ≡ takes_by everywhere before.now since.now spot.old) }
+{
+    let sight = spot.sight(alloc)?;
+    let taken = is_taken_there(&sight, before, since);
+    spot.keep(sight);
+    Ok(taken)
+}
+
+/// Whether an instance takes the next of so many slots that are left to try. What it asks is added then, where one is left
+/// behind it.
+pub(crate) fn takes_next(
+    alloc: Global,
+    before: &Sums,
+    since: &mut Sums,
+    spot: &mut Spot<'_>,
+    left: u32,
+) -> Result<bool, AllocError>
+    ensures same { OnOk result (spot.new ≡ spot.old) }
+    ensures takes { IfOk result (λ takes. takes
+        ≡ takes_by everywhere before.now since.old spot.old) }
+    ensures asks { IfOk result (λ takes. takes ≡ true → 1 < left
+        → AsksMore spot.old.rooms since.old since.new) }
+    ensures none { IfOk result (λ takes. takes ≡ false → since.new ≡ since.old) }
+{
+    if left > 1 {
+        let taken = takes(alloc, before, since, spot)?;
+        return Ok(taken);
+    }
+    let taken = takes_last(alloc, before, since, spot)?;
     Ok(taken)
 }

@@ -4,7 +4,7 @@ ghost use Rattle.ge_model_place.specs.Placement.{filled, is_on, slots_given};
 ghost use Rattle.ge_place.specs.Giving.{IsGiven};
 ghost use Rattle.ge_place.specs.Spots.{cells_with, no_slots_at, is_in, IsOn, IsSited};
 
-use crate::asking::takes;
+use crate::asking::takes_next;
 use crate::filling::{fill, place_on};
 use crate::seeing::Spot;
 use crate::spots::{HostSpots, Site};
@@ -71,7 +71,7 @@ pub(crate) fn give_more(
     Ok(())
 }
 
-/// How many more slots the instances of a host take, up to so many. None is given.
+/// How many more slots the instances of a host take, up to so many. None is given, so what the last one asks isn't added.
 pub(crate) fn count_on(
     alloc: Global,
     spots: &mut Vec<Spot<'_>>,
@@ -92,7 +92,8 @@ pub(crate) fn count_on(
         let Some(place) = place_on(host, index) else {
             return Ok(count);
         };
-        let taken = takes(alloc, &given.sums, &mut since, &mut spots[place])?;
+        let left = most - count;
+        let taken = takes_next(alloc, &given.sums, &mut since, &mut spots[place], left)?;
         if taken {
             count += 1;
         } else {

@@ -17,6 +17,7 @@ mod giving;
 mod granting;
 mod hosts;
 mod placing;
+mod searching;
 mod seeing;
 mod single;
 mod spots;

@@ -6,11 +6,12 @@ ghost use Rattle.ge_model_place.specs.Placement as placed;
 ghost use Rattle.ge_place.specs.Spots.{cell_in, cells_with, no_slots_at};
 
 use crate::granting::granted;
+use crate::searching::Search;
 use crate::seeing::{Spot, all_spots};
 use crate::single::single_slot;
-use crate::spots::Search;
 use crate::spreading::spread;
-use ge_opening::instance_order;
+use ge_opening::{any_forced, instance_order};
+use ge_queues::global_host;
 use ge_rows::{Allocation, Cluster, Grant, Groups, InstanceId, Job, List, PeRequest, TaskId};
 use ge_timeline::Timeline;
 use ge_windows::{is_in_time, window_end_from};
@@ -107,6 +108,8 @@ pub fn place_job(
 {
     let until = window_end_from(cluster, job, from);
     let in_time = is_in_time(cluster, job, from);
+    let global = global_host(alloc, cluster)?;
+    let forced = any_forced(cluster);
     let search = Search {
         cluster,
         groups,
@@ -115,6 +118,8 @@ pub fn place_job(
         from,
         until,
         in_time,
+        global,
+        forced,
     };
     let grants = place_in(alloc, &search, order)?;
     Ok(grants)

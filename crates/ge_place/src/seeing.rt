@@ -2,7 +2,8 @@
 ghost use Rattle.std.specs.Prelude.{◌≡◌, map, IfOk};
 ghost use Rattle.ge_place.specs.Spots.{cell_in, IsSeen};
 
-use crate::spots::{Search, Sight, look};
+use crate::searching::Search;
+use crate::spots::{Sight, look};
 use ge_rows::InstanceId;
 use std::alloc::{AllocError, Global};
 use std::marker::Model;

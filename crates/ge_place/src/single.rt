@@ -8,7 +8,8 @@ ghost use Rattle.ge_model_place.specs.Runs.{one_slot};
 ghost use Rattle.ge_place.specs.Spots.{rooms_at};
 ghost use Rattle.ge_place.specs.Singles.{has_room_alone, takes_first};
 
-use crate::spots::{Search, may_start};
+use crate::searching::Search;
+use crate::spots::may_start;
 use ge_demands::{Counted, counted_limits};
 use ge_rows::{Grant, InstanceId, List, Twin};
 use std::alloc::{AllocError, Global};
@@ -50,7 +51,7 @@ fn has_room_at(alloc: Global, search: &Search<'_>, at: &InstanceId) -> Result<bo
 fn takes_alone(alloc: Global, search: &Search<'_>, at: &InstanceId) -> Result<bool, AllocError>
     ensures { IfOk result (λ takes. takes ≡ takes_first search.now at.now) }
 {
-    if !may_start(alloc, search, at)? {
+    if !may_start(search, at) {
         return Ok(false);
     }
     let has = has_room_at(alloc, search, at)?;

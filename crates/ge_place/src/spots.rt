@@ -1,35 +1,16 @@
-//! What a task is placed over, and what is seen at an instance.
+//! What is seen at an instance.
 ghost use Rattle.std.specs.Prelude.{◌≡◌, ◌<◌, map, IfOk};
 ghost use Rattle.ge_model_bookings.specs.Bookings.{peak};
 ghost use Rattle.ge_model_place.specs.Placement.{room_of};
 ghost use Rattle.ge_demands.specs.Counts.{counted_as, all_counted};
 ghost use Rattle.ge_place.specs.Spots.{room_as, rooms_as, is_free_at, rooms_at, cell_in, IsSeen};
 
+use crate::searching::Search;
 use ge_demands::{Counted, counted_limits};
-use ge_opening::is_open;
-use ge_rows::{Cluster, Groups, InstanceId, Job, LimitId, Text};
-use ge_timeline::Timeline;
+use ge_opening::is_open_knowing;
+use ge_rows::{InstanceId, LimitId, Text};
 use std::alloc::{AllocError, Global};
 use std::rc::Rc;
-
-/// What a task of a job is placed over, from a moment on.
-#[derive(Clone, Copy)]
-pub(crate) struct Search<'a> {
-    /// The cluster.
-    pub(crate) cluster: &'a Cluster,
-    /// Its groups of hosts, spelled out.
-    pub(crate) groups: &'a Groups,
-    /// What is booked.
-    pub(crate) booked: &'a Timeline,
-    /// The job.
-    pub(crate) job: &'a Job,
-    /// The moment.
-    pub(crate) from: u64,
-    /// Where the window ends that the task is booked for.
-    pub(crate) until: u64,
-    /// Whether the task may start then.
-    pub(crate) in_time: bool,
-}
 
 /// A limit that a slot at an instance counts for, with the most that is booked of it in the window. Contracts see the
 /// model's `Room`.
@@ -75,18 +56,18 @@ pub(crate) enum Site<'a> {
 }
 
 /// Whether a task may start at an instance at all.
-pub(crate) fn may_start(
-    alloc: Global,
-    search: &Search<'_>,
-    at: &InstanceId,
-) -> Result<bool, AllocError>
-    ensures { IfOk result (λ may. may ≡ is_free_at search.now at.now) }
+pub(crate) fn may_start(search: &Search<'_>, at: &InstanceId) -> bool
+    ensures { result ≡ is_free_at search.now at.now }
 {
-    if !search.in_time {
-        return Ok(false);
-    }
-    let opened = is_open(alloc, search.cluster, search.groups, search.job, at)?;
-    Ok(opened)
+    search.in_time
+        && is_open_knowing(
+            search.cluster,
+            search.groups,
+            search.global,
+            search.forced,
+            search.job,
+            at,
+        )
 }
 
 // The most that is booked of a limit in the window.
@@ -154,7 +135,7 @@ fn bounds_at(alloc: Global, search: &Search<'_>, at: &InstanceId) -> Result<Vec<
 pub(crate) fn look(alloc: Global, search: &Search<'_>, at: &InstanceId) -> Result<Sight, AllocError>
     ensures { IfOk result (λ sight. IsSeen (cell_in search.now at.now) sight) }
 {
-    if !may_start(alloc, search, at)? {
+    if !may_start(search, at) {
         return Ok(Sight::Closed);
     }
     let bounds = bounds_at(alloc, search, at)?;

@@ -1,9 +1,8 @@
 //! Sums of what is asked of limits.
-ghost use Rattle.std.specs.Prelude.{◌≡◌, ◌+◌, [], cond, min, true, false, OnOk};
+ghost use Rattle.std.specs.Prelude.{◌≡◌, ◌+◌, [], cond, min, OnOk};
 ghost use Rattle.ge_model_bookings.specs.Bookings.{same_limit};
 ghost use Rattle.ge_model_place.specs.Limits.{greatest_demand};
 ghost use Rattle.ge_model_rows.specs.ScheduleRows.{LimitId as Limit};
-ghost use Rattle.ge_place.specs.Shared.{shown};
 ghost use Rattle.ge_place.specs.Sums.{sum_in};
 
 use ge_rows::LimitId;
@@ -31,24 +30,6 @@ impl Model for Sums {
     ghost view = { λ s. shown s.rows.entries };
 }
 
-// A sum that is there grows.
-fn grow(rows: &mut BTreeMap<Rc<LimitId>, u64>, limit: &Rc<LimitId>, amount: u64) -> bool
-    ensures grown { result ≡ true → (other : Limit) → sum_in (shown rows.new.entries) other
-        ≡ cond (same_limit limit.now.value other)
-        (min (sum_in (shown rows.old.entries) limit.now.value + amount) greatest_demand)
-        (sum_in (shown rows.old.entries) other) }
-    ensures none { result ≡ false → sum_in (shown rows.old.entries) limit.now.value ≡ 0 }
-    ensures same { result ≡ false → rows.new.entries ≡ rows.old.entries }
-{
-    match rows.get_mut(limit) {
-        Some(sum) => {
-            *sum = sum.saturating_add(amount);
-            true
-        }
-        None => false,
-    }
-}
-
 impl Sums {
     /// Nothing is asked of any limit.
     pub(crate) fn new(alloc: Global) -> Sums
@@ -69,18 +50,17 @@ impl Sums {
         }
     }
 
-    /// So much more is asked of a limit.
+    /// So much more is asked of a limit. It is looked up once, whether or not it has a sum.
     pub(crate) fn ask(&mut self, limit: &Rc<LimitId>, amount: u64) -> Result<(), AllocError>
         ensures { OnOk result ((other : Limit) → sum_in self.new other
             ≡ cond (same_limit limit.now.value other)
             (min (sum_in self.old limit.now.value + amount) greatest_demand)
             (sum_in self.old other)) }
     {
-        if grow(&mut self.rows, limit, amount) {
-            return Ok(());
-        }
         let limit = limit.clone()?;
-        self.rows.insert(limit, amount)?;
+        let entry = self.rows.entry(limit)?;
+        let sum = entry.or_insert(0);
+        *sum = sum.saturating_add(amount);
         Ok(())
     }
 }
