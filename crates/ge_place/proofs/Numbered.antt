@@ -1,9 +1,10 @@
 -- Hosts that are found by their names, with one more instance.
-use Rattle.std.proofs.Common.{◌≡◌, ℕ, ◌<◌, inl, inr, true, false, cond, List, [], ◌∷◌, ◌++◌, map, length, get_or, set, Option, Some, None, refl, sym, subst, ap, ◌∙◌, arith}
+use Rattle.std.proofs.Common.{◌≡◌, ℕ, ◌<◌, ◌≤◌, inl, inr, true, false, cond, List, [], ◌∷◌, ◌++◌, map, length, get_or, set, Option, Some, None, refl, sym, subst, ap, ◌∙◌, arith}
 use Rattle.std.specs.Borrow.{Bor}
 use Rattle.std.specs.BTreeMap.{is_at}
 use Rattle.std.specs.Cmp.Lexicographic.{texts_ties}
 use Rattle.std.specs.List.{list_any}
+use Rattle.std.specs.Prelude.{unwrap_or}
 use Rattle.std.proofs.lemmas.Bool.{cond-true, cond-false, cases_Bool, cases_eq, cases_lt, false_from_ne_true}
 use Rattle.std.proofs.lemmas.List.{append-nil, map-append, map-set, length-map, length-set, length_push, get_or-map, get_or_append_left, get_or_push, get_or-set_same, get_or-set_other, set-get_or}
 use Rattle.std.proofs.lemmas.List.Folds.{list_any-from_Any, list_any_none}
@@ -33,6 +34,18 @@ one_of_both o k some none = cc
 
 same_number : (o : Option ℕ) (j k : ℕ) → o ≡ Some j → o ≡ Some k → j ≡ k
 same_number o j k first second = cc
+
+-- numbers that tell each host the same
+told_alike : (spots : List Cell) (hosts : List HostSpots) (old new : Numbers) → ((name : List ℕ) → number_in new name ≡ number_in old name) → AreFound spots hosts old → AreFound spots hosts new
+told_alike spots hosts old new alike are = record {
+  named = are.named;
+  on = are.on;
+  numbered = record {
+    each = λ k d less. alike (get_or (hosts_among spots) k d) ∙ are.numbered.each k d less;
+    found = λ host k number. are.numbered.found host k (sym (alike host) ∙ number);
+  };
+  others = λ host none. are.others host (sym (alike host) ∙ none);
+}
 
 hosts_last : (spots : List Cell) (last : Cell) → hosts_among (spots ++ last ∷ []) ≡ with_text (hosts_among spots) last.at.host
 hosts_last spots last = ap each_once (map-append host_of spots (last ∷ [])) ∙ fold-append with_text [] (map host_of spots) (last.at.host ∷ [])
@@ -101,6 +114,41 @@ module _ (spots : List Cell) (last : Cell) (hosts : List HostSpots) (numbers : N
           numbered = subst (λ ns. AreNumbered ns numbers) names_stay are.numbered;
           others = λ name none. others_kept name (differs numbers host name (λ e. one_of_both (number_in numbers host) k number (e ∙ none))) ∙ are.others name none;
         }
+
+  -- whether a host was found, by the number that it has or else gets
+  was_found : (number : ℕ) → number ≡ unwrap_or (number_in numbers host) (length hosts) → number < length hosts → number_in numbers host ≡ Some number
+  was_found number is less = by (number_in numbers host) refl
+    where
+      by : (o : Option ℕ) → number_in numbers host ≡ o → number_in numbers host ≡ Some number
+      by None none =
+          let at : number ≡ length hosts = is ∙ ap (λ o. unwrap_or o (length hosts)) none in
+          absurd (omega (arith, less, at))
+      by (Some k) some = some ∙ sym (ap (λ n. Some n) (is ∙ ap (λ o. unwrap_or o (length hosts)) some))
+
+  pub was_none : (number : ℕ) → number ≡ unwrap_or (number_in numbers host) (length hosts) → length hosts ≤ number → number_in numbers host ≡ None
+  was_none number is over = by (number_in numbers host) refl
+    where
+      by : (o : Option ℕ) → number_in numbers host ≡ o → number_in numbers host ≡ None
+      by None none = none
+      by (Some k) some =
+          let at : number ≡ k = is ∙ ap (λ o. unwrap_or o (length hosts)) some in
+          let inside = number_within k some in
+          absurd (omega (arith, over, at, inside))
+
+  -- one more instance on a host that was found, with the number that it has written once more
+  pub found_again : (number : ℕ) (new : Numbers) → number ≡ unwrap_or (number_in numbers host) (length hosts) → number < length hosts
+      → ((name : List ℕ) → number_in new name ≡ cond (is_at (text_cmp host) name) (Some number) (number_in numbers name))
+      → (one more : HostSpots) → one ≡ get_or hosts number one → more.host.now ≡ one.host.now → more.places.items ≡ one.places.items ++ length spots ∷ [] → AreFound all (set hosts number more) new
+  found_again number new is less put one more there same places =
+      let has = was_found number is less in
+      told_alike all (set hosts number more) numbers new
+      (λ name. put name ∙ elim (cases_Bool (text_eq host name)) [
+        | inl alike ↦
+            let own : number_in numbers name ≡ Some number = sym (ap (λ n. number_in numbers n) (texts_equal host name alike)) ∙ has in
+            cond-true _ _ _ (sym (texts_ties host name) ∙ alike) ∙ sym own
+        | inr apart ↦ cond-false _ _ _ (sym (texts_ties host name) ∙ apart)
+      ])
+      (place_added number has one more there same places)
 
   -- the first instance of a host
   module _ (new : Numbers) (none : number_in numbers host ≡ None) (put : (name : List ℕ) → number_in new name ≡ cond (is_at (text_cmp host) name) (Some (length hosts)) (number_in numbers name)) where

@@ -1,5 +1,5 @@
 //! The hosts of instances.
-ghost use Rattle.std.specs.Prelude.{◌≡◌, ℕ, List, ◌+◌, ◌<◌, ◌++◌, [], ◌∷◌, Some, cond, length, take, IfOk, OnOk};
+ghost use Rattle.std.specs.Prelude.{◌≡◌, ℕ, List, ◌+◌, ◌<◌, ◌++◌, [], ◌∷◌, Some, cond, length, take, unwrap_or, IfOk, OnOk};
 ghost use Rattle.std.specs.BTreeMap.{is_at};
 ghost use Rattle.ge_collections.specs.Keyed.{text_cmp};
 ghost use Rattle.ge_place.specs.Hosts.{number_in, AreFound};
@@ -14,23 +14,21 @@ use std::collections::BTreeMap;
 /// The number of each host that was found.
 type Numbers<'a> = BTreeMap<&'a Text, usize>;
 
-fn number_of<'a>(numbers: &Numbers<'a>, host: &'a Text) -> Option<usize>
-    ensures { result ≡ number_in numbers.now.entries host.now }
-{
-    numbers.get(&host).copied()
-}
-
-fn put_number<'a>(
+// The number of a host, which gets the next one where it has none. It is looked up once.
+fn number_for<'a>(
     numbers: &mut Numbers<'a>,
     host: &'a Text,
-    number: usize,
-) -> Result<(), AllocError>
-    ensures { OnOk result ((name : List ℕ) → number_in numbers.new.entries name
+    next: usize,
+) -> Result<usize, AllocError>
+    ensures number { IfOk result (λ number. number
+        ≡ unwrap_or (number_in numbers.old.entries host.now) next) }
+    ensures kept { IfOk result (λ number. (name : List ℕ) → number_in numbers.new.entries name
         ≡ cond (is_at (text_cmp host.now) name) (Some number)
         (number_in numbers.old.entries name)) }
 {
-    numbers.insert(host, number)?;
-    Ok(())
+    let entry = numbers.entry(host)?;
+    let number = *entry.or_insert(next);
+    Ok(number)
 }
 
 fn new_host<'a>(alloc: Global, host: &'a Text, place: usize) -> Result<HostSpots<'a>, AllocError>
@@ -64,18 +62,15 @@ fn add_spot<'a>(
         (AreFound (take (place + 1) spots.now) hosts.new.items numbers.new.entries) }
 {
     let host = &spots[place].instance().host;
-    match number_of(numbers, host) {
-        Some(number) => {
-            add_place(&mut hosts[number], place)?;
-            Ok(())
-        }
-        None => {
-            put_number(numbers, host, hosts.len())?;
-            let found = new_host(alloc, host, place)?;
-            hosts.push(found)?;
-            Ok(())
-        }
+    let next = hosts.len();
+    let number = number_for(numbers, host, next)?;
+    if number < next {
+        add_place(&mut hosts[number], place)?;
+        return Ok(());
     }
+    let found = new_host(alloc, host, place)?;
+    hosts.push(found)?;
+    Ok(())
 }
 
 /// The hosts in the order of their first instance. An instance isn't compared with each host before it, since there may be as
