@@ -67,6 +67,18 @@ short_renewed : (now : ℕ) (booked : List Booking) (moment : ℕ) (rests : List
 short_renewed now booked moment [] = refl
 short_renewed now booked moment (rest ∷ rests) = ap (λ others. is_short_then booked moment [] rest || others) (short_renewed now booked moment rests)
 
+-- of what is known of a place
+
+pub known_later : (booked more : List Booking) (rests : List Rest) (known : Option ℕ) → IfSome known (λ moment. are_short_then booked moment [] rests ≡ true) → IfSome known (λ moment. are_short_then (booked ++ more) moment [] rests ≡ true)
+known_later booked more rests known is =
+    some_on (λ moment. are_short_then booked moment [] rests ≡ true) (λ moment. are_short_then (booked ++ more) moment [] rests ≡ true) known (λ moment was. all_short_later booked more moment rests was) is
+
+pub known_anew : (now : ℕ) (booked : List Booking) (rests : List Rest) (known : Option ℕ) → IfSome known (λ moment. are_short_then booked moment [] rests ≡ true)
+    → IfSome known (λ moment. are_short_then booked moment [] (map (renewed_rest now booked) rests) ≡ true)
+known_anew now booked rests known is =
+    some_on (λ moment. are_short_then booked moment [] rests ≡ true) (λ moment. are_short_then booked moment [] (map (renewed_rest now booked) rests) ≡ true) known
+    (λ moment was. short_renewed now booked moment rests ∙ was) is
+
 module _ (c : Cluster) (groups : Groups) (now : ℕ) (booked : List Booking) where
   pub blocked_later : (more : List Booking) (rests : List Rest) (known : Option ℕ) → IfSome known (IsBlocked c groups now booked rests) → IfSome known (IsBlocked c groups now (booked ++ more) rests)
   blocked_later more rests known is =

@@ -13,6 +13,7 @@ pub mod Open
 pub mod LeastAsked
 pub mod Closed
 pub mod Blocked
+pub mod Looked
 pub mod Remaining
 pub mod Singly
 pub mod Kept

@@ -32,13 +32,14 @@ use Rattle.ge_timeline.specs.Looks.{window_peak}
 use Rattle.ge_scheduling.specs.declared.rests.Rest.{Rest}
 use Rattle.ge_scheduling.specs.declared.rests.Left.{Left}
 use Rattle.ge_scheduling.specs.declared.rests.Room.{Room}
+use Rattle.ge_scheduling.specs.declared.holding.Hosts.{Hosts}
 use Rattle.ge_scheduling.specs.Common.{IsAsked}
 use Rattle.ge_scheduling.specs.Amounts.{IsInTable, number_in, AreLeast}
 use Rattle.ge_scheduling.specs.Closing.{asked_by_all}
-use Rattle.ge_scheduling.specs.Rests.{rest_of, host_rests, rests_at, left_first, is_full, renewed_rest, renewed_left, AreOpen, ArePassed, is_of, asks_more, is_short, is_short_now, are_short, left_then, is_short_then, are_short_then, are_short_at, comes_before, blocked_there, blocked_in, shortest_end_of, is_kept, AreKept, IsLeft, IsBlocked, IsLeftAt, AreLeft}
+use Rattle.ge_scheduling.specs.Rests.{rest_of, host_rests, rests_at, left_first, is_full, renewed_rest, renewed_left, AreOpen, ArePassed, is_of, asks_more, is_short, is_short_now, are_short, left_then, is_short_then, are_short_then, are_short_at, comes_before, blocked_there, blocked_in, shortest_end_of, is_kept, AreKept, OutBy, IsOut, AreShortLater, IsLeft, IsBlocked, IsLeftAt, AreLeft}
 use Rattle.ge_scheduling.specs.Vacant.{goes_on, slots_of}
 use Rattle.ge_scheduling.proofs.Admitting.{any_first, any_second, counts_here, slots_count, has_room_for}
-use Rattle.ge_scheduling.proofs.Blocked.{blocked_later, blocked_anew, before_each_end, shortest_lasts, full_before}
+use Rattle.ge_scheduling.proofs.Blocked.{known_later, known_anew, blocked_later, blocked_anew, before_each_end, shortest_lasts, full_before}
 use Rattle.ge_scheduling.proofs.Closed.{closed_to_all}
 use Rattle.ge_scheduling.proofs.Grown.{sum_grows}
 use Rattle.ge_scheduling.proofs.LeftOut.{peak_there, lasts_on}
@@ -121,10 +122,10 @@ module _ (c : Cluster) (groups : Groups) (now : ℕ) (booked : List Booking) whe
     first_left : (hosts : List (List ℕ × ℕ)) (names : List (List ℕ)) → list_all (asked_by_all c) names ≡ true → IsLeftAt c groups now booked at (left_first c groups now booked amounts hosts names at)
     first_left hosts names all = record { rests = left_here; shut = closed_to_all c groups names at all; blocked = tt }
 
-  pub all_left : (amounts hosts : List (List ℕ × ℕ)) (names : List (List ℕ)) (order : List InstanceId) (lefts : List Left) (vacant : List ℕ) → AreLeast c amounts → list_all (asked_by_all c) names ≡ true
-      → lefts ≡ map (left_first c groups now booked amounts hosts names) order → AreOpen (is_full c now None) lefts (length lefts) 0 vacant
-      → AreLeft c groups now booked order (record { lefts = lefts; vacant = vacant; until = None })
-  all_left amounts hosts names order lefts vacant known all are others =
+  pub all_left : (amounts hosts : List (List ℕ × ℕ)) (names : List (List ℕ)) (order : List InstanceId) (lefts : List Left) (vacant : List ℕ) (later : List (Option ℕ)) (on_hosts : Hosts) (places : ℕ) → AreLeast c amounts → list_all (asked_by_all c) names ≡ true
+      → lefts ≡ map (left_first c groups now booked amounts hosts names) order → AreOpen (is_full c now None) lefts (length lefts) 0 vacant → places ≡ length lefts → length later ≡ places → ((k : ℕ) → k < places → slice_index_or later k None ≡ None)
+      → AreLeft c groups now booked order (record { lefts = lefts; vacant = vacant; later = later; hosts = on_hosts; until = None })
+  all_left amounts hosts names order lefts vacant later on_hosts places known all are others count long unknown =
       let here : (k : ℕ) (at : InstanceId) (none : Left) → k < length order → slice_index_or lefts k none ≡ left_first c groups now booked amounts hosts names (slice_index_or order k at) =
       λ k at none inside. ap (λ rs. slice_index_or rs k none) are ∙ get_or-map (left_first c groups now booked amounts hosts names) order k at none inside in
       record {
@@ -133,6 +134,12 @@ module _ (c : Cluster) (groups : Groups) (now : ℕ) (booked : List Booking) whe
         long = ap (λ rs. length rs) are ∙ length-map order (left_first c groups now booked amounts hosts names);
         each = λ k at none inside. subst (λ (left : Left). IsLeftAt c groups now booked (slice_index_or order k at) left) (sym (here k at none inside)) (first_left amounts known (slice_index_or order k at) hosts names all);
         lasts = tt;
+        later = record {
+          long = long ∙ count;
+          each = λ k none inside.
+              subst (λ (known : Option ℕ). IfSome known (λ moment. are_short_then booked moment [] (slice_index_or lefts k none).rests ≡ true))
+              (sym (unknown k (omega (arith, inside, count)))) tt;
+        };
         others = others;
       }
 
@@ -153,7 +160,7 @@ module _ (c : Cluster) (groups : Groups) (now : ℕ) (booked : List Booking) whe
   pub renewed : (order : List InstanceId) (room : Room) (lefts : List Left) (vacant : List ℕ) (kept : Option ℕ) (place index : ℕ) (left : Left) → AreLeft c groups now booked order room → index < length room.vacant
       → place ≡ slice_index_or room.vacant index 0 → is_full c now room.until (slice_index_or room.lefts place left) ≡ false → left ≡ renewed_left now booked kept (slice_index_or room.lefts place left)
       → lefts ≡ slice_set room.lefts place left → vacant ≡ cond (is_full c now room.until left) (remove room.vacant index) room.vacant
-      → AreLeft c groups now booked order (record { lefts = lefts; vacant = vacant; until = room.until })
+      → AreLeft c groups now booked order (record room { lefts = lefts; vacant = vacant })
   renewed order room lefts vacant kept place index left are within place_is unfull is sets leaves =
       let full : Left → Bool = is_full c now room.until in
       let long : place < length room.lefts = subst (λ n. n < length room.lefts) (sym place_is) (open_within full room.lefts (length room.lefts) 0 room.vacant index within are.others) in
@@ -192,6 +199,19 @@ module _ (c : Cluster) (groups : Groups) (now : ℕ) (booked : List Booking) whe
               | inr other ↦ subst (λ (l : Left). IsLeftAt c groups now booked (slice_index_or order k d) l) (sym (stays k none other)) (are.each k d none inside_k)
             ];
         lasts = are.lasts;
+        later = record {
+          long = are.later.long ∙ sym length_is;
+          each = λ k none inside_k.
+              elim (cases_eq k place) [
+                | inl this ↦
+                    subst (λ n. IfSome (slice_index_or room.later n None) (λ moment. are_short_then booked moment [] (slice_index_or lefts n none).rests ≡ true)) (sym this)
+                    (subst (λ (l : Left). IfSome (slice_index_or room.later place None) (λ moment. are_short_then booked moment [] l.rests ≡ true)) (sym (put none ∙ is))
+                    (known_anew now booked (slice_index_or room.lefts place left).rests (slice_index_or room.later place None) (are.later.each place left long)))
+                | inr other ↦
+                    subst (λ (l : Left). IfSome (slice_index_or room.later k None) (λ moment. are_short_then booked moment [] l.rests ≡ true)) (sym (stays k none other))
+                    (are.later.each k none (omega (arith, inside_k, length_is)))
+              ];
+        };
         others =
             subst (λ places. AreOpen full lefts (length lefts) 0 places) (sym leaves)
             (cond_both (full left) (remove room.vacant index) room.vacant (λ places. AreOpen full lefts (length lefts) 0 places)
@@ -208,8 +228,21 @@ module _ (c : Cluster) (groups : Groups) (now : ℕ) (booked : List Booking) whe
     long = are.long;
     each = are.each;
     lasts = shortest_lasts c now groups booked until within;
+    later = are.later;
     others = open_on (is_full c now None) (is_full c now (Some until)) room.lefts room.lefts (length room.lefts) 0 room.vacant (λ k d e. full_before c now until (slice_index_or room.lefts k d) e)
         (subst (λ known. AreOpen (is_full c now known) room.lefts (length room.lefts) 0 room.vacant) none are.others);
+  }
+
+  -- more moments are known
+  pub later_known : (order : List InstanceId) (room : Room) (later : List (Option ℕ)) → AreLeft c groups now booked order room → AreShortLater booked room.lefts later → AreLeft c groups now booked order (record room { later = later })
+  later_known order room later are known = record {
+    number = are.number;
+    hosts = are.hosts;
+    long = are.long;
+    each = are.each;
+    lasts = are.lasts;
+    later = known;
+    others = are.others;
   }
 
   -- at one place
@@ -346,6 +379,10 @@ module _ (c : Cluster) (groups : Groups) (now : ℕ) (booked more : List Booking
         long = are.long;
         each = λ k at none inside. left_at_later (slice_index_or order k at) (slice_index_or room.lefts k none) (are.each k at none inside);
         lasts = are.lasts;
+        later = record {
+          long = are.later.long;
+          each = λ k none inside. known_later booked more (slice_index_or room.lefts k none).rests (slice_index_or room.later k None) (are.later.each k none inside);
+        };
         others = are.others;
       }
 
@@ -469,14 +506,21 @@ module _ (c : Cluster) (groups : Groups) (now moment : ℕ) (booked : List Booki
             (sym (cond-false (moment == now) (are_short asked rests) (are_short_then booked moment asked rests) other) ∙ short)
       ]
 
-  -- where hosts are left out at which each instance is short of something
-  pub placed_on_hosts : (asked : List Counted) (order left : List InstanceId) (room : Room) (kept : List Bool) → (are : AreLeft c groups now booked order room) → All (IsAsked c groups job) asked
-      → AreKept now booked moment asked room.lefts (length room.lefts) kept → left ≡ filter (λ (at : InstanceId). is_kept kept (are.number at.host)) order
+  -- what keeps a task from it refuses it
+  refused_by : (at : InstanceId) (rests : List Rest) (asked : List Counted) (until : ℕ) (known : Option ℕ) → until ≡ window_end_from c job moment → All (IsLeft c groups now booked at) rests → All (IsAsked c groups job) asked
+      → OutBy now booked moment until asked rests known → takes_one c groups job booked moment at ≡ false
+  refused_by at rests asked until None ends left is by = refused_at at rests asked left is by
+  refused_by at rests asked until (Some later) ends left is by =
+      short_then c groups moment booked job at on free later by.0 (subst (λ end. later < end) ends by.1) now booked rests [] there left (All-nil (IsAsked c groups job)) by.2
+
+  -- where hosts are left out from each instance of which something keeps a task
+  pub placed_on_hosts : (asked : List Counted) (until : ℕ) (order left : List InstanceId) (room : Room) (kept : List Bool) → until ≡ window_end_from c job moment → (are : AreLeft c groups now booked order room) → All (IsAsked c groups job) asked
+      → AreKept now booked moment until asked room.lefts (length room.lefts) kept → left ≡ filter (λ (at : InstanceId). is_kept kept (are.number at.host)) order
       → placement_of c groups left booked job moment ≡ placement_of c groups order booked job moment
-  placed_on_hosts asked order left room kept are is keeps left_is =
+  placed_on_hosts asked until order left room kept ends are is keeps left_is =
       let long = are.long in
       ap (λ ats. placement_of c groups ats booked job moment) left_is
       ∙ placed_thinned c groups job booked moment (λ host. is_kept kept (are.number host)) order
       (each_at (λ (at : InstanceId). is_kept kept (are.number at.host) ≡ false → takes_one c groups job booked moment at ≡ false) order (λ k d less gone.
-      refused_at (slice_index_or order k d) (slice_index_or room.lefts k no_left).rests asked (are.each k d no_left less).rests is
-      (keeps.short k no_left (omega (arith, less, long)) (ap (λ n. is_kept kept n) (are.hosts.each k d no_left less) ∙ gone))))
+      let out = keeps.out k no_left (omega (arith, less, long)) (ap (λ n. is_kept kept n) (are.hosts.each k d no_left less) ∙ gone) in
+      refused_by (slice_index_or order k d) (slice_index_or room.lefts k no_left).rests asked until out.known ends (are.each k d no_left less).rests is out.by))

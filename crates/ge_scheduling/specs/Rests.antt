@@ -15,6 +15,8 @@ use Rattle.ge_model_place.specs.Opening.{is_open}
 use Rattle.ge_model_place.specs.Windows.{next_moment, window_end_from}
 use Rattle.ge_timeline.specs.Looks.{window_peak}
 use Rattle.ge_demands.specs.declared.counting.Counted.{Counted}
+use Rattle.ge_scheduling.specs.declared.looking.Found.{Found}
+use Rattle.ge_scheduling.specs.declared.looking.Found.TheVariants.{Enough, TooLittle, Nothing}
 use Rattle.ge_scheduling.specs.declared.rests.Rest.{Rest}
 use Rattle.ge_scheduling.specs.declared.rests.Left.{Left}
 use Rattle.ge_scheduling.specs.declared.rests.Room.{Room}
@@ -80,6 +82,49 @@ are_short_then booked moment asked rests = list_any (is_short_then booked moment
 -- at the moment of the run by what is known to be left then, at another by what is booked there
 abbrev pub are_short_at : ℕ → List Booking → ℕ → List Counted → List Rest → Bool
 are_short_at now booked moment asked rests = cond (moment == now) (are_short asked rests) (are_short_then booked moment asked rests)
+
+-- what a task finds of one limit at the first moment of its window
+abbrev pub found_of : List Booking → ℕ → List Counted → Rest → Found
+found_of booked moment asked rest = cond (nat_lt (left_then booked moment rest) rest.least) Nothing (cond (is_short asked rest.resource (left_then booked moment rest)) TooLittle Enough)
+
+-- what is so of all of them where that is found
+abbrev pub IsFound : List Booking → ℕ → List Counted → List Rest → Found → Type 0
+IsFound booked moment asked rests Enough = Unit {0}
+IsFound booked moment asked rests TooLittle = are_short_then booked moment asked rests ≡ true
+IsFound booked moment asked rests Nothing = (are_short_then booked moment asked rests ≡ true) × (are_short_then booked moment [] rests ≡ true)
+
+-- the moment that is known of a place
+abbrev pub known_there : Option (Option ℕ) → Option ℕ
+known_there None = None
+known_there (Some known) = known
+
+abbrev pub known_of : List (Option ℕ) → ℕ → Option ℕ
+known_of later place = known_there (slice_get later place)
+
+-- whether a moment is known that lies in a window
+abbrev pub is_inside : ℕ → ℕ → Option ℕ → Bool
+is_inside from until None = false
+is_inside from until (Some moment) = nat_le from moment && nat_lt moment until
+
+-- what keeps a task from an instance: more is asked at the first moment of its window than is left, or too little is left for any job at one of its moments
+abbrev pub OutBy : ℕ → List Booking → ℕ → ℕ → List Counted → List Rest → Option ℕ → Type 0
+OutBy now booked from until asked rests None = are_short_at now booked from asked rests ≡ true
+OutBy now booked from until asked rests (Some moment) = (from ≤ moment) × (moment < until) × (are_short_then booked moment [] rests ≡ true)
+
+pub record IsOut (now : ℕ) (booked : List Booking) (from until : ℕ) (asked : List Counted) (rests : List Rest) : Type 0 where
+  pub known : Option ℕ
+  pub by : OutBy now booked from until asked rests known
+
+-- what is so of an instance where that is found in a window
+abbrev pub FindsAt : ℕ → List Booking → ℕ → ℕ → List Counted → List Rest → Found → Type 0
+FindsAt now booked from until asked rests Enough = Unit {0}
+FindsAt now booked from until asked rests TooLittle = IsOut now booked from until asked rests
+FindsAt now booked from until asked rests Nothing = IsOut now booked from until asked rests × (are_short_then booked from [] rests ≡ true)
+
+-- of each place a moment may be known at which too little is left for any job
+pub record AreShortLater (booked : List Booking) (lefts : List Left) (later : List (Option ℕ)) : Type 0 where
+  pub long : length later ≡ length lefts
+  pub each : (k : ℕ) (none : Left) → k < length lefts → IfSome (slice_index_or later k None) (λ moment. are_short_then booked moment [] (slice_index_or lefts k none).rests ≡ true)
 
 -- whether a moment is known that comes before another
 abbrev pub comes_before : Option ℕ → Option ℕ → Bool
@@ -151,9 +196,9 @@ pub record ArePassed (takes : InstanceId → Bool) (full : Left → Bool) (order
 abbrev pub is_kept : List Bool → ℕ → Bool
 is_kept kept host = slice_index_or kept host true
 
--- the hosts of instances before a place are kept at which nothing is short
-pub record AreKept (now : ℕ) (booked : List Booking) (moment : ℕ) (asked : List Counted) (rests : List Left) (place : ℕ) (kept : List Bool) : Type 0 where
-  pub short : (k : ℕ) (none : Left) → k < place → is_kept kept (slice_index_or rests k none).host ≡ false → are_short_at now booked moment asked (slice_index_or rests k none).rests ≡ true
+-- the hosts of instances before a place are kept unless something keeps a task from them
+pub record AreKept (now : ℕ) (booked : List Booking) (from until : ℕ) (asked : List Counted) (lefts : List Left) (place : ℕ) (kept : List Bool) : Type 0 where
+  pub out : (k : ℕ) (none : Left) → k < place → is_kept kept (slice_index_or lefts k none).host ≡ false → IsOut now booked from until asked (slice_index_or lefts k none).rests
 
 -- hosts have numbers by their names
 pub record AreNumbered (number : List ℕ → ℕ) (order : List InstanceId) (rests : List Left) : Type 0 where
@@ -189,4 +234,5 @@ module _ (c : Cluster) (groups : Groups) (now : ℕ) (booked : List Booking) whe
     pub long : length room.lefts ≡ length order
     pub each : (k : ℕ) (at : InstanceId) (none : Left) → k < length order → IsLeftAt (slice_index_or order k at) (slice_index_or room.lefts k none)
     pub lasts : IfSome room.until LastsUntil
+    pub later : AreShortLater booked room.lefts room.later
     pub others : AreOpen (is_full c now room.until) room.lefts (length room.lefts) 0 room.vacant

@@ -139,7 +139,14 @@ fn weigh(
         at.now.moment at.now.kinds.now.entries so_far.new.booked so_far.new.decisions
         so_far.new.tally so_far.new.passed so_far.new.full so_far.new.room) }
 {
-    let made = decision(alloc, at, &so_far.booked, &so_far.tally, &so_far.room, task)?;
+    let made = decision(
+        alloc,
+        at,
+        &so_far.booked,
+        &so_far.tally,
+        &mut so_far.room,
+        task,
+    )?;
     book(alloc, at, &mut so_far.booked, &made)?;
     count(alloc, at.cluster, &mut so_far.tally, &made)?;
     note(at.cluster, at.kinds, &mut so_far.full, task.job, &made)?;

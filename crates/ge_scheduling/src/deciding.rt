@@ -1,5 +1,5 @@
 // The decision of one task.
-ghost use Rattle.std.specs.Prelude.{◌≡◌, ◌==◌, true, None, Some, IfOk};
+ghost use Rattle.std.specs.Prelude.{◌≡◌, ◌==◌, true, None, Some, IfOk, OnOk};
 ghost use Rattle.std.specs.List.{list_all};
 ghost use Rattle.ge_collections.specs.Keyed.{at_number};
 ghost use Rattle.ge_model_place.specs.Placement.{placement_of};
@@ -90,16 +90,18 @@ fn keep_waiting(
     at: &Setting<'_>,
     booked: &Timeline,
     tally: &Tally,
-    room: &Room,
+    room: &mut Room,
     job: &Job,
     task: TaskId,
 ) -> Result<Decision, AllocError>
     requires there { IsInTable at.now.cluster.now job.now }
     requires left { AreLeft at.now.cluster.now at.now.groups.now at.now.moment booked.now
-        at.now.order.now room.now }
-    ensures { IfOk result (λ decision. decision
+        at.now.order.now room.old }
+    ensures decided { IfOk result (λ decision. decision
         ≡ waiting at.now.cluster.now at.now.groups.now at.now.order.now at.now.moment
         booked.now (may_be_reserved at.now.cluster.now.sched tally.now job.now) (Some job.now) task) }
+    ensures left { OnOk result (AreLeft at.now.cluster.now at.now.groups.now at.now.moment
+        booked.now at.now.order.now room.new) }
 {
     if !may_reserve(&at.cluster.sched, tally, job) {
         return Ok(Decision::Skip(task));
@@ -114,18 +116,20 @@ fn decision_for(
     at: &Setting<'_>,
     booked: &Timeline,
     tally: &Tally,
-    room: &Room,
+    room: &mut Room,
     job: &Job,
     task: TaskId,
 ) -> Result<Decision, AllocError>
     requires there { IsInTable at.now.cluster.now job.now }
     requires left { AreLeft at.now.cluster.now at.now.groups.now at.now.moment booked.now
-        at.now.order.now room.now }
-    ensures { IfOk result (λ decision. decision
+        at.now.order.now room.old }
+    ensures decided { IfOk result (λ decision. decision
         ≡ decision_by at.now.cluster.now at.now.groups.now at.now.order.now at.now.moment
         booked.now (is_over at.now.cluster.now.sched tally.now job.now.owner)
         (may_be_reserved at.now.cluster.now.sched tally.now job.now) tally.now.serial
         (Some job.now) task) }
+    ensures left { OnOk result (AreLeft at.now.cluster.now at.now.groups.now at.now.moment
+        booked.now at.now.order.now room.new) }
 {
     if is_full(&at.cluster.sched, tally, &job.owner) {
         return Ok(Decision::Skip(task));
@@ -149,14 +153,16 @@ pub(crate) fn decision(
     at: &Setting<'_>,
     booked: &Timeline,
     tally: &Tally,
-    room: &Room,
+    room: &mut Room,
     task: TaskId,
 ) -> Result<Decision, AllocError>
     requires { AreLeft at.now.cluster.now at.now.groups.now at.now.moment booked.now
-        at.now.order.now room.now }
-    ensures { IfOk result (λ decision. decision
+        at.now.order.now room.old }
+    ensures decided { IfOk result (λ decision. decision
         ≡ decision_at at.now.cluster.now at.now.groups.now at.now.order.now at.now.moment
         booked.now tally.now (at_number at.now.cluster.now.jobs task.job) task) }
+    ensures left { OnOk result (AreLeft at.now.cluster.now at.now.groups.now at.now.moment
+        booked.now at.now.order.now room.new) }
 {
     match at.cluster.jobs.get(&task.job) {
         Some(job) => decision_for(alloc, at, booked, tally, room, job, task),

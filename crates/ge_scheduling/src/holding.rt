@@ -2,7 +2,8 @@
 ghost use Rattle.std.specs.Prelude.{◌≡◌};
 ghost use Rattle.ge_scheduling.specs.Amounts.{number_in};
 
-use ge_rows::{Cluster, InstanceId, Table, Text, Twin};
+use ge_bookings::is_same_instance;
+use ge_rows::{Cluster, InstanceId, List, Table, Text, Twin};
 use std::alloc::{AllocError, Global};
 use std::collections::BTreeMap;
 
@@ -12,6 +13,13 @@ pub(crate) type Holders = BTreeMap<Text, InstanceId>;
 
 /// Numbers of hosts, so that hosts are told apart without their names.
 pub(crate) type HostNumbers = Table<Text, usize>;
+
+/// The hosts of the instances: their numbers, and by number the places of the instances that each has.
+#[derive(Drop)]
+pub(crate) struct Hosts {
+    pub(crate) numbers: HostNumbers,
+    pub(crate) places: List<List<usize>>,
+}
 
 fn note_name(
     alloc: Global,
@@ -56,23 +64,67 @@ pub(crate) fn holders_of(
     Ok(holders)
 }
 
-fn number_host(alloc: Global, hosts: &mut HostNumbers, host: &Text) -> Result<(), AllocError> {
-    if hosts.get(host).is_some() {
+// The number of a host, which is a new one where it has none.
+fn number_host(alloc: Global, hosts: &mut Hosts, host: &Text) -> Result<usize, AllocError> {
+    if let Some(number) = hosts.numbers.get(host) {
+        return Ok(*number);
+    }
+    let number = hosts.numbers.len();
+    let key = host.twin(alloc)?;
+    let _before = hosts.numbers.insert(key, number)?;
+    hosts.places.push(List::new(alloc))?;
+    Ok(number)
+}
+
+fn add_place(
+    alloc: Global,
+    places: &mut List<List<usize>>,
+    number: usize,
+    place: usize,
+) -> Result<(), AllocError> {
+    if number >= places.len() {
         return Ok(());
     }
-    let number = hosts.len();
-    let key = host.twin(alloc)?;
-    let _before = hosts.insert(key, number)?;
+    let mut there = places.replace(number, List::new(alloc));
+    there.push(place)?;
+    let _none = places.replace(number, there);
     Ok(())
 }
 
 /// The hosts of these instances, numbered from 0 as they come. Nothing is promised of that.
-pub(crate) fn hosts_of(alloc: Global, order: &[InstanceId]) -> Result<HostNumbers, AllocError> {
-    let mut hosts = Table::new(alloc);
-    for instance in order {
-        number_host(alloc, &mut hosts, &instance.host)?;
+pub(crate) fn hosts_of(alloc: Global, order: &[InstanceId]) -> Result<Hosts, AllocError> {
+    let mut hosts = Hosts {
+        numbers: Table::new(alloc),
+        places: List::new(alloc),
+    };
+    for (place, instance) in order.iter().enumerate() {
+        let number = number_host(alloc, &mut hosts, &instance.host)?;
+        add_place(alloc, &mut hosts.places, number, place)?;
     }
     Ok(hosts)
+}
+
+fn is_at(order: &[InstanceId], place: usize, instance: &InstanceId) -> bool {
+    match order.get(place) {
+        Some(other) => is_same_instance(other, instance),
+        None => false,
+    }
+}
+
+/// The place of an instance in the order. Those on its host are looked at alone.
+pub(crate) fn place_of(
+    order: &[InstanceId],
+    hosts: &Hosts,
+    instance: &InstanceId,
+) -> Option<usize> {
+    let number = hosts.numbers.get(&instance.host)?;
+    let there = hosts.places.items().get(*number)?;
+    for place in there.items() {
+        if is_at(order, *place, instance) {
+            return Some(*place);
+        }
+    }
+    None
 }
 
 /// The number of a host.

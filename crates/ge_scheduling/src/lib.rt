@@ -9,6 +9,7 @@
 //! - `rests`: what is left at each instance, and where too little is for any job. `renewing`: that as slots are given and kept.
 //!   `amounts`: what any job asks of values of hosts, at least. `closing`: instances that are closed to each job. `holding`:
 //!   where each value of hosts is; hosts' numbers.
+//! - `looking`: what a task finds at an instance in its window.
 //! - `asking`: what one slot of a job asks of limits, and which of them count at whatever instance.
 //! - `finding`: whether an instance may take a slot now. `single`: the start of a task that takes one slot. `thinning`: a
 //!   placement over hosts alone at which something may be placed. `placing`: the placement of a task, now and later.
@@ -31,6 +32,7 @@ mod deciding;
 mod finding;
 mod holding;
 mod kinds;
+mod looking;
 mod placing;
 mod renewing;
 mod reserving;

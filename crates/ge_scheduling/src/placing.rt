@@ -1,5 +1,5 @@
 // Where a task is placed, now and later. What a look at numbers alone rules out isn't tried.
-ghost use Rattle.std.specs.Prelude.{◌≡◌, ◌==◌, true, IfOk, All};
+ghost use Rattle.std.specs.Prelude.{◌≡◌, ◌==◌, true, IfOk, OnOk, All};
 ghost use Rattle.ge_model_place.specs.Placement.{placement_of};
 ghost use Rattle.ge_scheduling.specs.Amounts.{IsInTable};
 ghost use Rattle.ge_scheduling.specs.Common.{IsAsked};
@@ -24,7 +24,7 @@ fn place_together(
     alloc: Global,
     at: &Setting<'_>,
     booked: &Timeline,
-    room: &Room,
+    room: &mut Room,
     asked: &List<Counted>,
     job: &Job,
 ) -> Result<Option<List<Grant>>, AllocError>
@@ -32,11 +32,13 @@ fn place_together(
     requires free { (job.now.advance == 0) ≡ true }
     requires there { IsInTable at.now.cluster.now job.now }
     requires left { AreLeft at.now.cluster.now at.now.groups.now at.now.moment booked.now
-        at.now.order.now room.now }
+        at.now.order.now room.old }
     requires asked { All (IsAsked at.now.cluster.now at.now.groups.now job.now) asked.now }
-    ensures { IfOk result (λ grants. grants
+    ensures placed { IfOk result (λ grants. grants
         ≡ placement_of at.now.cluster.now at.now.groups.now at.now.order.now booked.now job.now
         at.now.moment) }
+    ensures left { OnOk result (AreLeft at.now.cluster.now at.now.groups.now at.now.moment
+        booked.now at.now.order.now room.new) }
 {
     let has = has_candidate(alloc, at, booked, room, asked, job)?;
     if !has {
@@ -52,7 +54,7 @@ fn place_left(
     alloc: Global,
     at: &Setting<'_>,
     booked: &Timeline,
-    room: &Room,
+    room: &mut Room,
     asked: &List<Counted>,
     job: &Job,
 ) -> Result<Option<List<Grant>>, AllocError>
@@ -60,11 +62,13 @@ fn place_left(
     requires free { (job.now.advance == 0) ≡ true }
     requires there { IsInTable at.now.cluster.now job.now }
     requires left { AreLeft at.now.cluster.now at.now.groups.now at.now.moment booked.now
-        at.now.order.now room.now }
+        at.now.order.now room.old }
     requires asked { All (IsAsked at.now.cluster.now at.now.groups.now job.now) asked.now }
-    ensures { IfOk result (λ grants. grants
+    ensures placed { IfOk result (λ grants. grants
         ≡ placement_of at.now.cluster.now at.now.groups.now at.now.order.now booked.now job.now
         at.now.moment) }
+    ensures left { OnOk result (AreLeft at.now.cluster.now at.now.groups.now at.now.moment
+        booked.now at.now.order.now room.new) }
 {
     match &job.request.pe {
         None => {
@@ -83,17 +87,19 @@ pub(crate) fn place_now(
     alloc: Global,
     at: &Setting<'_>,
     booked: &Timeline,
-    room: &Room,
+    room: &mut Room,
     asked: &List<Counted>,
     job: &Job,
 ) -> Result<Option<List<Grant>>, AllocError>
     requires there { IsInTable at.now.cluster.now job.now }
     requires left { AreLeft at.now.cluster.now at.now.groups.now at.now.moment booked.now
-        at.now.order.now room.now }
+        at.now.order.now room.old }
     requires asked { All (IsAsked at.now.cluster.now at.now.groups.now job.now) asked.now }
-    ensures { IfOk result (λ grants. grants
+    ensures placed { IfOk result (λ grants. grants
         ≡ placement_of at.now.cluster.now at.now.groups.now at.now.order.now booked.now job.now
         at.now.moment) }
+    ensures left { OnOk result (AreLeft at.now.cluster.now at.now.groups.now at.now.moment
+        booked.now at.now.order.now room.new) }
 {
     if is_refused(at, booked, asked, job, at.moment) {
         return Ok(None);
@@ -113,18 +119,20 @@ pub(crate) fn place_then(
     alloc: Global,
     at: &Setting<'_>,
     booked: &Timeline,
-    room: &Room,
+    room: &mut Room,
     asked: &List<Counted>,
     job: &Job,
     moment: u64,
 ) -> Result<Option<List<Grant>>, AllocError>
     requires there { IsInTable at.now.cluster.now job.now }
     requires left { AreLeft at.now.cluster.now at.now.groups.now at.now.moment booked.now
-        at.now.order.now room.now }
+        at.now.order.now room.old }
     requires asked { All (IsAsked at.now.cluster.now at.now.groups.now job.now) asked.now }
-    ensures { IfOk result (λ grants. grants
+    ensures placed { IfOk result (λ grants. grants
         ≡ placement_of at.now.cluster.now at.now.groups.now at.now.order.now booked.now job.now
         moment) }
+    ensures left { OnOk result (AreLeft at.now.cluster.now at.now.groups.now at.now.moment
+        booked.now at.now.order.now room.new) }
 {
     if is_refused(at, booked, asked, job, moment) {
         return Ok(None);

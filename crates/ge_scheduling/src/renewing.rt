@@ -3,28 +3,28 @@ ghost use Rattle.std.specs.Prelude.{◌≡◌, ◌≤◌, ◌<◌, cond, length,
 ghost use Rattle.std.specs.List.{remove};
 ghost use Rattle.ge_scheduling.specs.Rests.{renewed_rest, renewed_left, comes_sooner, blocked_with, blocked_since, kept_with, is_full as full_at, shortest_end_of, AreLeft};
 
+use crate::holding::{Hosts, place_of};
 use crate::rests::{Left, Rest, Room, are_short_then, is_full, left_then};
 use crate::setting::Setting;
-use ge_bookings::is_same_instance;
 use ge_rows::{Decision, Grant, InstanceId, List};
 use ge_timeline::Timeline;
 use ge_windows::window_end_from;
 use std::alloc::Global;
 
-fn is_at(order: &[InstanceId], place: usize, instance: &InstanceId) -> bool {
-    match order.get(place) {
-        Some(other) => is_same_instance(other, instance),
-        None => false,
-    }
-}
-
-// Which of these places is that of an instance.
-fn index_of(order: &[InstanceId], places: &[usize], instance: &InstanceId) -> Option<usize>
+// Which of these rising places is that of an instance.
+fn index_of(
+    order: &[InstanceId],
+    hosts: &Hosts,
+    places: &[usize],
+    instance: &InstanceId,
+) -> Option<usize>
     ensures { IfSome result (λ index. index < length places.now) }
 {
-    places
-        .iter()
-        .position(|place| is_at(order, *place, instance))
+    let place = place_of(order, hosts, instance)?;
+    match places.binary_search(&place) {
+        Ok(index) => Some(index),
+        Err(_) => None,
+    }
 }
 
 fn leave_out_full(
@@ -174,7 +174,7 @@ fn renew_at(
     ensures { AreLeft at.now.cluster.now at.now.groups.now at.now.moment booked.now
         at.now.order.now room.new }
 {
-    if let Some(index) = index_of(at.order, room.vacant.items(), instance) {
+    if let Some(index) = index_of(at.order, &room.hosts, room.vacant.items(), instance) {
         renew_vacant(alloc, at, booked, room, index, kept);
     }
 }

@@ -1,5 +1,5 @@
 // Slots that are kept for a task which can't start now.
-ghost use Rattle.std.specs.Prelude.{◌≡◌, Some, IfOk, All};
+ghost use Rattle.std.specs.Prelude.{◌≡◌, Some, IfOk, OnOk, All};
 ghost use Rattle.ge_scheduling.specs.Amounts.{IsInTable};
 ghost use Rattle.ge_scheduling.specs.Common.{IsAsked};
 ghost use Rattle.ge_scheduling.specs.Rests.{AreLeft};
@@ -19,18 +19,20 @@ pub(crate) fn reserve(
     alloc: Global,
     at: &Setting<'_>,
     booked: &Timeline,
-    room: &Room,
+    room: &mut Room,
     asked: &List<Counted>,
     job: &Job,
     task: TaskId,
 ) -> Result<Decision, AllocError>
     requires there { IsInTable at.now.cluster.now job.now }
     requires left { AreLeft at.now.cluster.now at.now.groups.now at.now.moment booked.now
-        at.now.order.now room.now }
+        at.now.order.now room.old }
     requires asked { All (IsAsked at.now.cluster.now at.now.groups.now job.now) asked.now }
-    ensures { IfOk result (λ decision. decision
+    ensures decided { IfOk result (λ decision. decision
         ≡ reserved_for at.now.cluster.now at.now.groups.now at.now.order.now at.now.moment
         booked.now (Some job.now) task) }
+    ensures left { OnOk result (AreLeft at.now.cluster.now at.now.groups.now at.now.moment
+        booked.now at.now.order.now room.new) }
 {
     let mut moment = at.moment;
     while let Some(end) = booked.next_end_after(moment) {

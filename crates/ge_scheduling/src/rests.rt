@@ -1,16 +1,16 @@
 // What is left at each instance, so that one which has too little is passed by before anything else is asked of it.
-ghost use Rattle.std.specs.Prelude.{◌≡◌, ◌++◌, ◌∷◌, [], None, cond, length, map, filter, IfOk, OnOk};
+ghost use Rattle.std.specs.Prelude.{◌≡◌, ℕ, ◌<◌, ◌++◌, ◌∷◌, [], None, cond, length, map, filter, slice_index_or, IfOk, OnOk};
 ghost use Rattle.ge_model_bookings.specs.Bookings.{same_instance};
 ghost use Rattle.ge_model_value.specs.Complexes.{is_consumable as is_consumed};
 ghost use Rattle.ge_model_place.specs.Limits.{consumables, resource_of};
 ghost use Rattle.ge_model_rows.specs.ScheduleRows.{Host};
 ghost use Rattle.ge_scheduling.specs.Amounts.{number_in};
-ghost use Rattle.ge_scheduling.specs.Rests.{rest_of as left_of, rests_at as left_at, left_first, comes_before, is_full as full_at, AreOpen, is_of, asks_more as more_than, is_short as short_of, is_short_now as short_now, are_short as all_short_of, left_then as rest_then, is_short_then as short_then, are_short_then as all_short_then, are_short_at as all_short_at, AreLeft};
+ghost use Rattle.ge_scheduling.specs.Rests.{rest_of as left_of, rests_at as left_at, left_first, comes_before, is_full as full_at, AreOpen, is_of, asks_more as more_than, is_short as short_of, is_short_now as short_now, are_short as all_short_of, left_then as rest_then, is_short_then as short_then, are_short_then as all_short_then, AreLeft};
 ghost use Rattle.ge_scheduling.specs.Vacant.{slots_of};
 
 use crate::amounts::{LeastAmounts, least_amounts, least_in};
 use crate::closing::{is_closed, names_asked_by_all};
-use crate::holding::{HostNumbers, hosts_of, number_of};
+use crate::holding::{HostNumbers, Hosts, hosts_of, number_of};
 use crate::setting::Setting;
 use crate::vacancy::{goes_on, slots_at};
 use ge_bookings::is_same_name;
@@ -58,6 +58,10 @@ pub(crate) struct Room {
     pub(crate) lefts: List<Left>,
     /// The places, which rise.
     pub(crate) vacant: List<usize>,
+    /// At each place a moment, if one is known, at which too little is left there for any job, in seconds.
+    pub(crate) later: List<Option<u64>>,
+    /// Where each instance is.
+    pub(crate) hosts: Hosts,
     /// A moment before which the window of no job's task ends that starts now, in seconds: found out once slots are kept.
     pub(crate) until: Option<u64>,
 }
@@ -251,6 +255,16 @@ fn vacant_places(alloc: Global, at: &Setting<'_>, lefts: &[Left]) -> Result<List
     Ok(vacant)
 }
 
+// No moment is known of any place.
+fn none_later(alloc: Global, places: usize) -> Result<List<Option<u64>>, AllocError>
+    ensures long { IfOk result (λ later. length later ≡ places) }
+    ensures none { IfOk result (λ later. (k : ℕ) → k < places
+        → slice_index_or later k None ≡ None) }
+{
+    let later = vec![in alloc; None; places]?;
+    Ok(List::from_vec(later))
+}
+
 /// What is left at each instance now.
 pub(crate) fn room_at(
     alloc: Global,
@@ -263,11 +277,14 @@ pub(crate) fn room_at(
     let amounts = least_amounts(alloc, at)?;
     let hosts = hosts_of(alloc, at.order)?;
     let names = names_asked_by_all(alloc, at)?;
-    let lefts = lefts_of_all(alloc, at, booked, &amounts, &hosts, names.items())?;
+    let lefts = lefts_of_all(alloc, at, booked, &amounts, &hosts.numbers, names.items())?;
     let vacant = vacant_places(alloc, at, lefts.items())?;
+    let later = none_later(alloc, lefts.len())?;
     Ok(Room {
         lefts,
         vacant,
+        later,
+        hosts,
         until: None,
     })
 }
@@ -292,7 +309,8 @@ fn asks_more(resource: &Text, most: u128, counted: &Counted) -> bool
     most < u128::from(counted.amount) && is_of_resource(&counted.limit, resource)
 }
 
-fn is_short(asked: &[Counted], resource: &Text, most: u128) -> bool
+/// Whether more is asked of a resource than is left.
+pub(crate) fn is_short(asked: &[Counted], resource: &Text, most: u128) -> bool
     ensures { result ≡ short_of asked.now resource.now most }
 {
     asked
@@ -340,21 +358,4 @@ pub(crate) fn are_short_then(
     rests
         .iter()
         .any(|rest| is_short_then(booked, moment, asked, rest))
-}
-
-/// Whether more is asked than is left of one of these at a moment. At that of the run nothing is looked up.
-pub(crate) fn are_short_at(
-    at: &Setting<'_>,
-    booked: &Timeline,
-    moment: u64,
-    asked: &[Counted],
-    rests: &[Rest],
-) -> bool
-    ensures { result ≡ all_short_at at.now.moment booked.now moment asked.now rests.now }
-{
-    if moment == at.moment {
-        are_short(asked, rests)
-    } else {
-        are_short_then(booked, moment, asked, rests)
-    }
 }

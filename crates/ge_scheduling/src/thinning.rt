@@ -1,17 +1,19 @@
 // A placement over hosts alone at which something may be placed.
-ghost use Rattle.std.specs.Prelude.{◌≡◌, ℕ, ◌==◌, ◌||◌, true, false, ◌++◌, ◌∷◌, [], cond, filter, length, IfOk, OnOk, All, List as Items};
+ghost use Rattle.std.specs.Prelude.{◌≡◌, ℕ, ◌+◌, ◌<◌, ◌==◌, ◌||◌, true, ◌++◌, ◌∷◌, [], cond, filter, length, IfOk, OnOk, All, List as Items};
 ghost use Rattle.ge_model_place.specs.Placement.{placement_of};
 ghost use Rattle.ge_scheduling.specs.Amounts.{IsInTable};
 ghost use Rattle.ge_scheduling.specs.Common.{IsAsked};
-ghost use Rattle.ge_scheduling.specs.Rests.{is_kept as kept_in, are_short_at as all_short_at, AreKept, AreNumbered, AreLeft};
+ghost use Rattle.ge_scheduling.specs.Rests.{is_kept as kept_in, known_of, AreKept, AreNumbered, AreShortLater, AreLeft};
 ghost use Rattle.ge_scheduling.specs.Vacant.{goes_on as has_moment};
 
-use crate::rests::{Left, Room, are_short_at};
+use crate::looking::{Found, Look, found_at};
+use crate::rests::{Left, Room};
 use crate::setting::Setting;
 use ge_demands::Counted;
 use ge_place::place_job;
 use ge_rows::{Grant, InstanceId, Job, List, Twin};
 use ge_timeline::Timeline;
+use ge_windows::window_end_from;
 use std::alloc::{AllocError, Global};
 
 // Whether a host is kept, by its number.
@@ -29,21 +31,40 @@ fn keep_host(kept: &mut List<bool>, host: usize)
     }
 }
 
-// Keeps the host of an instance, unless something is short there.
-fn note_host(
+fn known_at(later: &[Option<u64>], place: usize) -> Option<u64>
+    ensures { result ≡ known_of later.now place }
+{
+    match later.get(place) {
+        Some(known) => *known,
+        None => None,
+    }
+}
+
+// Keeps the host of an instance, unless something keeps the task from that. It is noted where too little is left for any job.
+fn note_place(
     at: &Setting<'_>,
-    booked: &Timeline,
-    moment: u64,
-    asked: &[Counted],
-    left: &Left,
+    look: &Look<'_>,
+    lefts: &[Left],
+    place: usize,
+    later: &mut List<Option<u64>>,
     kept: &mut List<bool>,
 )
-    ensures fewer { (q : ℕ) → kept_in kept.new q ≡ false → kept_in kept.old q ≡ false }
-    ensures here { kept_in kept.new left.now.host ≡ false
-        → all_short_at at.now.moment booked.now moment asked.now left.now.rests ≡ true }
+    requires within { place < length lefts.now }
+    requires later { AreShortLater look.now.booked.now lefts.now later.old }
+    requires kept { AreKept at.now.moment look.now.booked.now look.now.from look.now.until
+        look.now.asked.now lefts.now place kept.old }
+    ensures later { AreShortLater look.now.booked.now lefts.now later.new }
+    ensures kept { AreKept at.now.moment look.now.booked.now look.now.from look.now.until
+        look.now.asked.now lefts.now (place + 1) kept.new }
 {
-    if !are_short_at(at, booked, moment, asked, left.rests.items()) {
-        keep_host(kept, left.host);
+    let left = &lefts[place];
+    let known = known_at(later.items(), place);
+    match found_at(at, look, known, left.rests.items()) {
+        Found::Enough => keep_host(kept, left.host),
+        Found::TooLittle => {}
+        Found::Nothing => {
+            let _known = later.replace(place, Some(look.from));
+        }
     }
 }
 
@@ -51,17 +72,20 @@ fn note_host(
 fn kept_hosts(
     alloc: Global,
     at: &Setting<'_>,
-    booked: &Timeline,
+    look: &Look<'_>,
     lefts: &[Left],
-    asked: &[Counted],
-    moment: u64,
+    later: &mut List<Option<u64>>,
 ) -> Result<List<bool>, AllocError>
-    ensures { IfOk result (λ kept. AreKept at.now.moment booked.now moment asked.now
-        lefts.now (length lefts.now) kept) }
+    requires { AreShortLater look.now.booked.now lefts.now later.old }
+    ensures later { OnOk result (AreShortLater look.now.booked.now lefts.now later.new) }
+    ensures kept { IfOk result (λ kept. AreKept at.now.moment look.now.booked.now look.now.from
+        look.now.until look.now.asked.now lefts.now (length lefts.now) kept) }
 {
     let mut kept = List::from_vec(vec![in alloc; false; lefts.len()]?);
-    for left in lefts {
-        note_host(at, booked, moment, asked, left, &mut kept);
+    let mut place = 0;
+    while place < lefts.len() {
+        note_place(at, look, lefts, place, later, &mut kept);
+        place += 1;
     }
     Ok(kept)
 }
@@ -104,12 +128,13 @@ fn instances_on(
 }
 
 /// The grants of a task of a job that is sent into no reservation from a moment on. Hosts at each instance of which something
-/// that is asked isn't left then are left out, which changes no placement.
+/// that is asked isn't left then are left out, which changes no placement, and so are those where too little is left for any job
+/// at a moment of the task's window that is known; such moments are noted.
 pub(crate) fn place_on_hosts(
     alloc: Global,
     at: &Setting<'_>,
     booked: &Timeline,
-    room: &Room,
+    room: &mut Room,
     asked: &List<Counted>,
     job: &Job,
     moment: u64,
@@ -118,13 +143,23 @@ pub(crate) fn place_on_hosts(
     requires free { (job.now.advance == 0) ≡ true }
     requires there { IsInTable at.now.cluster.now job.now }
     requires left { AreLeft at.now.cluster.now at.now.groups.now at.now.moment booked.now
-        at.now.order.now room.now }
+        at.now.order.now room.old }
     requires asked { All (IsAsked at.now.cluster.now at.now.groups.now job.now) asked.now }
-    ensures { IfOk result (λ grants. grants ≡ placement_of at.now.cluster.now at.now.groups.now
-        at.now.order.now booked.now job.now moment) }
+    ensures placed { IfOk result (λ grants. grants ≡ placement_of at.now.cluster.now
+        at.now.groups.now at.now.order.now booked.now job.now moment) }
+    ensures left { OnOk result (AreLeft at.now.cluster.now at.now.groups.now at.now.moment
+        booked.now at.now.order.now room.new) }
 {
     let lefts = room.lefts.items();
-    let kept = kept_hosts(alloc, at, booked, lefts, asked.items(), moment)?;
+    let asked = asked.items();
+    let until = window_end_from(at.cluster, job, moment);
+    let look = Look {
+        booked,
+        asked,
+        from: moment,
+        until,
+    };
+    let kept = kept_hosts(alloc, at, &look, lefts, &mut room.later)?;
     let instances = instances_on(alloc, at.order, lefts, &kept)?;
     let order = instances.items();
     let grants = place_job(alloc, at.cluster, at.groups, order, booked, job, moment)?;

@@ -2,13 +2,16 @@
 use Rattle.std.proofs.Common.{◌≡◌, ◌-◌, Some}
 use Rattle.ge_model_bookings.specs.Bookings.{forever}
 use Rattle.ge_model_place.specs.Running.{earliest_end}
+use Rattle.ge_scheduling.specs.Rests.{AreLeft}
 use Rattle.ge_scheduling.specs.Verdicts.{can_be_placed}
 use Rattle.ge_scheduling.proofs.reserving.reserve.Given as goal
 
 abbrev pub invariant-loop-end : goal.invariant-loop-end
-invariant-loop-end l =
-    earliest_end (can_be_placed l.at.cluster.now l.at.groups.now l.at.order.now l.at.moment l.booked (Some l.job)) l.moment l.booked
-    ≡ earliest_end (can_be_placed l.at.cluster.now l.at.groups.now l.at.order.now l.at.moment l.booked (Some l.job)) l.at.moment l.booked
+invariant-loop-end l = record {
+  from : earliest_end (can_be_placed l.at.cluster.now l.at.groups.now l.at.order.now l.at.moment l.booked (Some l.job)) l.moment l.booked
+      ≡ earliest_end (can_be_placed l.at.cluster.now l.at.groups.now l.at.order.now l.at.moment l.booked (Some l.job)) l.at.moment l.booked;
+  left : AreLeft l.at.cluster.now l.at.groups.now l.at.moment l.booked l.at.order.now l.room;
+}
 
 abbrev pub decreases-loop-end : goal.decreases-loop-end
 decreases-loop-end l = forever - l.moment
