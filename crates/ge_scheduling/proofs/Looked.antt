@@ -1,5 +1,5 @@
 -- What a task finds at instances in its window, and hosts that are kept.
-use Rattle.std.proofs.Common.{◌≡◌, ℕ, ◌+◌, ◌≤◌, ◌<◌, ◌==◌, inl, inr, Bool, true, false, ◌||◌, cond, List, [], ◌∷◌, length, get_or, slice_set, slice_index_or, Option, Some, None, refl, sym, subst, ap, ◌∙◌, arith, get_or-set_same, get_or-set_other, below_more}
+use Rattle.std.proofs.Common.{◌≡◌, ℕ, ◌+◌, ◌<◌, ◌==◌, inl, inr, Bool, true, false, ◌||◌, cond, List, [], ◌∷◌, length, get_or, slice_set, slice_index_or, Option, Some, None, refl, sym, subst, ap, ◌∙◌, arith, get_or-set_same, get_or-set_other, below_more}
 use Rattle.std.specs.Prelude.{nat_lt, nat_le, IfSome}
 use Rattle.std.proofs.lemmas.Bool.{cond-true, cond-false, cond_both, cases_Bool, cases_eq, and_parts, or_left, or_right, true≢false, leb-true, ltb-true, eq-eqb}
 use Rattle.std.proofs.lemmas.List.{length-set, get_or_read}
@@ -11,7 +11,7 @@ use Rattle.ge_scheduling.specs.declared.looking.Found.{Found}
 use Rattle.ge_scheduling.specs.declared.looking.Found.TheVariants.{Enough, TooLittle, Nothing}
 use Rattle.ge_scheduling.specs.declared.rests.Rest.{Rest}
 use Rattle.ge_scheduling.specs.declared.rests.Left.{Left}
-use Rattle.ge_scheduling.specs.Rests.{is_short, are_short, left_then, is_short_then, are_short_then, are_short_at, found_of, IsFound, is_inside, IsOut, FindsAt, known_there, known_of, AreShortLater, is_kept, AreKept}
+use Rattle.ge_scheduling.specs.Rests.{is_short, are_short, left_then, is_short_then, are_short_then, found_of, IsFound, is_inside, IsOut, FindsAt, known_there, known_of, AreShortLater, is_kept, AreKept}
 
 second_false : (a b : Bool) → (a || b) ≡ false → b ≡ false
 second_false true b e = absurd (true≢false e)

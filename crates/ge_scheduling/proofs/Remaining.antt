@@ -36,7 +36,7 @@ use Rattle.ge_scheduling.specs.declared.holding.Hosts.{Hosts}
 use Rattle.ge_scheduling.specs.Common.{IsAsked}
 use Rattle.ge_scheduling.specs.Amounts.{IsInTable, number_in, AreLeast}
 use Rattle.ge_scheduling.specs.Closing.{asked_by_all}
-use Rattle.ge_scheduling.specs.Rests.{rest_of, host_rests, rests_at, left_first, is_full, renewed_rest, renewed_left, AreOpen, ArePassed, is_of, asks_more, is_short, is_short_now, are_short, left_then, is_short_then, are_short_then, are_short_at, comes_before, blocked_there, blocked_in, shortest_end_of, is_kept, AreKept, OutBy, IsOut, AreShortLater, IsLeft, IsBlocked, IsLeftAt, AreLeft}
+use Rattle.ge_scheduling.specs.Rests.{rest_of, host_rests, rests_at, left_first, is_full, renewed_rest, renewed_left, AreOpen, ArePassed, is_of, asks_more, is_short, is_short_now, are_short, left_then, is_short_then, are_short_then, are_short_at, comes_before, blocked_there, blocked_in, shortest_end_of, is_kept, AreKept, OutBy, AreShortLater, IsLeft, IsBlocked, IsLeftAt, AreLeft}
 use Rattle.ge_scheduling.specs.Vacant.{goes_on, slots_of}
 use Rattle.ge_scheduling.proofs.Admitting.{any_first, any_second, counts_here, slots_count, has_room_for}
 use Rattle.ge_scheduling.proofs.Blocked.{known_later, known_anew, blocked_later, blocked_anew, before_each_end, shortest_lasts, full_before}
