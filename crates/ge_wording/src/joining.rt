@@ -6,6 +6,9 @@ ghost use Rattle.ge_model_value.specs.Pieces.{joined_by};
 use ge_rows::Text;
 use std::alloc::{AllocError, Global};
 
+/// Room for a line, in bytes; a longer one grows.
+pub(crate) const LINE_ROOM: usize = 64;
+
 fn append_next(line: &mut Text, between: &[u8], word: &[u8]) -> Result<(), AllocError>
     ensures { OnOk result (line.new ≡ line.old ++ (between.now ++ word.now)) }
 {
@@ -30,7 +33,8 @@ pub fn join_words(alloc: Global, between: &[u8], words: &[&[u8]]) -> Result<Text
     match words {
         [] => Ok(Text::new(alloc)),
         [first, others @ ..] => {
-            let mut line = Text::from_bytes(alloc, first)?;
+            let mut line = Text::from_vec(Vec::with_capacity(alloc, LINE_ROOM)?);
+            line.append(first)?;
             append_others(&mut line, between, others)?;
             Ok(line)
         }
