@@ -6,7 +6,7 @@ ghost use Rattle.ge_model_report.specs.Booked.{booked_line, booked_lines, booked
 
 use crate::grants::{grants_text, slots_of};
 use ge_rows::{Advance, Cluster, List, Table, Text};
-use ge_wording::{decimals4, join_words};
+use ge_wording::{Column, join_columns};
 use std::alloc::{AllocError, Global};
 
 fn state_at(now: u64, booked: &Advance) -> &[u8]
@@ -24,23 +24,16 @@ fn state_at(now: u64, booked: &Advance) -> &[u8]
 fn line_of(alloc: Global, now: u64, number: u32, booked: &Advance) -> Result<Text, AllocError>
     ensures { IfOk result (λ line. line ≡ booked_line now (number, booked.now)) }
 {
-    let (number, from, until, slots) = decimals4(
-        alloc,
-        u128::from(number),
-        u128::from(booked.from),
-        u128::from(booked.until),
-        slots_of(booked.grants.items()),
-    )?;
-    let words: [&[u8]; 7] = [
-        number.bytes(),
-        booked.name.bytes(),
-        booked.owner.bytes(),
-        state_at(now, booked),
-        from.bytes(),
-        until.bytes(),
-        slots.bytes(),
+    let columns = [
+        Column::Number(u128::from(number)),
+        Column::Word(booked.name.bytes()),
+        Column::Word(booked.owner.bytes()),
+        Column::Word(state_at(now, booked)),
+        Column::Number(u128::from(booked.from)),
+        Column::Number(u128::from(booked.until)),
+        Column::Number(slots_of(booked.grants.items())),
     ];
-    join_words(alloc, b" ", &words)
+    join_columns(alloc, &columns)
 }
 
 fn all(alloc: Global, advances: &Table<u32, Advance>, now: u64) -> Result<List<Text>, AllocError>

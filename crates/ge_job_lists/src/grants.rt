@@ -1,48 +1,77 @@
 //! Grants in words: where a task runs, and with how many slots.
 
-ghost use Rattle.std.specs.Prelude.{◌≡◌, ◌++◌, IfOk, codes, decimal, map};
+ghost use Rattle.std.specs.Prelude.{◌≡◌, ◌++◌, IfOk, OnOk, codes, decimal, flat_map, map};
 ghost use Rattle.ge_model_report.specs.Grants.{grant_text, granted_slots, grants_text, instance_text};
 ghost use Rattle.ge_model_report.specs.JobLines.{first_instance_text};
 
 use ge_base::sum_of;
-use ge_pieces::join;
-use ge_rows::{Grant, InstanceId, List, Text};
+use ge_rows::{Grant, InstanceId, Text};
+use ge_wording::append_decimal;
 use std::alloc::{AllocError, Global};
+
+/// Room for an instance or a grant, in bytes; a longer text grows.
+const ROOM: usize = 32;
+
+fn append_instance(text: &mut Vec<u8>, at: &InstanceId) -> Result<(), AllocError>
+    ensures { OnOk result (text.new.items ≡ text.old.items ++ instance_text at.now) }
+{
+    text.extend_from_slice(at.queue.bytes())?;
+    text.push(b'@')?;
+    text.extend_from_slice(at.host.bytes())
+}
 
 /// A queue instance, as `queue@host`.
 pub fn instance_text(alloc: Global, at: &InstanceId) -> Result<Text, AllocError>
     ensures { IfOk result (λ text. text ≡ instance_text at.now) }
 {
-    let mut text = Text::from_bytes(alloc, at.queue.bytes())?;
-    text.push(b'@')?;
-    text.append(at.host.bytes())?;
-    Ok(text)
+    let mut text = Vec::with_capacity(alloc, ROOM)?;
+    append_instance(&mut text, at)?;
+    Ok(Text::from_vec(text))
 }
 
-fn grant_text(alloc: Global, grant: &Grant) -> Result<Text, AllocError>
-    ensures { IfOk result (λ text. text ≡ grant_text grant.now) }
+fn append_grant(text: &mut Vec<u8>, grant: &Grant) -> Result<(), AllocError>
+    ensures { OnOk result (text.new.items ≡ text.old.items ++ grant_text grant.now) }
 {
-    let mut text = instance_text(alloc, &grant.at)?;
+    append_instance(text, &grant.at)?;
     text.push(b'=')?;
-    text.append(grant.slots.to_string(alloc)?.as_bytes())?;
-    Ok(text)
+    append_decimal(text, u128::from(grant.slots))
 }
 
-fn all_texts(alloc: Global, grants: &[Grant]) -> Result<List<Text>, AllocError>
-    ensures { IfOk result (λ texts. texts ≡ map grant_text grants.now) }
+fn append_next(text: &mut Vec<u8>, grant: &Grant) -> Result<(), AllocError>
+    ensures { OnOk result (text.new.items ≡ text.old.items ++ (codes "," ++ grant_text grant.now)) }
 {
-    let mut texts = List::new(alloc);
+    text.push(b',')?;
+    append_grant(text, grant)
+}
+
+fn append_others(text: &mut Vec<u8>, grants: &[Grant]) -> Result<(), AllocError>
+    ensures { OnOk result (text.new.items
+        ≡ text.old.items ++ flat_map (λ next. codes "," ++ next) (map grant_text grants.now)) }
+{
     for grant in grants {
-        texts.push(grant_text(alloc, grant)?)?;
+        append_next(text, grant)?;
     }
-    Ok(texts)
+    Ok(())
+}
+
+/// Puts grants as `queue@host=slots`, joined by commas, at the end of a line.
+pub fn append_grants(line: &mut Vec<u8>, grants: &[Grant]) -> Result<(), AllocError>
+    ensures { OnOk result (line.new.items ≡ line.old.items ++ grants_text grants.now) }
+{
+    let [first, others @ ..] = grants else {
+        return Ok(());
+    };
+    append_grant(line, first)?;
+    append_others(line, others)
 }
 
 /// Grants as `queue@host=slots`, joined by commas.
 pub fn grants_text(alloc: Global, grants: &[Grant]) -> Result<Text, AllocError>
     ensures { IfOk result (λ text. text ≡ grants_text grants.now) }
 {
-    join(alloc, b",", all_texts(alloc, grants)?.items())
+    let mut text = Vec::with_capacity(alloc, ROOM)?;
+    append_grants(&mut text, grants)?;
+    Ok(Text::from_vec(text))
 }
 
 /// Where the first grant is, or `-` where there is none.

@@ -7,7 +7,7 @@ ghost use Rattle.ge_job_lists.specs.Gathered.{with_order, with_orders};
 
 use crate::grants::slots_of;
 use ge_rows::{Cluster, Grant, Job, List, Running, Table, Text, Twin};
-use ge_wording::{decimal_text, decimals4, join_words};
+use ge_wording::{Column, join_columns};
 use std::alloc::{AllocError, Global};
 use std::collections::BTreeMap;
 
@@ -27,25 +27,18 @@ fn is_run_at(host: &Text, grants: &[Grant]) -> bool
 fn order_of(alloc: Global, job: u32, task: u32, running: &Running) -> Result<Text, AllocError>
     ensures { IfOk result (λ text. text ≡ order_text ((running.now.serial, job, task), running.now)) }
 {
+    let serial = Column::Number(u128::from(running.serial));
     if running.deleting {
-        let serial = decimal_text(alloc, u128::from(running.serial))?;
-        return join_words(alloc, b" ", &[b"kill", serial.bytes()]);
+        return join_columns(alloc, &[Column::Word(b"kill"), serial]);
     }
-    let (serial, job, task, slots) = decimals4(
-        alloc,
-        u128::from(running.serial),
-        u128::from(job),
-        u128::from(task),
-        slots_of(running.grants.items()),
-    )?;
-    let words: [&[u8]; 5] = [
-        b"run",
-        serial.bytes(),
-        job.bytes(),
-        task.bytes(),
-        slots.bytes(),
+    let columns = [
+        Column::Word(b"run"),
+        serial,
+        Column::Number(u128::from(job)),
+        Column::Number(u128::from(task)),
+        Column::Number(slots_of(running.grants.items())),
     ];
-    join_words(alloc, b" ", &words)
+    join_columns(alloc, &columns)
 }
 
 // One more task, where the host runs it.

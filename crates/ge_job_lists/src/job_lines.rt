@@ -11,7 +11,7 @@ use crate::grants::{first_instance, slots_of};
 use ge_jobs::{free_tasks, held_tasks, is_live};
 use ge_ranges::text;
 use ge_rows::{Job, List, PeRequest, Running, Table, TaskSet, Text};
-use ge_wording::{decimal_text, join_words};
+use ge_wording::{Column, decimal_text, join_columns};
 use std::alloc::{AllocError, Global};
 
 /// What a line shows of tasks beside their job.
@@ -29,24 +29,26 @@ struct Shown<'a> {
     tasks: &'a [u8],
 }
 
-fn line_of(alloc: Global, number: u32, job: &Job, shown: &Shown) -> Result<Text, AllocError>
+fn line_of<'a>(
+    alloc: Global,
+    number: u32,
+    job: &'a Job,
+    shown: &Shown<'a>,
+) -> Result<Text, AllocError>
     ensures { IfOk result (λ line. line ≡ worded (decimal number ∷ job.now.name ∷ job.now.owner ∷ shown.now.state.now
         ∷ decimal shown.now.moment ∷ shown.now.queue.now ∷ decimal shown.now.slots ∷ shown.now.tasks.now ∷ [])) }
 {
-    let number = decimal_text(alloc, u128::from(number))?;
-    let moment = decimal_text(alloc, u128::from(shown.moment))?;
-    let slots = decimal_text(alloc, shown.slots)?;
-    let words: [&[u8]; 8] = [
-        number.bytes(),
-        job.name.bytes(),
-        job.owner.bytes(),
-        shown.state,
-        moment.bytes(),
-        shown.queue,
-        slots.bytes(),
-        shown.tasks,
+    let columns = [
+        Column::Number(u128::from(number)),
+        Column::Word(job.name.bytes()),
+        Column::Word(job.owner.bytes()),
+        Column::Word(shown.state),
+        Column::Number(u128::from(shown.moment)),
+        Column::Word(shown.queue),
+        Column::Number(shown.slots),
+        Column::Word(shown.tasks),
     ];
-    join_words(alloc, b" ", &words)
+    join_columns(alloc, &columns)
 }
 
 fn state_of_running(running: &Running) -> &[u8]

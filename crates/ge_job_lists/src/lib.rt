@@ -4,7 +4,7 @@
 //!   `qstat -pri`.
 //! - [`orders`]: what a host is to run and to kill. [`task_lines`]: what a task is to run.
 //! - [`booked_lines`]: advance reservations, `qrstat`.
-//! - [`instance_text`], [`grants_text`]: where a task runs.
+//! - [`instance_text`], [`grants_text`], [`append_grants`]: where a task runs.
 //!
 //! Lines come without line feeds. Nothing here changes the cluster, and the only fault is want of memory. A list goes
 //! once over what it lists. Held tasks and free ones come from sets of spans, so a job of many tasks costs no more than
@@ -22,7 +22,7 @@ mod tasks;
 
 pub use booked::booked_lines;
 pub use fields::show_job;
-pub use grants::{grants_text, instance_text};
+pub use grants::{append_grants, grants_text, instance_text};
 pub use hosts::orders;
 pub use jobs::list_jobs;
 pub use priorities::list_priorities;

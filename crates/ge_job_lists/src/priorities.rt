@@ -6,7 +6,7 @@ ghost use Rattle.ge_model_order.specs.Priority.{rank_of, sorted_prios, with_rank
 ghost use Rattle.ge_model_report.specs.Listing.{prio_line, prios_listing};
 
 use ge_rows::{List, Prio, Text};
-use ge_wording::{decimal_text, fixed, join_words};
+use ge_wording::{Column, join_columns};
 use std::alloc::{AllocError, Global};
 use std::cmp::Reverse;
 use std::collections::BTreeMap;
@@ -43,19 +43,14 @@ fn ranked(alloc: Global, prios: &[Prio]) -> Result<BTreeMap<Rank, Prio>, AllocEr
 fn line_of(alloc: Global, prio: &Prio) -> Result<Text, AllocError>
     ensures { IfOk result (λ line. line ≡ prio_line prio.now) }
 {
-    let job = decimal_text(alloc, u128::from(prio.job))?;
-    let np = fixed(alloc, u128::from(prio.np))?;
-    let nu = fixed(alloc, u128::from(prio.nu))?;
-    let nt = fixed(alloc, u128::from(prio.nt))?;
-    let total = fixed(alloc, prio.total / UNITS)?;
-    let words: [&[u8]; 5] = [
-        job.bytes(),
-        np.bytes(),
-        nu.bytes(),
-        nt.bytes(),
-        total.bytes(),
+    let columns = [
+        Column::Number(u128::from(prio.job)),
+        Column::Fixed(u128::from(prio.np)),
+        Column::Fixed(u128::from(prio.nu)),
+        Column::Fixed(u128::from(prio.nt)),
+        Column::Fixed(prio.total / UNITS),
     ];
-    join_words(alloc, b" ", &words)
+    join_columns(alloc, &columns)
 }
 
 /// The priorities of jobs in the order of a run, `qstat -pri`: see the manual pages qstat and sge_priority.
