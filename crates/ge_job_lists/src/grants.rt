@@ -38,7 +38,8 @@ fn append_grant(text: &mut Vec<u8>, grant: &Grant) -> Result<(), AllocError>
 }
 
 fn append_next(text: &mut Vec<u8>, grant: &Grant) -> Result<(), AllocError>
-    ensures { OnOk result (text.new.items ≡ text.old.items ++ (codes "," ++ grant_text grant.now)) }
+    ensures { OnOk result (text.new.items
+        ≡ text.old.items ++ (codes "," ++ grant_text grant.now)) }
 {
     text.push(b',')?;
     append_grant(text, grant)

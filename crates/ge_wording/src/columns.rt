@@ -31,7 +31,8 @@ fn append_column(line: &mut Vec<u8>, column: &Column<'_>) -> Result<(), AllocErr
 }
 
 fn append_next(line: &mut Vec<u8>, column: &Column<'_>) -> Result<(), AllocError>
-    ensures { OnOk result (line.new.items ≡ line.old.items ++ (codes " " ++ column_text column.now)) }
+    ensures { OnOk result (line.new.items
+        ≡ line.old.items ++ (codes " " ++ column_text column.now)) }
 {
     line.push(b' ')?;
     append_column(line, column)
