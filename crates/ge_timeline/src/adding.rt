@@ -13,6 +13,10 @@ use ge_rows::{Booking, LimitId, List, Twin};
 use slab::Slab;
 use std::alloc::{AllocError, Global};
 
+// Room for the points of most limits: those of a host's slots, of which each task adds two. So few step functions are moved while
+// they grow.
+const MOST_POINTS: usize = 16;
+
 // The number of a limit, which gets an empty step function where it has none.
 pub(crate) fn key_of(
     alloc: Global,
@@ -28,7 +32,8 @@ pub(crate) fn key_of(
         Some(number) => Ok(number),
         None => {
             let limit = limit.twin(alloc)?;
-            let number = functions.insert(Vec::new(alloc))?;
+            let points = Vec::with_capacity(alloc, MOST_POINTS)?;
+            let number = functions.insert(points)?;
             index.give(alloc, limit, number)?;
             Ok(number)
         }

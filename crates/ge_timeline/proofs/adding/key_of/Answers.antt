@@ -10,4 +10,4 @@ returns-in_ok-give-in-None-clause-shows c =
     let slab = c.in_ok-number-in-None.ensures in
     λ sums moments s.
     subst (λ i. Shows i c.insert.new.self sums moments) (sym index)
-    (put_shows c.args.index.now c.args.functions.now c.insert.new.self c.args.limit.now number c.new.result sums moments (sym c.in-None.ensures) slab.was_vacant slab.updates.changed c.new.ensures.items slab.updates.others s)
+    (put_shows c.args.index.now c.args.functions.now c.insert.new.self c.args.limit.now number c.in_ok-points-in-None.points sums moments (sym c.in-None.ensures) slab.was_vacant slab.updates.changed c.in_ok-points-in-None.ensures.items slab.updates.others s)
