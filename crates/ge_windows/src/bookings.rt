@@ -5,16 +5,19 @@ ghost use Rattle.std.specs.List.{list_any};
 ghost use Rattle.std.specs.BTreeSet.{contains};
 ghost use Rattle.std.specs.Ordering.{nat_cmp};
 ghost use Rattle.ge_model_value.specs.Pieces.{is_empty};
+ghost use Rattle.ge_model_place.specs.Limits.{demands_of};
 ghost use Rattle.ge_model_place.specs.Windows.{booked_until, job_bookings, runs_in_advance};
 ghost use Rattle.ge_model_place.specs.Windows as windows;
 ghost use Rattle.ge_windows.specs.InUse.{AreInUse};
 ghost use Rattle.ge_windows.specs.Running.{running_in, bookings_at};
 
+use crate::repeating::demands_after;
 use crate::standing::stand_in;
 use crate::windows::window_end_from;
 use ge_demands::demands;
 use ge_rows::{
-    Advance, Booking, Cluster, Grant, Groups, Job, JobMark, List, MarkSort, Running, Table, TaskId,
+    Advance, Booking, Cluster, Demand, Grant, Groups, Job, JobMark, List, MarkSort, Running, Table,
+    TaskId,
 };
 use std::alloc::{AllocError, Global};
 use std::collections::BTreeSet;
@@ -48,25 +51,32 @@ fn next_moment(now: u64) -> u64
     now.saturating_add(1)
 }
 
-// What a running task books: one that overran is booked up to the next moment.
+// What a running task books that takes this: one that overran is booked up to the next moment. The groups are lent for the
+// contract alone.
 fn running_booking(
-    alloc: Global,
     cluster: &Cluster,
-    groups: &Groups,
+    _groups: &Groups,
     now: u64,
     job: &Job,
     task: TaskId,
     running: &Running,
-) -> Result<Booking, AllocError>
-    ensures { IfOk result (λ booking. booking
-        ≡ windows.running_booking cluster.now groups.now now (task.job, job.now) (task.task, running.now)) }
+    demands: List<Demand>,
+) -> Booking
+    requires { demands ≡ demands_of cluster.now _groups.now job.now running.now.grants }
+    ensures { result
+        ≡ windows.running_booking cluster.now _groups.now now (task.job, job.now) (task.task, running.now) }
 {
-    let grants = running.grants.items();
-    let mut booking = booking(alloc, cluster, groups, job, task, grants, running.start)?;
-    booking.until = booking.until.max(next_moment(now));
-    Ok(booking)
+    let from = running.start;
+    let until = window_end_from(cluster, job, from).max(next_moment(now));
+    Booking {
+        task,
+        demands,
+        from,
+        until,
+    }
 }
 
+#[tactic(auto, using(crate::proofs::Alike::none_alike, crate::proofs::Alike::pushed_last))]
 fn add_job(
     alloc: Global,
     cluster: &Cluster,
@@ -79,12 +89,16 @@ fn add_job(
     ensures { OnOk result (bookings.new ≡ bookings.old
         ++ job_bookings cluster.now groups.now now (number, job.now)) }
 {
+    let mut last: &[Grant] = &[];
     for (task, running) in job.running.iter() {
         let task = TaskId {
             job: number,
             task: *task,
         };
-        bookings.push(running_booking(alloc, cluster, groups, now, job, task, running)?)?;
+        let grants = running.grants.items();
+        let demands = demands_after(alloc, cluster, groups, job, bookings.items(), last, grants)?;
+        bookings.push(running_booking(cluster, groups, now, job, task, running, demands))?;
+        last = grants;
     }
     Ok(())
 }

@@ -9,6 +9,7 @@
 #![tactic(auto)]
 
 mod bookings;
+mod repeating;
 mod standing;
 mod windows;
 
