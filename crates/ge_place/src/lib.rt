@@ -3,6 +3,7 @@
 //! Contracts say by `ge_model_place` what each call gives, and see a timeline as the list of its bookings.
 //!
 //! - [`place_job`]: the grants of a task of a job from a moment on, over what is booked; the job may be one that isn't in the table.
+//! - [`place_job_knowing`]: the same, with what a run finds out once.
 //! - [`place`]: the same for a task of the table's jobs.
 //!
 //! A job without a parallel environment gets the first instance that takes a slot, and no other is looked at behind it. For one
@@ -24,4 +25,4 @@ mod spots;
 mod spreading;
 mod sums;
 
-pub use placing::{place, place_job};
+pub use placing::{place, place_job, place_job_knowing};

@@ -1,8 +1,10 @@
 //! Placements.
-ghost use Rattle.std.specs.Prelude.{◌≡◌, IfOk, map};
+ghost use Rattle.std.specs.Prelude.{◌≡◌, IfOk, codes, map};
+ghost use Rattle.std.specs.Option.{option_copied};
 ghost use Rattle.ge_collections.specs.Keyed.{at_text};
 ghost use Rattle.ge_model_place.specs.InstanceOrder as ordered;
 ghost use Rattle.ge_model_place.specs.Placement as placed;
+ghost use Rattle.ge_opening.specs.Forced.{is_any_forced};
 ghost use Rattle.ge_place.specs.Spots.{cell_in, cells_with, no_slots_at};
 
 use crate::granting::granted;
@@ -12,7 +14,9 @@ use crate::single::single_slot;
 use crate::spreading::spread;
 use ge_opening::{any_forced, instance_order};
 use ge_queues::global_host;
-use ge_rows::{Allocation, Cluster, Grant, Groups, InstanceId, Job, List, PeRequest, TaskId};
+use ge_rows::{
+    Allocation, Cluster, Grant, Groups, HostRow, InstanceId, Job, List, PeRequest, TaskId,
+};
 use ge_timeline::Timeline;
 use ge_windows::{is_in_time, window_end_from};
 use std::alloc::{AllocError, Global};
@@ -90,26 +94,27 @@ fn place_in(
     }
 }
 
-/// The grants of a task of a job from a moment on, over what is booked; None where no number of slots that it asks for is there.
-/// The order is that in which instances are tried. A job without a parallel environment asks for one slot anywhere, one with an
-/// environment for the slots of a range, by its rule (qsub `-pe`; sge_pe `allocation_rule`).
+/// The grants of a task of a job, as [`place_job`] tells. The row of the host `global` is handed in, and whether any complex is
+/// `FORCED` ([`any_forced`]), so that a run finds both out once.
 #[tactic(auto, unfolding(ge_model_place::specs::Placement::placement_of))]
-pub fn place_job(
+pub fn place_job_knowing(
     alloc: Global,
     cluster: &Cluster,
     groups: &Groups,
+    global: Option<&HostRow>,
+    forced: bool,
     order: &[InstanceId],
     booked: &Timeline,
     job: &Job,
     from: u64,
 ) -> Result<Option<List<Grant>>, AllocError>
+    requires global { option_copied global ≡ at_text cluster.now.hosts (codes "global") }
+    requires forced { forced ≡ is_any_forced cluster.now }
     ensures { IfOk result (λ grants. grants ≡
         placed.placement_of cluster.now groups.now order.now booked.now job.now from) }
 {
     let until = window_end_from(cluster, job, from);
     let in_time = is_in_time(cluster, job, from);
-    let global = global_host(alloc, cluster)?;
-    let forced = any_forced(cluster);
     let search = Search {
         cluster,
         groups,
@@ -122,6 +127,29 @@ pub fn place_job(
         forced,
     };
     let grants = place_in(alloc, &search, order)?;
+    Ok(grants)
+}
+
+/// The grants of a task of a job from a moment on, over what is booked; None where no number of slots that it asks for is there.
+/// The order is that in which instances are tried. A job without a parallel environment asks for one slot anywhere, one with an
+/// environment for the slots of a range, by its rule (qsub `-pe`; sge_pe `allocation_rule`).
+pub fn place_job(
+    alloc: Global,
+    cluster: &Cluster,
+    groups: &Groups,
+    order: &[InstanceId],
+    booked: &Timeline,
+    job: &Job,
+    from: u64,
+) -> Result<Option<List<Grant>>, AllocError>
+    ensures { IfOk result (λ grants. grants ≡
+        placed.placement_of cluster.now groups.now order.now booked.now job.now from) }
+{
+    let global = global_host(alloc, cluster)?;
+    let forced = any_forced(cluster);
+    let grants = place_job_knowing(
+        alloc, cluster, groups, global, forced, order, booked, job, from,
+    )?;
     Ok(grants)
 }
 

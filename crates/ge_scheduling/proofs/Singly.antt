@@ -1,6 +1,6 @@
 -- Instances are asked one by one whether they take a slot.
-use Rattle.std.proofs.Common.{◌≡◌, ℕ, zero, suc, ◌<◌, Bool, true, false, cond, take, drop, find, length, get_or, slice_index_or, List, [], ◌∷◌, Some, None, option_map, refl, sym, ap, ◌∙◌, arith}
-use Rattle.std.proofs.lemmas.Bool.{cond-true, cond-false}
+use Rattle.std.proofs.Common.{◌≡◌, ℕ, zero, suc, ◌<◌, ◌==◌, Bool, true, false, cond, take, drop, find, length, get_or, slice_index_or, List, [], ◌∷◌, Option, Some, None, IfSome, option_map, refl, sym, ap, ◌∙◌, arith}
+use Rattle.std.proofs.lemmas.Bool.{true≢false, cond-true, cond-false}
 use Rattle.ge_model_rows.specs.ClusterRows.{Cluster}
 use Rattle.ge_model_rows.specs.HostRows.{Groups, InstanceId}
 use Rattle.ge_model_rows.specs.JobRows.{Job, Grant}
@@ -29,6 +29,11 @@ found_there test (suc place) [] d inside refused does = absurd (omega (arith, in
 found_there test (suc place) (x ∷ xs) d inside refused does =
     cond-false (test x) (Some x) (find test xs) (refused 0 x (omega arith))
     ∙ found_there test place xs d (omega (arith, inside)) (λ k e less. refused (suc k) e (omega (arith, less))) does
+
+-- a list that isn't empty
+pub some_there : {X : Type 0} (xs : List X) (none : Bool) → none ≡ (length xs == 0) → none ≡ false → 0 < length xs
+some_there [] none is e = absurd (true≢false (sym is ∙ e))
+some_there (x ∷ xs) none is e = omega arith
 
 -- what is granted by whether a slot is taken
 
@@ -60,3 +65,10 @@ module _ (c : Cluster) (groups : Groups) (now : ℕ) (booked : List Booking) (jo
       ap (λ gs. Some gs) does.1
       ∙ ap (λ x. Some (one_slot x)) at_is
       ∙ sym (first_admissible c groups job booked now order single ∙ ap (λ found. option_map one_slot found) (found_there (takes_one c groups job booked now) place order at inside none there))
+
+  -- what the first of those that aren't passed by gives
+  pub given_first : (order : List InstanceId) (place : ℕ) (at : InstanceId) (grants : Option (List Grant)) → place < length order → at ≡ slice_index_or order place at
+      → ((k : ℕ) (d : InstanceId) → k < place → takes_one c groups job booked now (slice_index_or order k d) ≡ false)
+      → grants ≡ cond (takes_one c groups job booked now at) (Some (one_slot at)) None → IfSome grants (λ given. Some given ≡ placement_of c groups order booked job now)
+  given_first order place at None inside at_is none is = tt
+  given_first order place at (Some given) inside at_is none is = placed_first order place at given inside at_is none is

@@ -122,6 +122,11 @@ fn passed_by(number: u32, decision: &Decision) -> Option<u32>
     }
 }
 
+// Whether the task before started, as most do behind one that does.
+fn is_behind_start(decisions: &List<Decision>) -> bool {
+    matches!(decisions.items().last(), Some(Decision::Start(_)))
+}
+
 // Decides a task whose job isn't known to wait.
 fn weigh(
     alloc: Global,
@@ -139,12 +144,14 @@ fn weigh(
         at.now.moment at.now.kinds.now.entries so_far.new.booked so_far.new.decisions
         so_far.new.tally so_far.new.passed so_far.new.full so_far.new.room) }
 {
+    let at_once = is_behind_start(&so_far.decisions);
     let made = decision(
         alloc,
         at,
         &so_far.booked,
         &so_far.tally,
         &mut so_far.room,
+        at_once,
         task,
     )?;
     book(alloc, at, &mut so_far.booked, &made)?;

@@ -8,7 +8,8 @@ use crate::kinds::kinds_of;
 use crate::setting::Setting;
 use crate::vacancy::{no_slot_is_left, vacant_instances};
 use ge_hosts::expand;
-use ge_opening::instance_order;
+use ge_opening::{any_forced, instance_order};
+use ge_queues::global_host;
 use ge_rows::{Cluster, Groups, InstanceId, Job, List, Table};
 use ge_timeline::Timeline;
 use std::alloc::{AllocError, Global};
@@ -44,6 +45,8 @@ pub fn basis_of(alloc: Global, cluster: &Cluster, now: u64) -> Result<Basis, All
         holders: &holders,
         kinds: kinds_of(cluster, &none),
         moment: now,
+        global: global_host(alloc, cluster)?,
+        forced: any_forced(cluster),
     };
     let booked = first_booked(alloc, &at)?;
     let vacant = vacant_instances(alloc, &at, &booked)?;

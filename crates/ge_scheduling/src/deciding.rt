@@ -12,7 +12,7 @@ ghost use Rattle.ge_scheduling.specs.Verdicts.{waiting, decision_by, decision_at
 
 use crate::asking::asked_limits;
 use crate::counting::{Tally, is_full, may_reserve};
-use crate::placing::place_now;
+use crate::placing::{place_at_once, place_now};
 use crate::reserving::reserve;
 use crate::rests::{Room, is_before};
 use crate::setting::Setting;
@@ -117,6 +117,7 @@ fn decision_for(
     booked: &Timeline,
     tally: &Tally,
     room: &mut Room,
+    at_once: bool,
     job: &Job,
     task: TaskId,
 ) -> Result<Decision, AllocError>
@@ -134,6 +135,9 @@ fn decision_for(
     if is_full(&at.cluster.sched, tally, &job.owner) {
         return Ok(Decision::Skip(task));
     }
+    if let Some(grants) = place_at_once(alloc, at, booked, room, at_once, job)? {
+        return Ok(start_with(task, tally.serial, grants));
+    }
     if none_takes(at, booked, room, job) {
         return keep_waiting(alloc, at, booked, tally, room, job, task);
     }
@@ -147,13 +151,14 @@ fn decision_for(
 /// The decision of a task over what is booked, by what is counted of the decisions before: a start, where the job's owner may
 /// have one more and it can be placed now; slots kept, where the job asks for that and may; else it waits, as a task does whose
 /// job isn't there (sched_conf, `maxujobs`, `max_reservation`). What is left at each instance is lent, so that one with too
-/// little isn't looked at.
+/// little isn't looked at. The first place with a slot left may be tried at once, as pays behind a start.
 pub(crate) fn decision(
     alloc: Global,
     at: &Setting<'_>,
     booked: &Timeline,
     tally: &Tally,
     room: &mut Room,
+    at_once: bool,
     task: TaskId,
 ) -> Result<Decision, AllocError>
     requires { AreLeft at.now.cluster.now at.now.groups.now at.now.moment booked.now
@@ -165,7 +170,7 @@ pub(crate) fn decision(
         booked.now at.now.order.now room.new) }
 {
     match at.cluster.jobs.get(&task.job) {
-        Some(job) => decision_for(alloc, at, booked, tally, room, job, task),
+        Some(job) => decision_for(alloc, at, booked, tally, room, at_once, job, task),
         None => Ok(Decision::Skip(task)),
     }
 }

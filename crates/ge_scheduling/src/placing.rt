@@ -1,5 +1,5 @@
 // Where a task is placed, now and later. What a look at numbers alone rules out isn't tried.
-ghost use Rattle.std.specs.Prelude.{◌≡◌, ◌==◌, true, IfOk, OnOk, All};
+ghost use Rattle.std.specs.Prelude.{◌≡◌, ◌==◌, true, Some, IfOk, IfSome, OnOk, All};
 ghost use Rattle.ge_model_place.specs.Placement.{placement_of};
 ghost use Rattle.ge_scheduling.specs.Amounts.{IsInTable};
 ghost use Rattle.ge_scheduling.specs.Common.{IsAsked};
@@ -9,12 +9,11 @@ ghost use Rattle.ge_scheduling.specs.Vacant.{goes_on as has_moment};
 use crate::asking::is_refused;
 use crate::finding::has_candidate;
 use crate::rests::Room;
-use crate::setting::Setting;
-use crate::single::place_alone;
+use crate::setting::{Setting, place_among};
+use crate::single::{place_alone, place_first};
 use crate::thinning::place_on_hosts;
 use crate::vacancy::goes_on;
 use ge_demands::Counted;
-use ge_place::place_job;
 use ge_rows::{Grant, Job, List};
 use ge_timeline::Timeline;
 use std::alloc::{AllocError, Global};
@@ -40,8 +39,7 @@ fn place_together(
     ensures left { OnOk result (AreLeft at.now.cluster.now at.now.groups.now at.now.moment
         booked.now at.now.order.now room.new) }
 {
-    let has = has_candidate(alloc, at, booked, room, asked, job)?;
-    if !has {
+    if !has_candidate(at, booked, room, asked, job) {
         return Ok(None);
     }
     let moment = at.moment;
@@ -82,6 +80,35 @@ fn place_left(
     }
 }
 
+/// The grants of a task of a job at the first place with a slot left, where it is asked for at once what takes one slot; where
+/// none are given, nothing is known. Tasks that start one behind the other mostly start there, and no more is asked of them.
+pub(crate) fn place_at_once(
+    alloc: Global,
+    at: &Setting<'_>,
+    booked: &Timeline,
+    room: &Room,
+    at_once: bool,
+    job: &Job,
+) -> Result<Option<List<Grant>>, AllocError>
+    requires there { IsInTable at.now.cluster.now job.now }
+    requires left { AreLeft at.now.cluster.now at.now.groups.now at.now.moment booked.now
+        at.now.order.now room.now }
+    ensures { IfOk result (λ grants. IfSome grants (λ given. Some given
+        ≡ placement_of at.now.cluster.now at.now.groups.now at.now.order.now booked.now job.now
+        at.now.moment)) }
+{
+    match &job.request.pe {
+        None => {
+            if at_once && job.advance == 0 && goes_on(at.cluster, at.moment) {
+                let grants = place_first(alloc, at, booked, room, job)?;
+                return Ok(grants);
+            }
+            Ok(None)
+        }
+        Some(_) => Ok(None),
+    }
+}
+
 /// The grants of a task of a job that starts now. Nothing is looked for where a limit that counts everywhere has no room.
 pub(crate) fn place_now(
     alloc: Global,
@@ -108,9 +135,7 @@ pub(crate) fn place_now(
         let grants = place_left(alloc, at, booked, room, asked, job)?;
         return Ok(grants);
     }
-    let grants = place_job(
-        alloc, at.cluster, at.groups, at.order, booked, job, at.moment,
-    )?;
+    let grants = place_among(alloc, at, at.order, booked, job, at.moment)?;
     Ok(grants)
 }
 
@@ -141,6 +166,6 @@ pub(crate) fn place_then(
         let grants = place_on_hosts(alloc, at, booked, room, asked, job, moment)?;
         return Ok(grants);
     }
-    let grants = place_job(alloc, at.cluster, at.groups, at.order, booked, job, moment)?;
+    let grants = place_among(alloc, at, at.order, booked, job, moment)?;
     Ok(grants)
 }

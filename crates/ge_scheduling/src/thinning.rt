@@ -8,9 +8,8 @@ ghost use Rattle.ge_scheduling.specs.Vacant.{goes_on as has_moment};
 
 use crate::looking::{Found, Look, found_at};
 use crate::rests::{Left, Room};
-use crate::setting::Setting;
+use crate::setting::{Setting, place_among};
 use ge_demands::Counted;
-use ge_place::place_job;
 use ge_rows::{Grant, InstanceId, Job, List, Twin};
 use ge_timeline::Timeline;
 use ge_windows::window_end_from;
@@ -162,6 +161,6 @@ pub(crate) fn place_on_hosts(
     let kept = kept_hosts(alloc, at, &look, lefts, &mut room.later)?;
     let instances = instances_on(alloc, at.order, lefts, &kept)?;
     let order = instances.items();
-    let grants = place_job(alloc, at.cluster, at.groups, order, booked, job, moment)?;
+    let grants = place_among(alloc, at, order, booked, job, moment)?;
     Ok(grants)
 }

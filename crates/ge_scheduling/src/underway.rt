@@ -11,6 +11,8 @@ use crate::holding::{Holders, holders_of};
 use crate::kinds::kinds_of;
 use crate::setting::Setting;
 use crate::vacancy::no_slot_is_left;
+use ge_opening::any_forced;
+use ge_queues::global_host;
 use ge_rows::{Cluster, Decision, Groups, InstanceId, List, TaskId};
 use std::alloc::{AllocError, Global};
 use std::collections::{BTreeMap, BTreeSet};
@@ -53,6 +55,8 @@ pub fn begin_run(alloc: Global, cluster: &Cluster, basis: Basis) -> Result<Run, 
         holders: &holders,
         kinds: kinds_of(cluster, &none),
         moment,
+        global: global_host(alloc, cluster)?,
+        forced: any_forced(cluster),
     };
     let so_far = begin(alloc, &at, booked)?;
     Ok(Run {
@@ -96,6 +100,8 @@ pub fn decide_tasks(
         holders: &holders,
         kinds: kinds_of(cluster, &none),
         moment,
+        global: global_host(alloc, cluster)?,
+        forced: any_forced(cluster),
     };
     let so_far = advance_all(alloc, &at, so_far, tasks)?;
     Ok(Run {

@@ -14,7 +14,7 @@ may_take-requires-clause-left c =
 pub loop-place-preserved : goal.loop-place-preserved
 loop-place-preserved c =
     passed_more c.args.at.now.cluster.now c.args.at.now.groups.now c.args.at.now.moment c.args.booked.now c.args.at.now.order.now c.args.room.now c.requires.left c.args.job.now c.requires.there c.requires.free c.items-place-items.result.now c.items-place-items.ensures
-    c.loop-place.place-index c.loop-place.invariant c.index-order-place.result c.loop-place-test.true c.index-order-place.is (c.in_ok-may_take.ensures c.if-branch.false)
+    c.loop-place.place-index c.loop-place.invariant c.index-order-place.result c.loop-place-test.true c.index-order-place.is (c.may_take.ensures c.if-may_take.false)
 
 pub returns : goal.returns
 returns c = λ _.

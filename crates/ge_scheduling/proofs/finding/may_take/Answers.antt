@@ -11,4 +11,4 @@ returns-then-are_short c = λ _.
 
 pub returns : goal.returns
 returns c = λ shut.
-    refused_shut c.args.at.now.cluster.now c.args.at.now.groups.now c.args.at.now.moment c.args._booked.now c.args.job.now c.args.instance.now c.requires.goes_on c.requires.free (sym c.in_ok-opened.ensures ∙ shut)
+    refused_shut c.args.at.now.cluster.now c.args.at.now.groups.now c.args.at.now.moment c.args._booked.now c.args.job.now c.args.instance.now c.requires.goes_on c.requires.free (sym c.is_open_knowing.ensures ∙ shut)

@@ -4,7 +4,6 @@ use Rattle.ge_model_place.specs.Runs.{one_slot}
 use Rattle.ge_model_place.proofs.First.{takes_one}
 use Rattle.ge_scheduling.specs.Rests.{are_short, comes_before}
 use Rattle.ge_scheduling.proofs.Remaining.{refused_short, refused_blocked}
-use Rattle.ge_scheduling.proofs.Singly.{placed_alone}
 use Rattle.ge_scheduling.proofs.single.take_at.Goals as goal
 
 pub returns-then-is_before : goal.returns-then-is_before
@@ -20,8 +19,3 @@ returns-then-are_short c =
     (refused_short c.args.at.now.cluster.now c.args.at.now.groups.now c.args.at.now.moment c.args.booked.now c.args.job.now c.args.instance.now c.requires.goes_on c.requires.free c.args.left.now.rests c.args.asked.now
     c.requires.there c.requires.left.rests c.requires.asked
     (ap (λ asked. are_short asked c.args.left.now.rests) (sym c.items.ensures) ∙ ap (λ rests. are_short c.items.result.now rests) (sym c.items-2.ensures) ∙ sym c.are_short.ensures ∙ c.if-are_short.true)))
-
-pub returns : goal.returns
-returns c =
-    c.in_ok-grants.ensures
-    ∙ placed_alone c.args.at.now.cluster.now c.args.at.now.groups.now c.args.at.now.moment c.args.booked.now c.args.job.now c.requires.single c.args.one.now c.args.instance.now c.requires.one
