@@ -7,45 +7,49 @@ use crate::deciding::decisions_told;
 use ge_access::is_manager;
 use ge_answers::refuse;
 use ge_base::Refusal;
-use ge_job_lists::grants_text;
+use ge_job_lists::append_grants;
 use ge_rows::{
     Change, Cluster, Decision, Entry, Event, List, Planned, Reply, Reservation, Start, TaskId,
     Text, Twin,
 };
-use ge_wording::decimal_text;
+use ge_wording::append_decimal;
 use std::alloc::{AllocError, Global};
 
-fn task_text(alloc: Global, task: TaskId) -> Result<Text, AllocError>
-    ensures { IfOk result (λ text. text ≡ scheduling.task_text task) }
+/// Room for a line, in bytes; one of many grants grows.
+const LINE_ROOM: usize = 64;
+
+fn append_task(line: &mut Vec<u8>, task: TaskId) -> Result<(), AllocError>
+    ensures { OnOk result (line.new.items ≡ line.old.items ++ scheduling.task_text task) }
 {
-    let mut text = decimal_text(alloc, u128::from(task.job))?;
-    text.push(b'.')?;
-    text.append(decimal_text(alloc, u128::from(task.task))?.bytes())?;
-    Ok(text)
+    append_decimal(line, u128::from(task.job))?;
+    line.push(b'.')?;
+    append_decimal(line, u128::from(task.task))
 }
 
 fn start_line(alloc: Global, start: &Start) -> Result<Text, AllocError>
     ensures { IfOk result (λ line. line ≡ scheduling.start_line start.now) }
 {
-    let mut line = Text::from_bytes(alloc, b"start ")?;
-    line.append(decimal_text(alloc, u128::from(start.serial))?.bytes())?;
+    let mut line = Vec::with_capacity(alloc, LINE_ROOM)?;
+    line.extend_from_slice(b"start ")?;
+    append_decimal(&mut line, u128::from(start.serial))?;
     line.push(b' ')?;
-    line.append(task_text(alloc, start.task)?.bytes())?;
+    append_task(&mut line, start.task)?;
     line.push(b' ')?;
-    line.append(grants_text(alloc, start.grants.items())?.bytes())?;
-    Ok(line)
+    append_grants(&mut line, start.grants.items())?;
+    Ok(Text::from_vec(line))
 }
 
 fn reserve_line(alloc: Global, reservation: &Reservation) -> Result<Text, AllocError>
     ensures { IfOk result (λ line. line ≡ scheduling.reserve_line reservation.now) }
 {
-    let mut line = Text::from_bytes(alloc, b"reserve ")?;
-    line.append(task_text(alloc, reservation.task)?.bytes())?;
+    let mut line = Vec::with_capacity(alloc, LINE_ROOM)?;
+    line.extend_from_slice(b"reserve ")?;
+    append_task(&mut line, reservation.task)?;
     line.push(b' ')?;
-    line.append(decimal_text(alloc, u128::from(reservation.at))?.bytes())?;
+    append_decimal(&mut line, u128::from(reservation.at))?;
     line.push(b' ')?;
-    line.append(grants_text(alloc, reservation.grants.items())?.bytes())?;
-    Ok(line)
+    append_grants(&mut line, reservation.grants.items())?;
+    Ok(Text::from_vec(line))
 }
 
 fn push_line(lines: &mut List<Text>, alloc: Global, decision: &Decision) -> Result<(), AllocError>
