@@ -33,7 +33,8 @@ fn total_of(alloc: Global, lines: &[Line], owner: &Text) -> Result<List<Text>, A
 }
 
 fn lines_of_job(alloc: Global, lines: &[Line], number: u32) -> Result<List<Text>, AllocError>
-    ensures { IfOk result (λ texts. texts ≡ map line_text (filter (λ line. line.job == number) lines.now)) }
+    ensures { IfOk result (λ texts. texts ≡ map line_text (filter
+        (λ line. line.job == number) lines.now)) }
 {
     let mut texts = List::new(alloc);
     for line in lines {

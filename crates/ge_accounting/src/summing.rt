@@ -85,7 +85,8 @@ pub(crate) fn sums_of_owner(lines: &[Line], owner: &Text) -> Sums
 
 /// A name with the number of lines and their sums.
 pub(crate) fn sums_text(alloc: Global, name: &[u8], sums: &Sums) -> Result<Text, AllocError>
-    ensures { (lines : Items Row) → AreSums sums.now lines → IfOk result (λ text. text ≡ sum_line name.now lines) }
+    ensures { (lines : Items Row) → AreSums sums.now lines → IfOk result (λ text. text
+        ≡ sum_line name.now lines) }
 {
     let count = decimal_text(alloc, sums.count as u128)?;
     let (ran, processor, memory, moved) = decimals4(

@@ -20,7 +20,7 @@ fn make(alloc: Global, c: &mut Cluster, moment: u64, change: &mut Change) -> Res
     ensures { OnOk result (c.new ≡ after_change moment c.old change.old) }
 {
     match change {
-        Change::Submit(job) => add_job(c, mem::replace(job, no_job(alloc))),
+        Change::Submit(job) => add_job(alloc, c, mem::replace(job, no_job(alloc))),
         Change::Alter(altered) => alter_jobs(alloc, c, altered.items()),
         Change::Hold(numbers, bits) => {
             hold_jobs(c, numbers.items(), *bits);

@@ -48,11 +48,11 @@ pub(crate) fn no_job(alloc: Global) -> Job {
 
 /// A job comes, and the next one has the number after it.
 #[tactic(auto, unfolding(ge_model_jobs::specs::Altering::with_job))]
-pub(crate) fn add_job(c: &mut Cluster, job: Job) -> Result<(), AllocError>
+pub(crate) fn add_job(alloc: Global, c: &mut Cluster, job: Job) -> Result<(), AllocError>
     ensures { OnOk result (c.new ≡ with_job c.old job) }
 {
     let next = job.number.saturating_add(1);
-    submit(&mut c.jobs, job)?;
+    submit(alloc, &mut c.jobs, job)?;
     c.next_job = next;
     Ok(())
 }

@@ -61,7 +61,7 @@ fn some_without(jobs: &JobTable) -> bool
     ensures { result ≡ is_joined jobs.now 0 }
 {
     for row in jobs.iter() {
-        if row.1.advance == 0 {
+        if row.1.job().advance == 0 {
             return true;
         }
     }

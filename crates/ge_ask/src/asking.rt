@@ -40,11 +40,13 @@ fn payload_for<S: Source>(
     group: &[u8],
     input: &mut S,
 ) -> Result<Text, AskFault>
-    ensures sent { IfOk result (λ payload. IfSome (S.rest input.old) (λ text. payload ≡ payload_of user.now group.now text)) }
+    ensures sent { IfOk result (λ payload. IfSome (S.rest input.old) (λ text. payload
+        ≡ payload_of user.now group.now text)) }
     ensures ended { OnOk result (IsReadToEnd (S.rest input.new)) }
     ensures some { IfOk result (λ payload. 0 < length payload) }
     ensures fits { IfOk result (λ payload. length payload ≤ text_bytes) }
-    ensures blames { PayloadBlames result (IsTooLong user.now group.now (S.rest input.old)) (Rose (S.read_faults input.old) (S.read_faults input.new)) }
+    ensures blames { PayloadBlames result (IsTooLong user.now group.now (S.rest input.old)) (Rose
+        (S.read_faults input.old) (S.read_faults input.new)) }
 {
     let mut bytes = line_of_names(alloc, user, group)?;
     if bytes.len() > TEXT_BYTES {
@@ -69,10 +71,14 @@ fn reply_to<S: Source, L: Door>(
     input: &mut S,
     door: &mut L,
 ) -> Result<Text, AskFault>
-    ensures replies { IfOk result (λ reply. Replies user.now group.now (S.rest input.old) (S.rest input.new)
+    ensures replies { IfOk result (λ reply. Replies user.now group.now (S.rest input.old)
+        (S.rest input.new)
         (L.coming door.old) (L.coming door.new) (L.closed door.old) (L.closed door.new) reply) }
-    ensures blames { IfErr result (λ why. AnswerBlames why (IsTooLong user.now group.now (S.rest input.old)) (Rose (S.read_faults input.old) (S.read_faults input.new))
-        (IsSendable user.now group.now (S.rest input.old) × ConnectionFails (Rose (L.door_faults door.old) (L.door_faults door.new)) (Rose (L.link_faults door.old) (L.link_faults door.new)) (L.coming door.old))) }
+    ensures blames { IfErr result (λ why. AnswerBlames why (IsTooLong user.now group.now
+        (S.rest input.old)) (Rose (S.read_faults input.old) (S.read_faults input.new))
+        (IsSendable user.now group.now (S.rest input.old)
+        × ConnectionFails (Rose (L.door_faults door.old) (L.door_faults door.new)) (Rose
+        (L.link_faults door.old) (L.link_faults door.new)) (L.coming door.old))) }
     ensures unasked { IfErr result (λ why. IsUnasked why → door.new ≡ door.old) }
 {
     match payload_for(alloc, user, group, input) {
@@ -84,7 +90,8 @@ fn reply_to<S: Source, L: Door>(
 // Writes the reply, and tells whether it accepts.
 fn print<K: Sink>(output: &mut K, reply: &Text) -> Ending
     ensures printed { Printed result (K.written output.old) (K.written output.new) reply.now }
-    ensures cause { result ≡ Unwritten → Rose (K.write_faults output.old) (K.write_faults output.new) }
+    ensures cause { result ≡ Unwritten → Rose (K.write_faults output.old)
+        (K.write_faults output.new) }
 {
     if write_all(output, reply.bytes()).is_err() {
         return Ending::Unwritten;
@@ -105,13 +112,19 @@ fn conclude<S: Source, K: Sink, L: Door>(
     output: &mut K,
     door: &mut L,
 ) -> Ending
-    ensures answered { OnReply result ((reply : List ℕ) × Replies user.now group.now (S.rest input.old) (S.rest input.new)
-        (L.coming door.old) (L.coming door.new) (L.closed door.old) (L.closed door.new) reply × Printed result (K.written output.old) (K.written output.new) reply) }
-    ensures blames { OnFailed result (λ why. AnswerBlames why (IsTooLong user.now group.now (S.rest input.old)) (Rose (S.read_faults input.old) (S.read_faults input.new))
-        (IsSendable user.now group.now (S.rest input.old) × ConnectionFails (Rose (L.door_faults door.old) (L.door_faults door.new)) (Rose (L.link_faults door.old) (L.link_faults door.new)) (L.coming door.old))) }
+    ensures answered { OnReply result ((reply : List ℕ)
+        × Replies user.now group.now (S.rest input.old) (S.rest input.new)
+        (L.coming door.old) (L.coming door.new) (L.closed door.old) (L.closed door.new) reply
+        × Printed result (K.written output.old) (K.written output.new) reply) }
+    ensures blames { OnFailed result (λ why. AnswerBlames why (IsTooLong user.now group.now
+        (S.rest input.old)) (Rose (S.read_faults input.old) (S.read_faults input.new))
+        (IsSendable user.now group.now (S.rest input.old)
+        × ConnectionFails (Rose (L.door_faults door.old) (L.door_faults door.new)) (Rose
+        (L.link_faults door.old) (L.link_faults door.new)) (L.coming door.old))) }
     ensures unasked { OnFailed result (λ why. IsUnasked why → door.new ≡ door.old) }
     ensures unwritten { OnFailed result (λ why. output.new ≡ output.old) }
-    ensures cause { result ≡ Unwritten → Rose (K.write_faults output.old) (K.write_faults output.new) }
+    ensures cause { result ≡ Unwritten → Rose (K.write_faults output.old)
+        (K.write_faults output.new) }
 {
     match reply_to(alloc, user, group, input, door) {
         Ok(reply) => print(output, &reply),
@@ -136,17 +149,25 @@ pub fn ask<S: Source, K: Sink, L: Door>(
     door: &mut L,
 ) -> u8
     ensures statuses { IsAskStatus result }
-    ensures answered { (result ≡ 0) ⊎ (result ≡ 1) → IfSome (names_of (map string_bytes words.now.items)) (λ names. Answers result names (S.rest input.old) (S.rest input.new)
+    ensures answered { (result ≡ 0) ⊎ (result ≡ 1)
+        → IfSome (names_of (map string_bytes words.now.items)) (λ names. Answers result names
+        (S.rest input.old) (S.rest input.new)
         (L.coming door.old) (L.coming door.new) (L.closed door.old) (L.closed door.new) (K.written output.old) (K.written output.new)) }
     ensures no_question { names_of (map string_bytes words.now.items) ≡ None → result ≡ 2 }
-    ensures usage { result ≡ 2 → IfSome (names_of (map string_bytes words.now.items)) (λ names. IsTooLong names.0 names.1 (S.rest input.old)) }
-    ensures too_long { IfSome (names_of (map string_bytes words.now.items)) (λ names. IfSome (S.rest input.old) (λ text. text_bytes < length (payload_of names.0 names.1 text) → IsCutShort result)) }
+    ensures usage { result ≡ 2 → IfSome (names_of (map string_bytes words.now.items))
+        (λ names. IsTooLong names.0 names.1 (S.rest input.old)) }
+    ensures too_long { IfSome (names_of (map string_bytes words.now.items)) (λ names. IfSome
+        (S.rest input.old) (λ text. text_bytes < length (payload_of names.0 names.1 text)
+        → IsCutShort result)) }
     ensures read { result ≡ 6 → Rose (S.read_faults input.old) (S.read_faults input.new) }
     ensures write { result ≡ 7 → Rose (K.write_faults output.old) (K.write_faults output.new) }
-    ensures connection { result ≡ 9 → ConnectionFails (Rose (L.door_faults door.old) (L.door_faults door.new)) (Rose (L.link_faults door.old) (L.link_faults door.new)) (L.coming door.old) }
+    ensures connection { result ≡ 9 → ConnectionFails (Rose (L.door_faults door.old)
+        (L.door_faults door.new)) (Rose (L.link_faults door.old) (L.link_faults door.new))
+        (L.coming door.old) }
     ensures unasked { (result ≡ 2) ⊎ (result ≡ 6) → door.new ≡ door.old }
     ensures unwritten { IsUnanswered result → output.new ≡ output.old }
-    ensures cut { result ≡ 7 → IfSome (names_of (map string_bytes words.now.items)) (λ names. Cut names (S.rest input.old) (S.rest input.new)
+    ensures cut { result ≡ 7 → IfSome (names_of (map string_bytes words.now.items))
+        (λ names. Cut names (S.rest input.old) (S.rest input.new)
         (L.coming door.old) (L.coming door.new) (L.closed door.old) (L.closed door.new) (K.written output.old) (K.written output.new)) }
 {
     match names_in(words.as_slice()) {

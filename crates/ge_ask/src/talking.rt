@@ -16,11 +16,13 @@ use std::alloc::Global;
 fn talk<N: Link>(alloc: Global, link: &mut N, payload: &Text) -> Result<Text, WireFault>
     requires some { 0 < length payload.now }
     requires fits { length payload.now ≤ text_bytes }
-    ensures wrote { OnOk result (Gains (N.written link.old) (N.written link.new) (request_frame payload.now)) }
+    ensures wrote { OnOk result (Gains (N.written link.old) (N.written link.new)
+        (request_frame payload.now)) }
     ensures reads { TalksAs (N.rest link.old) result }
     ensures later_reads { N.read_faults link.old ≤ N.read_faults link.new }
     ensures later_writes { N.write_faults link.old ≤ N.write_faults link.new }
-    ensures blames { Blames result (Rose (N.read_faults link.old) (N.read_faults link.new)) (Rose (N.write_faults link.old) (N.write_faults link.new)) }
+    ensures blames { Blames result (Rose (N.read_faults link.old) (N.read_faults link.new)) (Rose
+        (N.write_faults link.old) (N.write_faults link.new)) }
 {
     match write_frame(link, payload) {
         Ok(()) => {}
@@ -37,8 +39,10 @@ pub(crate) fn ask_link<L: Door>(
 ) -> Result<Text, AskFault>
     requires some { 0 < length payload.now }
     requires fits { length payload.now ≤ text_bytes }
-    ensures asked { IfOk result (λ text. Asked (L.coming door.old) (L.coming door.new) (L.closed door.old) (L.closed door.new) payload.now text) }
-    ensures blames { DoorBlames result (Rose (L.door_faults door.old) (L.door_faults door.new)) (Rose (L.link_faults door.old) (L.link_faults door.new)) (L.coming door.old) }
+    ensures asked { IfOk result (λ text. Asked (L.coming door.old) (L.coming door.new)
+        (L.closed door.old) (L.closed door.new) payload.now text) }
+    ensures blames { DoorBlames result (Rose (L.door_faults door.old) (L.door_faults door.new))
+        (Rose (L.link_faults door.old) (L.link_faults door.new)) (L.coming door.old) }
 {
     let mut link = match door.accept() {
         Ok(link) => link,

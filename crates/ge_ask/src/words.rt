@@ -21,7 +21,9 @@ fn is_a_port(text: &[u8]) -> bool
 
 // The user and the group, where all three words are good.
 fn names_if_good<'a>(port: &[u8], user: &'a [u8], group: &'a [u8]) -> Option<(&'a [u8], &'a [u8])>
-    ensures { MatchOption result (names_where port.now user.now group.now ≡ None) (λ names. names_where port.now user.now group.now ≡ Some (names.0.now, names.1.now)) }
+    ensures { MatchOption result (names_where port.now user.now group.now
+        ≡ None) (λ names. names_where port.now user.now group.now
+        ≡ Some (names.0.now, names.1.now)) }
 {
     if is_a_port(port) && is_a_name(user) && is_a_name(group) {
         Some((user, group))
@@ -32,7 +34,8 @@ fn names_if_good<'a>(port: &[u8], user: &'a [u8], group: &'a [u8]) -> Option<(&'
 
 /// The user and the group of the words PORT, USER and GROUP; nothing where the words are no such three.
 pub(crate) fn names_in(words: &[String]) -> Option<(&[u8], &[u8])>
-    ensures { MatchOption result (names_of (map string_bytes words.now) ≡ None) (λ names. names_of (map string_bytes words.now) ≡ Some (names.0.now, names.1.now)) }
+    ensures { MatchOption result (names_of (map string_bytes words.now)
+        ≡ None) (λ names. names_of (map string_bytes words.now) ≡ Some (names.0.now, names.1.now)) }
 {
     match words {
         [port, user, group] => names_if_good(port.as_bytes(), user.as_bytes(), group.as_bytes()),

@@ -2,6 +2,7 @@
 mod cluster;
 mod entries;
 mod items;
+mod job_row;
 mod jobs;
 mod queues;
 mod settings;

@@ -124,7 +124,8 @@ fn push_item<T: Drop, R: ItemReader<T>>(
     list: &mut List<T>,
     item: &[u8],
 ) -> Result<(), ReadFault>
-    ensures { Leaves result list.new (option_map (λ x. list.old ++ x ∷ []) (R.read reader.now item.now)) }
+    ensures { Leaves result list.new (option_map (λ x. list.old ++ x
+        ∷ []) (R.read reader.now item.now)) }
 {
     let read = reader.read(alloc, item)?;
     list.push(read)?;

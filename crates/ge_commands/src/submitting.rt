@@ -49,7 +49,8 @@ fn push_all<'a>(
     given: &mut Vec<GivenOption<'a>>,
     more: &[GivenOption<'a>],
 ) -> Result<(), AllocError>
-    ensures { OnOk result (all_shown given.new.items ≡ all_shown given.old.items ++ all_shown more.now) }
+    ensures { OnOk result (all_shown given.new.items ≡ all_shown given.old.items
+        ++ all_shown more.now) }
 {
     given.extend_from_slice(more)?;
     Ok(())
@@ -61,7 +62,8 @@ fn add_line<'a>(
     given: &mut Vec<GivenOption<'a>>,
     line: &'a [u8],
 ) -> Result<(), ReadFault>
-    ensures { Leaves result (all_shown given.new.items) (added_to (all_shown given.old.items) (options_in line.now)) }
+    ensures { Leaves result (all_shown given.new.items) (added_to (all_shown given.old.items)
+        (options_in line.now)) }
 {
     let more = read_in_line(alloc, line)?;
     push_all(given, &more)?;
@@ -96,7 +98,8 @@ fn submission_with(
     given: &[GivenOption],
     words: &[&[u8]],
 ) -> Result<Command, AllocError>
-    ensures { IfOk result (λ command. command ≡ submission script.now (all_shown given.now) ([], texts words.now)) }
+    ensures { IfOk result (λ command. command ≡ submission script.now (all_shown given.now)
+        ([], texts words.now)) }
 {
     let options = merged_job_options(alloc, given)?;
     let words = owned(alloc, words)?;

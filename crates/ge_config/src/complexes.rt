@@ -126,7 +126,8 @@ fn fallback_of_row(
 
 fn requestable_or_older(c: &Cluster, name: &Text, requestable: Option<Requestable>) -> Requestable
     ensures { result
-        ≡ unwrap_or requestable (unwrap_or (complex_at c.now name.now) unknown_complex).requestable }
+        ≡ unwrap_or requestable (unwrap_or
+        (complex_at c.now name.now) unknown_complex).requestable }
 {
     match requestable {
         Some(requestable) => requestable,
@@ -299,7 +300,8 @@ fn names_of_rows(alloc: Global, lines: &[ComplexLine]) -> Result<Vec<&[u8]>, All
 }
 
 fn are_rows_distinct(alloc: Global, lines: &[ComplexLine]) -> Result<bool, AllocError>
-    ensures { IfOk result (λ distinct. distinct ≡ are_distinct (map (λ line. line.name) lines.now)) }
+    ensures { IfOk result (λ distinct. distinct ≡ are_distinct (map
+        (λ line. line.name) lines.now)) }
 {
     let names = names_of_rows(alloc, lines)?;
     let distinct = are_texts_distinct(alloc, &names)?;
@@ -334,7 +336,8 @@ fn names_of_table(alloc: Global, table: &Table<Text, ComplexDef>) -> Result<Vec<
 }
 
 fn are_names_distinct(alloc: Global, table: &Table<Text, ComplexDef>) -> Result<bool, AllocError>
-    ensures { IfOk result (λ distinct. distinct ≡ are_distinct (flat_map names_of_complex table.now)) }
+    ensures { IfOk result (λ distinct. distinct ≡ are_distinct
+        (flat_map names_of_complex table.now)) }
 {
     let names = names_of_table(alloc, table)?;
     let distinct = are_texts_distinct(alloc, &names)?;

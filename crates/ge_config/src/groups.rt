@@ -25,7 +25,8 @@ fn note_loops(
     faults: &mut Option<Refusal>,
 ) -> Result<(), AllocError>
     ensures { OnOk result
-        (faults.new ≡ after_faults faults.old (loops_among (put_text groups.now name.now hosts.now))) }
+        (faults.new ≡ after_faults faults.old (loops_among
+        (put_text groups.now name.now hosts.now))) }
 {
     let mut groups = groups.twin(alloc)?;
     let (name, hosts) = twins2(alloc, name, hosts)?;

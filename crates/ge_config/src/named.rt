@@ -65,7 +65,8 @@ pub(crate) fn note_name<V: Row>(
     adding: bool,
     name: &Text,
 )
-    ensures { faults.new ≡ after_faults faults.old (name_faults kind most table.now adding name.now) }
+    ensures { faults.new ≡ after_faults faults.old
+        (name_faults kind most table.now adding name.now) }
 {
     note(faults, !is_a_name_of(kind, name.bytes()), Refusal::BadValue);
     if adding {

@@ -120,7 +120,8 @@ fn read_filled<T: Twin + Drop, R: Reader<T>>(
     text: &[u8],
     faults: &mut Option<Refusal>,
 ) -> Result<T, AllocError>
-    ensures { Reads result faults.old faults.new (filled fallback.now (R.read reader.now) text.now) }
+    ensures { Reads result faults.old faults.new (filled fallback.now
+        (R.read reader.now) text.now) }
 {
     if text.is_empty() {
         note(faults, true, Refusal::BadValue);
@@ -138,7 +139,8 @@ fn read_one<T: Twin + Drop, R: Reader<T>>(
     pair: &(Text, Text),
     faults: &mut Option<Refusal>,
 ) -> Result<(Text, T), AllocError>
-    ensures { Reads result faults.old faults.new (override_read c.now fallback.now (R.read reader.now) pair.now) }
+    ensures { Reads result faults.old faults.new (override_read c.now fallback.now
+        (R.read reader.now) pair.now) }
 {
     let (name, text) = pair;
     note(faults, !is_a_host_or_group(c, name), Refusal::NoSuchObject);
@@ -154,8 +156,10 @@ fn read_all<T: Twin + Drop, R: Reader<T>>(
     pairs: &[(Text, Text)],
     faults: &mut Option<Refusal>,
 ) -> Result<List<(Text, T)>, AllocError>
-    ensures values { IfOk result (λ others. others ≡ map (λ o. o.0) (map (override_read c.now fallback.now (R.read reader.now)) pairs.now)) }
-    ensures faults { OnOk result (faults.new ≡ after_faults faults.old (flat_map (λ o. o.1) (map (override_read c.now fallback.now (R.read reader.now)) pairs.now))) }
+    ensures values { IfOk result (λ others. others
+        ≡ map (λ o. o.0) (map (override_read c.now fallback.now (R.read reader.now)) pairs.now)) }
+    ensures faults { OnOk result (faults.new ≡ after_faults faults.old (flat_map (λ o. o.1) (map
+        (override_read c.now fallback.now (R.read reader.now)) pairs.now))) }
 {
     let mut others = List::new(alloc);
     for pair in pairs {
@@ -174,7 +178,8 @@ fn read_with<T: Twin + Drop, R: Reader<T>>(
     pairs: &[(Text, Text)],
     faults: &mut Option<Refusal>,
 ) -> Result<Attr<T>, AllocError>
-    ensures { Reads result faults.old faults.new (attr_with c.now fallback.now (R.read reader.now) plain.now (Some pairs.now)) }
+    ensures { Reads result faults.old faults.new (attr_with c.now fallback.now
+        (R.read reader.now) plain.now (Some pairs.now)) }
 {
     let plain = read_filled(alloc, fallback, reader, plain, faults)?;
     let overrides = read_all(alloc, c, fallback, reader, pairs, faults)?;
@@ -205,7 +210,8 @@ pub(crate) fn read_attr<T: Twin + Drop, R: Reader<T>>(
     reader: &R,
     faults: &mut Option<Refusal>,
 ) -> Result<Attr<T>, AllocError>
-    ensures { Reads result faults.old faults.new (attr_read c.now values.now attribute.now fallback (R.read reader.now)) }
+    ensures { Reads result faults.old faults.new (attr_read c.now values.now attribute.now fallback
+        (R.read reader.now)) }
 {
     match value_in(values, attribute) {
         None => Ok(fallback),

@@ -68,7 +68,8 @@ pub(crate) fn read_pair(
     text: &[u8],
     faults: &mut Option<Refusal>,
 ) -> Result<Option<(Text, Value)>, AllocError>
-    ensures { Reads result faults.old faults.new (pair_read c.now (fits_by c.now fitting) (name, text.now)) }
+    ensures { Reads result faults.old faults.new (pair_read c.now (fits_by c.now fitting)
+        (name, text.now)) }
 {
     match complex_at(c, &name) {
         None => {
@@ -86,7 +87,8 @@ fn read_item(
     item: &[u8],
     faults: &mut Option<Refusal>,
 ) -> Result<Option<(Text, Value)>, AllocError>
-    ensures { Reads result faults.old faults.new (item_read c.now (fits_by c.now fitting) item.now) }
+    ensures { Reads result faults.old faults.new (item_read c.now
+        (fits_by c.now fitting) item.now) }
 {
     if !has(b'=', item) {
         note(faults, true, Refusal::BadValue);
@@ -119,7 +121,8 @@ fn add_item(
     ensures table { OnOk result
         (table.new ≡ put_value table.old (item_read c.now (fits_by c.now fitting) item.now).0) }
     ensures faults { OnOk result
-        (faults.new ≡ after_faults faults.old (item_read c.now (fits_by c.now fitting) item.now).1) }
+        (faults.new ≡ after_faults faults.old (item_read c.now
+        (fits_by c.now fitting) item.now).1) }
 {
     let pair = read_item(alloc, c, fitting, item, faults)?;
     put(table, pair)

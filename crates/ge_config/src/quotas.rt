@@ -90,7 +90,8 @@ fn are_known_hosts(c: &Cluster, elements: &[Text]) -> bool
 }
 
 fn note_hosts(c: &Cluster, filter: &Option<Filter>, faults: &mut Option<Refusal>)
-    ensures { faults.new ≡ after_faults faults.old (cited (is_known_host c.now) (elements_of filter.now)) }
+    ensures { faults.new ≡ after_faults faults.old (cited (is_known_host c.now)
+        (elements_of filter.now)) }
 {
     if let Some(filter) = filter {
         let plain = are_known_hosts(c, filter.plain.items());
@@ -121,7 +122,8 @@ fn add_limit(
     ensures limits { OnOk result
         (limits.new ≡ put_limit limits.old (pair_read c.now (consumable_fits c.now) pair.now).0) }
     ensures faults { OnOk result
-        (faults.new ≡ after_faults faults.old (pair_read c.now (consumable_fits c.now) pair.now).1) }
+        (faults.new ≡ after_faults faults.old (pair_read c.now
+        (consumable_fits c.now) pair.now).1) }
 {
     let name = pair.0.twin(alloc)?;
     let limit = read_pair(alloc, c, Fitting::Consumables, name, pair.1.bytes(), faults)?;
@@ -189,7 +191,8 @@ fn read_rules(
     lines: &[RuleLine],
     faults: &mut Option<Refusal>,
 ) -> Result<List<Rule>, AllocError>
-    ensures rules { IfOk result (λ rules. rules ≡ map (λ rule. rule.0) (map (rule_read c.now) lines.now)) }
+    ensures rules { IfOk result (λ rules. rules ≡ map (λ rule. rule.0) (map
+        (rule_read c.now) lines.now)) }
     ensures faults { OnOk result (faults.new
         ≡ after_faults faults.old (flat_map (λ rule. rule.1) (map (rule_read c.now) lines.now))) }
 {

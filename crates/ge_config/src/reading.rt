@@ -45,7 +45,8 @@ fn read_attributes(
     values: &[(Text, Text)],
     faults: &mut Option<Refusal>,
 ) -> Result<Item, AllocError>
-    ensures { Reads result faults.old faults.new (item_of c.now kind adding (Attributes values.now)) }
+    ensures { Reads result faults.old faults.new (item_of c.now kind adding
+        (Attributes values.now)) }
 {
     match kind {
         ObjectKind::Host => read_host(alloc, c, adding, values, faults),
@@ -109,7 +110,8 @@ fn read_rows(
     rows: &[ComplexLine],
     faults: &mut Option<Refusal>,
 ) -> Result<Item, AllocError>
-    ensures { Reads result faults.old faults.new (item_of c.now kind adding (ComplexRows rows.now)) }
+    ensures { Reads result faults.old faults.new (item_of c.now kind adding
+        (ComplexRows rows.now)) }
 {
     match kind {
         ObjectKind::Complexes => read_complexes(alloc, c, adding, rows, faults),

@@ -55,7 +55,8 @@ impl<'a> TextSet<'a> {
 
     /// Puts each of these at the end that isn't there.
     pub(crate) fn add_all(&mut self, texts: &[&'a [u8]]) -> Result<(), AllocError>
-        ensures { OnOk result (self.new ≡ fold with_text self.old (map (λ text. text.now) texts.now)) }
+        ensures { OnOk result (self.new ≡ fold with_text self.old (map
+            (λ text. text.now) texts.now)) }
     {
         for text in texts {
             self.add(text)?;

@@ -59,7 +59,8 @@ fn is_of_project(nodes: &Nodes, id: u32) -> bool
 // The children of these nodes, each once.
 #[tactic(auto, using(crate::proofs::ShareTree::once_more))]
 fn children_once(alloc: Global, nodes: &Nodes, ids: &[u32]) -> Result<IdSet, AllocError>
-    ensures { IfOk result (λ met. met ≡ each_number_once (flat_map (children_at nodes.now) ids.now)) }
+    ensures { IfOk result (λ met. met ≡ each_number_once (flat_map
+        (children_at nodes.now) ids.now)) }
 {
     let mut met = IdSet::new(alloc);
     for id in ids {
@@ -272,7 +273,8 @@ fn is_reached(below_root: &IdSet, id: u32) -> bool
 }
 
 fn are_reached(below_root: &IdSet, nodes: &Nodes) -> bool
-    ensures { result ≡ list_all (λ id. id == 0 || lists_number below_root.now id) (keys_of nodes.now) }
+    ensures { result ≡ list_all (λ id. id == 0 || lists_number below_root.now id)
+        (keys_of nodes.now) }
 {
     for id in nodes.keys() {
         if !is_reached(below_root, *id) {

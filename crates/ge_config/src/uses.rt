@@ -21,8 +21,8 @@ use ge_base::Refusal;
 use ge_complex::is_consumed;
 use ge_pieces::note;
 use ge_rows::{
-    Advance, Attr, Cluster, ComplexDef, HostRow, Job, List, QueueRow, QuotaRow, Row, Rule, Table,
-    Text, Value, opening,
+    Advance, Attr, Cluster, ComplexDef, HostRow, JobRow, List, QueueRow, QuotaRow, Row, Rule,
+    Table, Text, Value, opening,
 };
 use std::alloc::{AllocError, Global};
 
@@ -177,11 +177,11 @@ fn sets_name_some(names: &TextSet<'_>, quotas: &Table<Text, QuotaRow>) -> bool
     false
 }
 
-fn jobs_name_some(names: &TextSet<'_>, jobs: &Table<u32, Job>) -> bool
+fn jobs_name_some(names: &TextSet<'_>, jobs: &Table<u32, JobRow>) -> bool
     ensures { result ≡ list_any (λ job. has_some names.now job.1.request.asked) jobs.now }
 {
     for job in jobs.iter() {
-        if names_some(names, &job.1.request.asked) {
+        if names_some(names, &job.1.job().request.asked) {
             return true;
         }
     }

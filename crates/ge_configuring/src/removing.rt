@@ -37,7 +37,8 @@ fn note_object(
     name: &Text,
     faults: &mut Option<Refusal>,
 ) -> Result<(), AllocError>
-    ensures { OnOk result (faults.new ≡ after_faults faults.old (object_faults c.now kind name.now)) }
+    ensures { OnOk result (faults.new ≡ after_faults faults.old
+        (object_faults c.now kind name.now)) }
 {
     if is_there(c, kind, name) {
         note(faults, is_used(alloc, c, kind, name)?, Refusal::InUse);
@@ -54,7 +55,8 @@ fn note_removal(
     name: &Text,
     faults: &mut Option<Refusal>,
 ) -> Result<(), AllocError>
-    ensures { OnOk result (faults.new ≡ after_faults faults.old (remove_faults c.now kind name.now)) }
+    ensures { OnOk result (faults.new ≡ after_faults faults.old
+        (remove_faults c.now kind name.now)) }
 {
     match kind {
         ObjectKind::Managers => note_leaving(true, c.managers.items(), name, faults),

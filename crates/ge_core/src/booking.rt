@@ -43,7 +43,8 @@ fn seconds(alloc: Global, options: &Options) -> Result<u64, AllocError>
 }
 
 fn asked_name(alloc: Global, options: &Options) -> Result<Text, AllocError>
-    ensures { IfOk result (λ name. name ≡ unwrap_or (values.option_word options.now.items (codes "-N")) (codes "ar")) }
+    ensures { IfOk result (λ name. name ≡ unwrap_or (values.option_word options.now.items
+        (codes "-N")) (codes "ar")) }
 {
     match text_given(alloc, options, b"-N")? {
         Some(name) => Ok(name),
@@ -53,7 +54,8 @@ fn asked_name(alloc: Global, options: &Options) -> Result<Text, AllocError>
 
 // When a reservation ends, cut at 2^128 - 1.
 fn ends_at(alloc: Global, e: &Event, options: &Options) -> Result<u128, AllocError>
-    ensures { IfOk result (λ end. end ≡ min (booking.asked_until e.now options.now.items) (2 ^ 128 - 1)) }
+    ensures { IfOk result (λ end. end ≡ min (booking.asked_until e.now options.now.items)
+        (2 ^ 128 - 1)) }
 {
     match number_given(options, b"-e") {
         Some(end) => Ok(end),
@@ -80,7 +82,10 @@ fn has_no_time(alloc: Global, e: &Event, options: &Options) -> Result<bool, Allo
 
 // When a reservation begins and ends, as its row has room for them: wider moments are refused before.
 fn moments_in_row(alloc: Global, e: &Event, options: &Options) -> Result<(u64, u64), AllocError>
-    ensures { IfOk result (λ moments. moments ≡ (booking.booked_from e.now options.now.items, booking.asked_until e.now options.now.items)) }
+    ensures { IfOk result (λ moments. moments ≡ (
+      booking.booked_from e.now options.now.items,
+      booking.asked_until e.now options.now.items,
+    )) }
 {
     let until = ends_at(alloc, e, options)?;
     match (u64::try_from(begins_at(e, options)), u64::try_from(until)) {
@@ -161,7 +166,8 @@ fn book_or_refuse(
     request: Request,
     faults: Option<Refusal>,
 ) -> Result<Planned, AllocError>
-    ensures { IfOk result (λ planned. planned ≡ plan_with c.now e.now (asked_with e.now options.now.items request) faults) }
+    ensures { IfOk result (λ planned. planned ≡ plan_with c.now e.now
+        (asked_with e.now options.now.items request) faults) }
 {
     match faults {
         Some(refusal) => refuse(alloc, refusal),

@@ -90,7 +90,8 @@ fn plan_timely(
     e: &Event,
     command: Option<&Command>,
 ) -> Result<Planned, AllocError>
-    ensures { IfOk result (λ planned. planned ≡ timely_plan c.now e.now (option_copied command.entry)) }
+    ensures { IfOk result (λ planned. planned ≡ timely_plan c.now e.now
+        (option_copied command.entry)) }
 {
     match command {
         None => refuse(alloc, Refusal::Syntax),

@@ -19,7 +19,8 @@ fn show_list(
     what: &Listing,
     prios: &List<Prio>,
 ) -> Result<Planned, AllocError>
-    ensures { IfOk result (λ planned. planned ≡ shown (listing_of c.now what.now e.now.moment prios.now)) }
+    ensures { IfOk result (λ planned. planned ≡ shown
+        (listing_of c.now what.now e.now.moment prios.now)) }
 {
     Ok(show(list(alloc, c, what, e.moment, prios.items())?))
 }

@@ -35,7 +35,9 @@ pub struct Generator {
 // What comes behind a job.
 fn turn_behind_job(job: u32) -> Turn
     ensures { (last state : ℕ) → left_at last state result
-        ≡ (if has_run job then run_request job ∷ [] else []) ++ ((if has_end job then end_request job state ∷ [] else []) ++ requests_from (last - job) (job + 1) (if has_end job then next_state state else state)) }
+        ≡ (if has_run job then run_request job ∷ [] else [])
+        ++ ((if has_end job then end_request job state ∷ [] else [])
+        ++ requests_from (last - job) (job + 1) (if has_end job then next_state state else state)) }
 {
     if job % 4 == 0 {
         Turn::Run(job)
@@ -72,7 +74,9 @@ impl Generator {
 
     fn next_job(&mut self, job: u32) -> Result<Option<Text>, AllocError>
         requires { job ≤ self.old.last }
-        ensures next { IfOk result (λ next. IsNext (requests_from (self.old.last + 1 - job) job self.old.state) (left_at self.new.last self.new.state self.new.turn) next) }
+        ensures next { IfOk result (λ next. IsNext (requests_from (self.old.last
+            + 1 - job) job self.old.state) (left_at self.new.last self.new.state self.new.turn)
+            next) }
         ensures opened { self.new.opened ≡ self.old.opened }
         ensures stays { OnErr result (self.new ≡ self.old) }
     {
@@ -86,7 +90,8 @@ impl Generator {
     }
 
     fn next_turn(&mut self) -> Result<Option<Text>, AllocError>
-        ensures next { IfOk result (λ next. IsNext (left_at self.old.last self.old.state self.old.turn) (left_at self.new.last self.new.state self.new.turn) next) }
+        ensures next { IfOk result (λ next. IsNext (left_at self.old.last self.old.state
+            self.old.turn) (left_at self.new.last self.new.state self.new.turn) next) }
         ensures opened { self.new.opened ≡ self.old.opened }
         ensures stays { OnErr result (self.new ≡ self.old) }
     {

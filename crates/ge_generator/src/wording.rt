@@ -25,7 +25,8 @@ fn opening_requests() -> &'static [&'static [u8]]
 
 /// One of the requests that open the script, from 0 on.
 pub(crate) fn opening_request(number: usize) -> Option<&'static [u8]>
-    ensures { MatchOption result (drop number opening_requests ≡ []) (λ r. drop number opening_requests ≡ r.now ∷ drop (number + 1) opening_requests) }
+    ensures { MatchOption result (drop number opening_requests
+        ≡ []) (λ r. drop number opening_requests ≡ r.now ∷ drop (number + 1) opening_requests) }
 {
     opening_requests().get(number).copied()
 }

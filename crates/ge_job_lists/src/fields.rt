@@ -12,7 +12,7 @@ ghost use Rattle.ge_model_report.specs.JobFields.{field_line, hold_letter, hold_
 use ge_pieces::or_none_text;
 use ge_printing::values_text;
 use ge_ranges::{set_of, text, union};
-use ge_rows::{Cluster, Job, List, PeRequest, TaskSet, Text};
+use ge_rows::{Cluster, Job, List, PeRequest, TaskSet, Text, job_at};
 use ge_wording::{decimal_text, number_list};
 use std::alloc::{AllocError, Global};
 
@@ -153,7 +153,8 @@ fn first_fields(alloc: Global, number: u32, job: &Job) -> Result<List<Text>, All
 
 // What a job asks for and may be altered.
 fn middle_fields(alloc: Global, c: &Cluster, job: &Job) -> Result<List<Text>, AllocError>
-    ensures { IfOk result (λ lines. lines ≡ field_line (codes "priority") (signed_decimal job.now.priority)
+    ensures { IfOk result (λ lines. lines ≡ field_line (codes "priority")
+        (signed_decimal job.now.priority)
         ∷ field_line (codes "project") job.now.project ∷ field_line (codes "hold") (hold_text job.now.hold)
         ∷ field_line (codes "hard_resource_list") (list_text (map (pair_text c.now) job.now.request.asked)) ∷ []) }
 {
@@ -170,7 +171,8 @@ fn middle_fields(alloc: Global, c: &Cluster, job: &Job) -> Result<List<Text>, Al
 
 // What a job waits for, and its tasks.
 fn last_fields(alloc: Global, job: &Job) -> Result<List<Text>, AllocError>
-    ensures { IfOk result (λ lines. lines ≡ field_line (codes "parallel_environment") (pe_text job.now.request.pe)
+    ensures { IfOk result (λ lines. lines ≡ field_line (codes "parallel_environment")
+        (pe_text job.now.request.pe)
         ∷ field_line (codes "predecessors") (list_text (map decimal job.now.after))
         ∷ field_line (codes "array_predecessors") (list_text (map decimal job.now.after_each))
         ∷ field_line (codes "tasks") (set_text (live_tasks job.now)) ∷ []) }
@@ -215,7 +217,7 @@ fn fields_of(alloc: Global, c: &Cluster, number: u32, job: &Job) -> Result<List<
 pub fn show_job(alloc: Global, c: &Cluster, number: u32) -> Result<List<Text>, AllocError>
     ensures { IfOk result (λ lines. lines ≡ one_listing c.now number) }
 {
-    match c.jobs.get(&number) {
+    match job_at(&c.jobs, number) {
         None => Ok(List::new(alloc)),
         Some(job) => fields_of(alloc, c, number, job),
     }

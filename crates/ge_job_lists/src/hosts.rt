@@ -6,7 +6,7 @@ ghost use Rattle.ge_model_report.specs.Orders.{is_run_at, order_text, orders_of}
 ghost use Rattle.ge_job_lists.specs.Gathered.{with_order, with_orders};
 
 use crate::grants::slots_of;
-use ge_rows::{Cluster, Grant, Job, List, Running, Table, Text, Twin};
+use ge_rows::{Cluster, Grant, Job, JobRow, List, Running, Table, Text, Twin};
 use ge_wording::{Column, join_columns};
 use std::alloc::{AllocError, Global};
 use std::collections::BTreeMap;
@@ -25,7 +25,8 @@ fn is_run_at(host: &Text, grants: &[Grant]) -> bool
 
 // To run a task, or to kill one that is marked for deletion.
 fn order_of(alloc: Global, job: u32, task: u32, running: &Running) -> Result<Text, AllocError>
-    ensures { IfOk result (λ text. text ≡ order_text ((running.now.serial, job, task), running.now)) }
+    ensures { IfOk result (λ text. text ≡ order_text
+        ((running.now.serial, job, task), running.now)) }
 {
     let serial = Column::Number(u128::from(running.serial));
     if running.deleting {
@@ -50,7 +51,8 @@ fn put_task(
     task: u32,
     running: &Running,
 ) -> Result<(), AllocError>
-    ensures { OnOk result (texts.new.entries ≡ with_order host.now job texts.old.entries (task, running.now)) }
+    ensures { OnOk result (texts.new.entries ≡ with_order host.now job texts.old.entries
+        (task, running.now)) }
 {
     if !is_run_at(host, running.grants.items()) {
         return Ok(());
@@ -67,7 +69,8 @@ fn put_job(
     number: u32,
     job: &Job,
 ) -> Result<(), AllocError>
-    ensures { OnOk result (texts.new.entries ≡ with_orders host.now texts.old.entries (number, job.now)) }
+    ensures { OnOk result (texts.new.entries ≡ with_orders host.now texts.old.entries
+        (number, job.now)) }
 {
     for (task, running) in job.running.iter() {
         put_task(alloc, texts, host, number, *task, running)?;
@@ -77,21 +80,21 @@ fn put_job(
 
 fn gathered(
     alloc: Global,
-    jobs: &Table<u32, Job>,
+    jobs: &Table<u32, JobRow>,
     host: &Text,
 ) -> Result<BTreeMap<Place, Text>, AllocError>
     ensures { IfOk result (λ texts. texts.entries ≡ fold (with_orders host.now) [] jobs.now) }
 {
     let mut texts = BTreeMap::new(alloc);
-    for (number, job) in jobs.iter() {
-        put_job(alloc, &mut texts, host, *number, job)?;
+    for (number, row) in jobs.iter() {
+        put_job(alloc, &mut texts, host, *number, row.job())?;
     }
     Ok(texts)
 }
 
 fn gathered_lines(
     alloc: Global,
-    jobs: &Table<u32, Job>,
+    jobs: &Table<u32, JobRow>,
     host: &Text,
 ) -> Result<List<Text>, AllocError>
     ensures { IfOk result (λ lines. lines ≡ values_of (fold (with_orders host.now) [] jobs.now)) }

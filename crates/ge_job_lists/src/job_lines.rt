@@ -10,7 +10,7 @@ ghost use Rattle.ge_model_report.specs.JobLines.{free_waiting, held_waiting, job
 use crate::grants::{first_instance, slots_of};
 use ge_jobs::{free_tasks, held_tasks, is_live};
 use ge_ranges::text;
-use ge_rows::{Job, List, PeRequest, Running, Table, TaskSet, Text};
+use ge_rows::{Job, JobRow, List, PeRequest, Running, Table, TaskSet, Text};
 use ge_wording::{Column, decimal_text, join_columns};
 use std::alloc::{AllocError, Global};
 
@@ -35,7 +35,8 @@ fn line_of<'a>(
     job: &'a Job,
     shown: &Shown<'a>,
 ) -> Result<Text, AllocError>
-    ensures { IfOk result (λ line. line ≡ worded (decimal number ∷ job.now.name ∷ job.now.owner ∷ shown.now.state.now
+    ensures { IfOk result (λ line. line ≡ worded (decimal number ∷ job.now.name ∷ job.now.owner
+        ∷ shown.now.state.now
         ∷ decimal shown.now.moment ∷ shown.now.queue.now ∷ decimal shown.now.slots ∷ shown.now.tasks.now ∷ [])) }
 {
     let columns = [
@@ -108,7 +109,8 @@ fn put_running(
     number: u32,
     job: &Job,
 ) -> Result<(), AllocError>
-    ensures { OnOk result (lines.new ≡ lines.old ++ map (running_line number job.now) job.now.running) }
+    ensures { OnOk result (lines.new ≡ lines.old ++ map
+        (running_line number job.now) job.now.running) }
 {
     for (task, running) in job.running.iter() {
         lines.push(line_of_running(alloc, number, job, *task, running)?)?;
@@ -132,7 +134,8 @@ fn line_of_pending(
     state: &[u8],
     tasks: &TaskSet,
 ) -> Result<Text, AllocError>
-    ensures { IfOk result (λ line. line ≡ worded (decimal number ∷ job.now.name ∷ job.now.owner ∷ state.now
+    ensures { IfOk result (λ line. line ≡ worded (decimal number ∷ job.now.name ∷ job.now.owner
+        ∷ state.now
         ∷ decimal job.now.submitted ∷ codes "-" ∷ decimal (least_slots job.now.request.pe) ∷ tasks_text job.now tasks.now ∷ [])) }
 {
     let tasks = set_text(alloc, job, tasks)?;
@@ -155,7 +158,8 @@ fn put_pending(
     state: &[u8],
     tasks: &TaskSet,
 ) -> Result<(), AllocError>
-    ensures { OnOk result (lines.new ≡ lines.old ++ pending_lines number job.now state.now tasks.now) }
+    ensures { OnOk result (lines.new ≡ lines.old ++ pending_lines number job.now state.now
+        tasks.now) }
 {
     if tasks.spans().is_empty() {
         return Ok(());
@@ -163,14 +167,14 @@ fn put_pending(
     lines.push(line_of_pending(alloc, number, job, state, tasks)?)
 }
 
-fn has_live(jobs: &Table<u32, Job>, numbers: &[u32]) -> bool
+fn has_live(jobs: &Table<u32, JobRow>, numbers: &[u32]) -> bool
     ensures { result ≡ list_any (is_live_job jobs.now) numbers.now }
 {
     numbers.iter().any(|number| is_live(jobs, *number))
 }
 
 // Whether a job is held whole: by a hold of its own, or by a predecessor that lives.
-fn is_held(jobs: &Table<u32, Job>, job: &Job) -> bool
+fn is_held(jobs: &Table<u32, JobRow>, job: &Job) -> bool
     ensures { result ≡ is_job_held jobs.now job.now }
 {
     job.hold != 0 || has_live(jobs, job.after.items())
@@ -180,7 +184,7 @@ fn is_held(jobs: &Table<u32, Job>, job: &Job) -> bool
 fn put_waiting(
     alloc: Global,
     lines: &mut List<Text>,
-    jobs: &Table<u32, Job>,
+    jobs: &Table<u32, JobRow>,
     number: u32,
     job: &Job,
 ) -> Result<(), AllocError>
@@ -201,7 +205,7 @@ fn put_waiting(
 pub(crate) fn put_job(
     alloc: Global,
     lines: &mut List<Text>,
-    jobs: &Table<u32, Job>,
+    jobs: &Table<u32, JobRow>,
     number: u32,
     job: &Job,
 ) -> Result<(), AllocError>

@@ -24,7 +24,8 @@ pub fn list_jobs(alloc: Global, c: &Cluster, pattern: &[u8]) -> Result<List<Text
     ensures { IfOk result (λ lines. lines ≡ jobs_listing c.now pattern.now) }
 {
     let mut lines = List::new(alloc);
-    for (number, job) in c.jobs.iter() {
+    for (number, row) in c.jobs.iter() {
+        let job = row.job();
         if matches(pattern, job.owner.bytes()) {
             put_job(alloc, &mut lines, &c.jobs, *number, job)?;
         }

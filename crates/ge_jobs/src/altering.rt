@@ -8,18 +8,19 @@ ghost use Rattle.ge_jobs.specs.JobEdits.{marks_of_names};
 
 use crate::asking::JobTable;
 use ge_rows::{
-    Job, JobMark, List, MarkSort, Patch, PeRequest, Request, Table, Text, TryEdit, Twin, Value,
-    twins2, twins4,
+    InRow, Job, JobMark, JobRow, List, MarkSort, Patch, PeRequest, Request, Table, Text, TryEdit,
+    Twin, Value, twins2, twins4,
 };
 use std::alloc::{AllocError, Global};
 
 /// A job comes under its number (qsub). After want of memory the table is as it was.
-pub fn submit(jobs: &mut JobTable, job: Job) -> Result<(), AllocError>
+pub fn submit(alloc: Global, jobs: &mut JobTable, job: Job) -> Result<(), AllocError>
     ensures ok { OnOk result (jobs.new ≡ submitted jobs.old job) }
     ensures err { OnErr result (jobs.new ≡ jobs.old) }
 {
     let number = job.number;
-    let _before = jobs.insert(number, job)?;
+    let row = JobRow::new(alloc, job)?;
+    let _before = jobs.insert(number, row)?;
     Ok(())
 }
 
@@ -31,7 +32,8 @@ fn push(
     name: &Text,
     other: &[u8],
 ) -> Result<(), AllocError>
-    ensures { OnOk result (marks.new.items ≡ marks.old.items ++ mark_of sort name.now other.now 0 ∷ []) }
+    ensures { OnOk result (marks.new.items ≡ marks.old.items ++ mark_of sort name.now other.now 0
+        ∷ []) }
 {
     let mark = JobMark::new(alloc, sort, name.bytes(), other, 0)?;
     marks.push(mark)?;
@@ -76,7 +78,8 @@ fn push_asked(
     marks: &mut Vec<JobMark>,
     asked: &Table<Text, Value>,
 ) -> Result<(), AllocError>
-    ensures { OnOk result (marks.new.items ≡ marks.old.items ++ map attribute_mark (keys_of asked.now)) }
+    ensures { OnOk result (marks.new.items ≡ marks.old.items
+        ++ map attribute_mark (keys_of asked.now)) }
 {
     for name in asked.keys() {
         push(alloc, marks, MarkSort::Attribute, name, b"")?;
@@ -196,6 +199,9 @@ pub fn alter(
     ensures ok { OnOk result (jobs.new ≡ alter_job jobs.old (number, patch.now)) }
     ensures err { OnErr result (jobs.new ≡ jobs.old) }
 {
-    let _found = jobs.try_change(alloc, &number, &Patched { patch })?;
+    let edit = InRow {
+        edit: &Patched { patch },
+    };
+    let _found = jobs.try_change(alloc, &number, &edit)?;
     Ok(())
 }

@@ -6,7 +6,7 @@ use crate::asking::{JobTable, get};
 use crate::narrowing::narrowed;
 use crate::picking::{NamedTasks, named_in, unnamed_in};
 use ge_ranges::union;
-use ge_rows::{Job, JobMark, TaskSet, TryEdit};
+use ge_rows::{InRow, Job, JobMark, TaskSet, TryEdit};
 use std::alloc::{AllocError, Global};
 
 // The tasks in error that a target names wait again, as an edit of their job.
@@ -50,7 +50,10 @@ pub fn clear(
     ensures ok { OnOk result (jobs.new ≡ clear_from jobs.old (number, tasks.now)) }
     ensures err { OnErr result (jobs.new ≡ jobs.old) }
 {
-    let _found = jobs.try_change(alloc, &number, &Cleared { tasks })?;
+    let edit = InRow {
+        edit: &Cleared { tasks },
+    };
+    let _found = jobs.try_change(alloc, &number, &edit)?;
     Ok(())
 }
 

@@ -11,7 +11,7 @@ use crate::asking::{JobTable, get};
 use crate::ending::{has_none, remove};
 use crate::narrowing::narrowed;
 use crate::picking::{NamedTasks, names, unnamed_in};
-use ge_rows::{Edit, Job, JobMark, List, Running, Table, TaskSet, TryEdit, task_marks};
+use ge_rows::{Edit, InRow, Job, JobMark, List, Running, Table, TaskSet, TryEdit, task_marks};
 use std::alloc::{AllocError, Global};
 
 // A running task is marked for deletion.
@@ -40,7 +40,8 @@ fn named_numbers(
     tasks: &Option<TaskSet>,
     running: &Table<u32, Running>,
 ) -> Result<List<u32>, AllocError>
-    ensures { IfOk result (λ numbers. numbers ≡ filter (names_task tasks.now) (keys_of running.now)) }
+    ensures { IfOk result (λ numbers. numbers ≡ filter (names_task tasks.now)
+        (keys_of running.now)) }
 {
     let mut numbers = List::new(alloc);
     for number in running.keys() {
@@ -143,7 +144,8 @@ fn push_named(
     number: u32,
     task: &Running,
 ) -> Result<(), AllocError>
-    ensures { OnOk result (marks.new.items ≡ marks.old.items ++ marks_if_named tasks.now (number, task.now)) }
+    ensures { OnOk result (marks.new.items ≡ marks.old.items
+        ++ marks_if_named tasks.now (number, task.now)) }
 {
     if names(tasks, number) {
         let mut more = task_marks(alloc, task)?;
@@ -235,10 +237,14 @@ pub fn delete(
     force: bool,
     tasks: &Option<TaskSet>,
 ) -> Result<(), AllocError>
-    ensures ok { OnOk result (jobs.new ≡ lose_tasks (without_picked force tasks.now) jobs.old number) }
+    ensures ok { OnOk result (jobs.new ≡ lose_tasks
+        (without_picked force tasks.now) jobs.old number) }
     ensures err { OnErr result (jobs.new ≡ jobs.old) }
 {
-    let _found = jobs.try_change(alloc, &number, &Deleted { force, tasks })?;
+    let edit = InRow {
+        edit: &Deleted { force, tasks },
+    };
+    let _found = jobs.try_change(alloc, &number, &edit)?;
     drop_spent(jobs, number);
     Ok(())
 }
@@ -252,7 +258,8 @@ pub fn delete_named(
     force: bool,
     named: &NamedTasks,
 ) -> Result<(), AllocError>
-    ensures ok { OnOk result (jobs.new ≡ lose_tasks (without_picked force named.now) jobs.old number) }
+    ensures ok { OnOk result (jobs.new ≡ lose_tasks
+        (without_picked force named.now) jobs.old number) }
     ensures err { OnErr result (jobs.new ≡ jobs.old) }
 {
     let Some(job) = get(jobs, number) else {

@@ -9,7 +9,7 @@ ghost use Rattle.ge_jobs.specs.JobEdits.{is_gone_with};
 use crate::asking::{JobTable, get};
 use ge_model_jobs::After;
 use ge_ranges::with_number;
-use ge_rows::{Job, JobMark, TaskId, TaskSet, TryEdit, task_marks};
+use ge_rows::{InRow, Job, JobMark, TaskId, TaskSet, TryEdit, task_marks};
 use std::alloc::{AllocError, Global};
 
 /// A job goes with all its tasks.
@@ -94,7 +94,8 @@ pub(crate) fn has_none(set: &TaskSet) -> bool
 
 // Whether a job has no task but one that runs.
 fn has_one(job: &Job) -> bool
-    ensures { result ≡ (has_nothing job.now.queued && has_nothing job.now.broken && length job.now.running == 1) }
+    ensures { result ≡ (has_nothing job.now.queued && has_nothing job.now.broken
+        && length job.now.running == 1) }
 {
     has_none(&job.queued) && has_none(&job.broken) && job.running.len() == 1
 }
@@ -129,9 +130,11 @@ pub fn end(alloc: Global, jobs: &mut JobTable, id: TaskId, after: After) -> Resu
         remove(jobs, id.job);
         return Ok(());
     }
-    let edit = Ended {
-        task: id.task,
-        after,
+    let edit = InRow {
+        edit: &Ended {
+            task: id.task,
+            after,
+        },
     };
     let _found = jobs.try_change(alloc, &id.job, &edit)?;
     Ok(())

@@ -3,7 +3,7 @@ ghost use Rattle.std.specs.Prelude.{◌≡◌};
 ghost use Rattle.ge_model_jobs.specs.Altering.{with_hold, held, freed, change_job, hold_set};
 
 use crate::asking::JobTable;
-use ge_rows::{Edit, Job, JobMark};
+use ge_rows::{Edit, InRow, Job, JobMark};
 use std::alloc::{AllocError, Global};
 
 // A job gets these hold bits and no others.
@@ -88,19 +88,28 @@ impl Edit<Job> for Freed {
 pub fn set_hold(jobs: &mut JobTable, number: u32, bits: u8)
     ensures { jobs.new ≡ hold_set jobs.old number bits }
 {
-    let _found = jobs.change(&number, &Holding { bits });
+    let edit = InRow {
+        edit: &Holding { bits },
+    };
+    let _found = jobs.change(&number, &edit);
 }
 
 /// Gives a job hold bits more (qhold).
 pub fn hold(jobs: &mut JobTable, number: u32, bits: u8)
     ensures { jobs.new ≡ change_job (held bits) jobs.old number }
 {
-    let _found = jobs.change(&number, &Held { bits });
+    let edit = InRow {
+        edit: &Held { bits },
+    };
+    let _found = jobs.change(&number, &edit);
 }
 
 /// Takes hold bits from a job (qrls).
 pub fn release(jobs: &mut JobTable, number: u32, bits: u8)
     ensures { jobs.new ≡ change_job (freed bits) jobs.old number }
 {
-    let _found = jobs.change(&number, &Freed { bits });
+    let edit = InRow {
+        edit: &Freed { bits },
+    };
+    let _found = jobs.change(&number, &edit);
 }

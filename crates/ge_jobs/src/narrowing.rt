@@ -34,7 +34,8 @@ fn part_in(alloc: Global, all: &Gathered, job: &Job) -> Result<TaskSet, AllocErr
 /// The tasks of a job that targets name, none where they name all: those of its live tasks that they have, and no others. With
 /// these a deletion and a clearing do to it what they do with all tasks that the targets name.
 pub fn narrowed(alloc: Global, named: &NamedTasks, job: &Job) -> Result<Option<TaskSet>, AllocError>
-    ensures part { IfOk result (λ part. part ≡ option_map (meet_of (holding_of job.now)) named.now) }
+    ensures part { IfOk result (λ part. part ≡ option_map (meet_of
+        (holding_of job.now)) named.now) }
     ensures deleted { IfOk result (λ part. (force : Bool)
         → without_picked force part job.now ≡ without_picked force named.now job.now) }
     ensures named { IfOk result (λ part.

@@ -5,7 +5,7 @@ ghost use Rattle.ge_jobs.specs.JobEdits.{lost_by_start, gained_by_start};
 
 use crate::asking::JobTable;
 use ge_ranges::{contains, without_number};
-use ge_rows::{Job, JobMark, Running, Start, TryEdit, Twin, task_marks};
+use ge_rows::{InRow, Job, JobMark, Running, Start, TryEdit, Twin, task_marks};
 use std::alloc::{AllocError, Global};
 
 // The start of a task at a moment, as an edit of its job.
@@ -79,6 +79,9 @@ pub fn start(
     ensures ok { OnOk result (jobs.new ≡ start_task moment jobs.old start.now) }
     ensures err { OnErr result (jobs.new ≡ jobs.old) }
 {
-    let _found = jobs.try_change(alloc, &start.task.job, &Started { start, moment })?;
+    let edit = InRow {
+        edit: &Started { start, moment },
+    };
+    let _found = jobs.try_change(alloc, &start.task.job, &edit)?;
     Ok(())
 }

@@ -39,7 +39,8 @@ fn put_entry(entry: &Entry, body: &mut Text) -> Result<(), AllocError>
 
 // The bytes of what an event changes behind those of others. An error leaves the others.
 fn put_change(entry: &Option<Entry>, body: &mut Text) -> Result<(), AllocError>
-    ensures bytes { OnOk result (body.new ≡ body.old ++ flat_map entry_bytes (option_to_list entry.now)) }
+    ensures bytes { OnOk result (body.new ≡ body.old
+        ++ flat_map entry_bytes (option_to_list entry.now)) }
     ensures fits { OnOk result (AreFit (option_to_list entry.now)) }
     ensures same { OnErr result (body.new ≡ body.old) }
 {
@@ -58,7 +59,8 @@ fn prepare(
     replies: &mut List<Reply>,
     body: &mut Text,
 ) -> Result<(Option<Entry>, bool), AllocError>
-    ensures prepared { IfOk result (λ change. IsPrepared (plan_of cluster.now event.now) replies.old replies.new body.old body.new change) }
+    ensures prepared { IfOk result (λ change. IsPrepared
+        (plan_of cluster.now event.now) replies.old replies.new body.old body.new change) }
     ensures same_replies { OnErr result (replies.new ≡ replies.old) }
     ensures same_body { OnErr result (body.new ≡ body.old) }
 {
@@ -102,7 +104,8 @@ fn stage(
     replies: &mut List<Reply>,
     body: &mut Text,
 ) -> Result<bool, AllocError>
-    ensures { IfOk result (λ stop. Stages plan_of cluster.old event.now replies.old replies.new body.old body.new cluster.new stop) }
+    ensures { IfOk result (λ stop. Stages plan_of cluster.old event.now replies.old replies.new
+        body.old body.new cluster.new stop) }
 {
     match prepare(alloc, cluster, event, replies, body) {
         Ok((entry, stop)) => {

@@ -80,15 +80,18 @@ fn store_snapshot<D: Disk>(
     requires room { HasRoom spool.old (D.told a.old) (D.told b.old) }
     requires below { generation_of spool.old < last_generation }
     ensures done { (state : State) → IsSettled spool.old (D.told a.old) (D.told b.old) state
-        → OnOk result (IsSettled spool.new (D.told a.new) (D.told b.new) (compacted state (cluster_bytes cluster.now))) }
+        → OnOk result (IsSettled spool.new (D.told a.new) (D.told b.new) (compacted state
+        (cluster_bytes cluster.now))) }
     ensures any_moment { (state : State) → IsSettled spool.old (D.told a.old) (D.told b.old) state
-        → (c d : List ℕ) → IsImageSince (length (D.told a.old)) (D.told a.new) c → IsImageSince (length (D.told b.old)) (D.told b.new) d
+        → (c d : List ℕ) → IsImageSince (length (D.told a.old)) (D.told a.new) c
+        → IsImageSince (length (D.told b.old)) (D.told b.new) d
         → IsOneOf state (compacted state (cluster_bytes cluster.now)) c d }
     ensures fits { OnWritten result (IsTrue (cluster_fits cluster.now)) }
     ensures answer { Stores result (19 + length (cluster_bytes cluster.now))
         (Rose (D.disk_faults a.old) (D.disk_faults a.new) ⊎ Rose (D.disk_faults b.old) (D.disk_faults b.new)) }
     ensures untouched { OnUnwritten result ((a.new ≡ a.old) × (b.new ≡ b.old)) }
-    ensures stored { OnOk result (IsCompacted spool.old spool.new (length (cluster_bytes cluster.now))) }
+    ensures stored { OnOk result (IsCompacted spool.old spool.new (length
+        (cluster_bytes cluster.now))) }
     ensures room { OnOk result (HasRoom spool.new (D.told a.new) (D.told b.new)) }
     ensures alive { OnOk result (is_dead spool.new ≡ false) }
     ensures grows { Grows (D.told a.old) (D.told a.new) (D.told b.old) (D.told b.new) }
@@ -118,9 +121,11 @@ fn store_record<D: Disk>(
     requires some { 0 < length body.now }
     requires format { format_of spool.old ≡ 2 }
     ensures done { (state : State) → IsSettled spool.old (D.told a.old) (D.told b.old) state
-        → OnOk result (IsSettled spool.new (D.told a.new) (D.told b.new) (with_record state body.now)) }
+        → OnOk result (IsSettled spool.new (D.told a.new) (D.told b.new)
+        (with_record state body.now)) }
     ensures any_moment { (state : State) → IsSettled spool.old (D.told a.old) (D.told b.old) state
-        → (c d : List ℕ) → IsImageSince (length (D.told a.old)) (D.told a.new) c → IsImageSince (length (D.told b.old)) (D.told b.new) d
+        → (c d : List ℕ) → IsImageSince (length (D.told a.old)) (D.told a.new) c
+        → IsImageSince (length (D.told b.old)) (D.told b.new) d
         → IsOneOf state (with_record state body.now) c d }
     ensures answer { Stores result (min (record_end spool.old (length body.now)) (2 ^ 64 - 1))
         (Rose (D.disk_faults a.old) (D.disk_faults a.new) ⊎ Rose (D.disk_faults b.old) (D.disk_faults b.new)) }
@@ -163,19 +168,24 @@ pub(crate) fn store<D: Disk>(
         → OnOk result (IsSettled spool.new (D.told a.new) (D.told b.new)
         (stored (compacts spool.old (length body.now)) state body.now (cluster_bytes cluster.now))) }
     ensures any_moment { (state : State) → IsSettled spool.old (D.told a.old) (D.told b.old) state
-        → (c d : List ℕ) → IsImageSince (length (D.told a.old)) (D.told a.new) c → IsImageSince (length (D.told b.old)) (D.told b.new) d
-        → IsOneOf state (stored (compacts spool.old (length body.now)) state body.now (cluster_bytes cluster.now)) c d }
-    ensures fits { compacts spool.old (length body.now) ≡ true → OnWritten result (IsTrue (cluster_fits cluster.now)) }
+        → (c d : List ℕ) → IsImageSince (length (D.told a.old)) (D.told a.new) c
+        → IsImageSince (length (D.told b.old)) (D.told b.new) d
+        → IsOneOf state (stored (compacts spool.old (length body.now)) state body.now
+        (cluster_bytes cluster.now)) c d }
+    ensures fits { compacts spool.old (length body.now) ≡ true
+        → OnWritten result (IsTrue (cluster_fits cluster.now)) }
     ensures format { compacts spool.old (length body.now) ≡ false → format_of spool.old ≡ 2 }
     ensures answer { Stores result (written_end spool.old cluster.now (length body.now))
         (Rose (D.disk_faults a.old) (D.disk_faults a.new) ⊎ Rose (D.disk_faults b.old) (D.disk_faults b.new)) }
     ensures untouched { OnUnwritten result ((a.new ≡ a.old) × (b.new ≡ b.old)) }
-    ensures stored { OnOk result (IsStored (compacts spool.old (length body.now)) spool.old spool.new (length body.now)
+    ensures stored { OnOk result (IsStored (compacts spool.old
+        (length body.now)) spool.old spool.new (length body.now)
         (length (cluster_bytes cluster.now))) }
     ensures room { OnOk result (HasRoom spool.new (D.told a.new) (D.told b.new)) }
     ensures alive { OnOk result (is_dead spool.new ≡ false) }
     ensures grows { Grows (D.told a.old) (D.told a.new) (D.told b.old) (D.told b.new) }
-    ensures syncs { D.syncs a.new + D.syncs b.new ≤ D.syncs a.old + D.syncs b.old + stored_syncs (compacts spool.old (length body.now)) }
+    ensures syncs { D.syncs a.new + D.syncs b.new ≤ D.syncs a.old + D.syncs b.old
+        + stored_syncs (compacts spool.old (length body.now)) }
     ensures syncs_a { D.syncs a.old ≤ D.syncs a.new }
     ensures syncs_b { D.syncs b.old ≤ D.syncs b.new }
     ensures faults_a { D.disk_faults a.old ≤ D.disk_faults a.new }

@@ -33,7 +33,8 @@ fn counts(shape: &OptionShape) -> bool
 }
 
 fn push_words<'a>(words: &mut Vec<&'a [u8]>, given: &GivenOption<'a>) -> Result<(), AllocError>
-    ensures { OnOk result (texts words.new.items ≡ texts words.old.items ++ (given_shown given.now).1) }
+    ensures { OnOk result (texts words.new.items ≡ texts words.old.items
+        ++ (given_shown given.now).1) }
 {
     if let Some(word) = given.first {
         words.push(word)?;
@@ -51,7 +52,9 @@ fn words_with<'a>(
     so_far: Option<Vec<&'a [u8]>>,
     given: &GivenOption<'a>,
 ) -> Result<Option<Vec<&'a [u8]>>, AllocError>
-    ensures { IfOk result (λ after. option_map (λ words. texts words.items) after ≡ words_after (shape_shown shape.now) (option_map (λ words. texts words.items) so_far.entry) (given_shown given.now)) }
+    ensures { IfOk result (λ after. option_map (λ words. texts words.items) after
+        ≡ words_after (shape_shown shape.now) (option_map (λ words. texts words.items) so_far.entry)
+        (given_shown given.now)) }
 {
     if !is_word(shape.word, given.word) {
         return Ok(so_far);
@@ -73,7 +76,8 @@ fn words_of<'a>(
     shape: &OptionShape,
     given: &[GivenOption<'a>],
 ) -> Result<Option<Vec<&'a [u8]>>, AllocError>
-    ensures { IfOk result (λ words. option_map (λ ws. texts ws.items) words ≡ words_in (all_shown given.now) (shape_shown shape.now)) }
+    ensures { IfOk result (λ words. option_map (λ ws. texts ws.items) words
+        ≡ words_in (all_shown given.now) (shape_shown shape.now)) }
 {
     let mut words = None;
     for option in given {
@@ -88,7 +92,8 @@ fn push_item(
     shape: &OptionShape,
     given: &[GivenOption],
 ) -> Result<(), AllocError>
-    ensures { OnOk result (items.new ≡ items.old ++ filter_map (item_in (all_shown given.now)) (filter is_effective (shape_shown shape.now ∷ []))) }
+    ensures { OnOk result (items.new ≡ items.old ++ filter_map (item_in (all_shown given.now))
+        (filter is_effective (shape_shown shape.now ∷ []))) }
 {
     if counts(shape) {
         if let Some(words) = words_of(alloc, shape, given)? {
@@ -100,7 +105,8 @@ fn push_item(
 }
 
 fn merge(alloc: Global, table: &[OptionShape], given: &[GivenOption]) -> Result<Options, AllocError>
-    ensures { IfOk result (λ options. options.items ≡ merged_by (map shape_shown table.now) (all_shown given.now)) }
+    ensures { IfOk result (λ options. options.items
+        ≡ merged_by (map shape_shown table.now) (all_shown given.now)) }
 {
     let mut items = List::new(alloc);
     for shape in table {
@@ -123,7 +129,8 @@ pub fn merged_reservation_options(
     alloc: Global,
     given: &[GivenOption],
 ) -> Result<Options, AllocError>
-    ensures { IfOk result (λ options. options.items ≡ merged_by qrsub_shapes (all_shown given.now)) }
+    ensures { IfOk result (λ options. options.items
+        ≡ merged_by qrsub_shapes (all_shown given.now)) }
 {
     merge(alloc, &reservation_shapes(), given)
 }

@@ -48,7 +48,8 @@ fn read_one<'a>(
     form: WordForm,
     words: &[&'a [u8]],
 ) -> Result<GivenOption<'a>, ReadFault>
-    ensures words { GivesAs (λ g. (given_shown g).1) result (words_for (texts words.now) (shape [] (form ∷ []) Effect.Idle)) }
+    ensures words { GivesAs (λ g. (given_shown g).1) result (words_for (texts words.now) (shape []
+        (form ∷ []) Effect.Idle)) }
     ensures name { IfOk result (λ g. g.word.now ≡ word.now) }
 {
     match words {
@@ -75,7 +76,8 @@ fn read_two<'a>(
     other: WordForm,
     words: &[&'a [u8]],
 ) -> Result<GivenOption<'a>, ReadFault>
-    ensures words { GivesAs (λ g. (given_shown g).1) result (words_for (texts words.now) (shape [] (form ∷ other ∷ []) Effect.Idle)) }
+    ensures words { GivesAs (λ g. (given_shown g).1) result (words_for (texts words.now) (shape []
+        (form ∷ other ∷ []) Effect.Idle)) }
     ensures name { IfOk result (λ g. g.word.now ≡ word.now) }
 {
     match words {
@@ -102,7 +104,8 @@ fn read_words<'a>(
     shape: &OptionShape,
     words: &[&'a [u8]],
 ) -> Result<GivenOption<'a>, ReadFault>
-    ensures words { GivesAs (λ g. (given_shown g).1) result (words_for (texts words.now) (shape_shown shape.now)) }
+    ensures words { GivesAs (λ g. (given_shown g).1) result (words_for (texts words.now)
+        (shape_shown shape.now)) }
     ensures name { IfOk result (λ g. g.word.now ≡ word.now) }
 {
     match (shape.first, shape.second) {
@@ -124,7 +127,8 @@ fn read_named<'a>(
     word: &'a [u8],
     words: &[&'a [u8]],
 ) -> Result<GivenOption<'a>, ReadFault>
-    ensures words { GivesAs (λ g. (given_shown g).1) result (words_behind (known_in taker (map shape_shown table.now)) word.now (texts words.now)) }
+    ensures words { GivesAs (λ g. (given_shown g).1) result (words_behind (known_in taker
+        (map shape_shown table.now)) word.now (texts words.now)) }
     ensures name { IfOk result (λ g. g.word.now ≡ word.now) }
 {
     match find_shape(taker, table, word) {
@@ -134,7 +138,8 @@ fn read_named<'a>(
 }
 
 fn push<'a>(given: &mut Vec<GivenOption<'a>>, option: GivenOption<'a>) -> Result<(), AllocError>
-    ensures { OnOk result (all_shown given.new.items ≡ all_shown given.old.items ++ given_shown option.entry ∷ []) }
+    ensures { OnOk result (all_shown given.new.items ≡ all_shown given.old.items
+        ++ given_shown option.entry ∷ []) }
 {
     given.push(option)?;
     Ok(())
@@ -148,7 +153,8 @@ fn read_front<'w, 'a>(
     table: &[OptionShape],
     words: &'w [&'a [u8]],
 ) -> Result<(Vec<GivenOption<'a>>, &'w [&'a [u8]]), ReadFault>
-    ensures { GivesAs (λ front. (all_shown front.0.items, texts front.1.now)) result (read_options (known_in taker (map shape_shown table.now)) (texts words.now)) }
+    ensures { GivesAs (λ front. (all_shown front.0.items, texts front.1.now)) result (read_options
+        (known_in taker (map shape_shown table.now)) (texts words.now)) }
 {
     let mut given = Vec::new(alloc);
     let mut at: usize = 0;
@@ -171,7 +177,8 @@ pub fn read_submission_options<'w, 'a>(
     alloc: Global,
     words: &'w [&'a [u8]],
 ) -> Result<(Vec<GivenOption<'a>>, &'w [&'a [u8]]), ReadFault>
-    ensures { GivesAs (λ front. (all_shown front.0.items, texts front.1.now)) result (read_options qsub_shapes (texts words.now)) }
+    ensures { GivesAs (λ front. (all_shown front.0.items, texts front.1.now)) result
+        (read_options qsub_shapes (texts words.now)) }
 {
     read_front(alloc, Taker::Submission, &job_shapes(), words)
 }
@@ -181,7 +188,8 @@ pub fn read_alteration_options<'w, 'a>(
     alloc: Global,
     words: &'w [&'a [u8]],
 ) -> Result<(Vec<GivenOption<'a>>, &'w [&'a [u8]]), ReadFault>
-    ensures { GivesAs (λ front. (all_shown front.0.items, texts front.1.now)) result (read_options qalter_shapes (texts words.now)) }
+    ensures { GivesAs (λ front. (all_shown front.0.items, texts front.1.now)) result
+        (read_options qalter_shapes (texts words.now)) }
 {
     read_front(alloc, Taker::Alteration, &job_shapes(), words)
 }
@@ -191,7 +199,8 @@ pub fn read_reservation_options<'w, 'a>(
     alloc: Global,
     words: &'w [&'a [u8]],
 ) -> Result<(Vec<GivenOption<'a>>, &'w [&'a [u8]]), ReadFault>
-    ensures { GivesAs (λ front. (all_shown front.0.items, texts front.1.now)) result (read_options qrsub_shapes (texts words.now)) }
+    ensures { GivesAs (λ front. (all_shown front.0.items, texts front.1.now)) result
+        (read_options qrsub_shapes (texts words.now)) }
 {
     read_front(alloc, Taker::Reservation, &reservation_shapes(), words)
 }

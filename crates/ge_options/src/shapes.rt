@@ -128,7 +128,8 @@ fn is_taken(taker: Taker, name: &[u8]) -> bool
 
 /// The option of a command that a word names.
 pub(crate) fn find_shape(taker: Taker, table: &[OptionShape], word: &[u8]) -> Option<OptionShape>
-    ensures { option_map shape_shown result ≡ shape_named (known_in taker (map shape_shown table.now)) word.now }
+    ensures { option_map shape_shown result ≡ shape_named (known_in taker
+        (map shape_shown table.now)) word.now }
 {
     for shape in table {
         if is_word(shape.word, word) && is_taken(taker, shape.word) {

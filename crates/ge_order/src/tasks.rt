@@ -9,7 +9,7 @@ ghost use Rattle.ge_order.specs.Told as telling;
 
 use ge_beside::next_at;
 use ge_jobs::{eligible, get};
-use ge_rows::{Cluster, Job, List, TaskId, TaskSpan};
+use ge_rows::{Cluster, Job, JobRow, List, TaskId, TaskSpan};
 use std::alloc::{AllocError, Global};
 use std::collections::btree_map::Iter;
 
@@ -58,12 +58,13 @@ fn only_task(job: &Job, now: u64) -> Option<u32>
 }
 
 // A job, met in a walk over all or looked up.
-fn job_at<'a>(c: &'a Cluster, left: &mut Iter<'a, u32, Job>, number: u32) -> Option<&'a Job>
-    ensures job { AreFound c.now.jobs left.old → option_copied result ≡ at_number c.now.jobs number }
+fn job_at<'a>(c: &'a Cluster, left: &mut Iter<'a, u32, JobRow>, number: u32) -> Option<&'a Job>
+    ensures job { AreFound c.now.jobs left.old → option_copied result
+        ≡ at_number c.now.jobs number }
     ensures others { AreFound c.now.jobs left.old → AreFound c.now.jobs left.new }
 {
     match next_at(left, number) {
-        Some(job) => Some(job),
+        Some(row) => Some(row.job()),
         None => get(&c.jobs, number),
     }
 }
@@ -71,7 +72,7 @@ fn job_at<'a>(c: &'a Cluster, left: &mut Iter<'a, u32, Job>, number: u32) -> Opt
 // The same by the job's number.
 fn only_task_at<'a>(
     c: &'a Cluster,
-    left: &mut Iter<'a, u32, Job>,
+    left: &mut Iter<'a, u32, JobRow>,
     number: u32,
     now: u64,
 ) -> Option<u32>
@@ -110,7 +111,7 @@ fn push_eligible(
 }
 
 /// A walk over all jobs, of which none is met yet.
-pub(crate) fn walk_jobs(c: &Cluster) -> Iter<'_, u32, Job>
+pub(crate) fn walk_jobs(c: &Cluster) -> Iter<'_, u32, JobRow>
     ensures { AreFound c.now.jobs result }
 {
     c.jobs.iter()
@@ -121,7 +122,7 @@ pub(crate) fn walk_jobs(c: &Cluster) -> Iter<'_, u32, Job>
 pub(crate) fn add_tasks<'a>(
     alloc: Global,
     c: &'a Cluster,
-    left: &mut Iter<'a, u32, Job>,
+    left: &mut Iter<'a, u32, JobRow>,
     job: u32,
     now: u64,
     order: &mut List<TaskId>,

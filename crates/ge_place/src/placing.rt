@@ -15,7 +15,7 @@ use crate::spreading::spread;
 use ge_opening::{any_forced, instance_order};
 use ge_queues::global_host;
 use ge_rows::{
-    Allocation, Cluster, Grant, Groups, HostRow, InstanceId, Job, List, PeRequest, TaskId,
+    Allocation, Cluster, Grant, Groups, HostRow, InstanceId, Job, List, PeRequest, TaskId, job_at,
 };
 use ge_timeline::Timeline;
 use ge_windows::{is_in_time, window_end_from};
@@ -168,7 +168,7 @@ pub fn place(
         placed.placement cluster.now groups.now (ordered.instance_order cluster.now groups.now)
         booked.now task from) }
 {
-    match cluster.jobs.get(&task.job) {
+    match job_at(&cluster.jobs, task.job) {
         None => Ok(None),
         Some(job) => {
             let order = instance_order(alloc, cluster, groups)?;

@@ -123,7 +123,8 @@ pub(crate) fn put_attr<T, P: Printer<T>>(
     printer: &P,
 ) -> Result<(), AllocError>
     ensures { OnOk result (lines.new
-        ≡ lines.old ++ printed_attribute attribute.now (attr_text (P.text printer.now) attr.now) ∷ []) }
+        ≡ lines.old ++ printed_attribute attribute.now (attr_text (P.text printer.now) attr.now)
+        ∷ []) }
 {
     let mut line = Text::from_bytes(alloc, attribute)?;
     line.push(b' ')?;

@@ -27,7 +27,8 @@ pub(crate) fn put(
     attribute: &[u8],
     value: &[u8],
 ) -> Result<(), AllocError>
-    ensures { OnOk result (lines.new ≡ lines.old ++ printed_attribute attribute.now value.now ∷ []) }
+    ensures { OnOk result (lines.new ≡ lines.old ++ printed_attribute attribute.now value.now
+        ∷ []) }
 {
     lines.push(attribute_line(alloc, attribute, value)?)
 }
@@ -39,7 +40,8 @@ pub(crate) fn put_number(
     attribute: &[u8],
     n: u64,
 ) -> Result<(), AllocError>
-    ensures { OnOk result (lines.new ≡ lines.old ++ printed_attribute attribute.now (decimal n) ∷ []) }
+    ensures { OnOk result (lines.new ≡ lines.old ++ printed_attribute attribute.now (decimal n)
+        ∷ []) }
 {
     let value = decimal_text(alloc, u128::from(n))?;
     put(alloc, lines, attribute, value.bytes())
@@ -52,7 +54,8 @@ pub(crate) fn put_fixed(
     attribute: &[u8],
     millionths: u64,
 ) -> Result<(), AllocError>
-    ensures { OnOk result (lines.new ≡ lines.old ++ printed_attribute attribute.now (fixed_text millionths) ∷ []) }
+    ensures { OnOk result (lines.new ≡ lines.old ++ printed_attribute attribute.now
+        (fixed_text millionths) ∷ []) }
 {
     let value = fixed_text(alloc, millionths)?;
     put(alloc, lines, attribute, value.bytes())
@@ -79,7 +82,8 @@ pub(crate) fn put_names(
     attribute: &[u8],
     names: &List<Text>,
 ) -> Result<(), AllocError>
-    ensures { OnOk result (lines.new ≡ lines.old ++ printed_attribute attribute.now (list_text names.now) ∷ []) }
+    ensures { OnOk result (lines.new ≡ lines.old ++ printed_attribute attribute.now
+        (list_text names.now) ∷ []) }
 {
     let value = join_list(alloc, names.items())?;
     put(alloc, lines, attribute, value.bytes())

@@ -28,12 +28,15 @@ pub fn status_of<S: Source, K: Sink, D: Disk, L: Door, C: Clock>(
     door: &mut L,
     clock: &mut C,
 ) -> u8
-    ensures usage { IfOk words (λ words. (result ≡ 2) ↔ (word_of (map string_bytes words.items) ≡ None)) }
-    ensures no_memory { IfErr words (λ error. error_kind error ≡ ErrorKind.OutOfMemory → result ≡ 10) }
+    ensures usage { IfOk words (λ words. (result ≡ 2) ↔ (word_of (map string_bytes words.items)
+        ≡ None)) }
+    ensures no_memory { IfErr words (λ error. error_kind error ≡ ErrorKind.OutOfMemory → result
+        ≡ 10) }
     ensures no_text { IfErr words (λ error. error_kind error ≢ ErrorKind.OutOfMemory → result ≡ 2) }
     ensures unread { IsErr words → input.new ≡ input.old }
     ensures unwritten { IsErr words → output.new ≡ output.old }
-    ensures alone { IsErr words → (a.new ≡ a.old) × (b.new ≡ b.old) × (door.new ≡ door.old) × (clock.new ≡ clock.old) }
+    ensures alone { IsErr words → (a.new ≡ a.old) × (b.new ≡ b.old) × (door.new ≡ door.old)
+        × (clock.new ≡ clock.old) }
 {
     match words {
         Ok(words) => gridmaster(alloc, &words, input, output, a, b, door, clock),

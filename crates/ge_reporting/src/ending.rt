@@ -65,7 +65,8 @@ fn accept_end(
     mem: u64,
     io: u64,
 ) -> Result<Planned, AllocError>
-    ensures { IfOk result (λ planned. planned ≡ changed e.now (End serial exit cpu mem io) done_lines) }
+    ensures { IfOk result (λ planned. planned ≡ changed e.now
+        (End serial exit cpu mem io) done_lines) }
 {
     match u32::try_from(exit) {
         Ok(exit) => done(alloc, e, Change::End(serial, exit, cpu, mem, io)),

@@ -25,7 +25,7 @@ fn has_free_job(jobs: &JobTable) -> bool
     ensures { result ≡ starting.is_joined jobs.now 0 }
 {
     for row in jobs.iter() {
-        if row.1.advance == 0 {
+        if row.1.job().advance == 0 {
             return true;
         }
     }

@@ -52,7 +52,8 @@ fn note_reported(
     faults: &mut Option<Refusal>,
 )
     requires { value.now ≡ reports.report_value cluster.now name.now text.now }
-    ensures { faults.new ≡ after_faults faults.old (report_faults cluster.now (name.now, text.now)) }
+    ensures { faults.new ≡ after_faults faults.old (report_faults cluster.now
+        (name.now, text.now)) }
 {
     if complex_at(cluster, name).is_none() {
         note(faults, true, Refusal::NoSuchObject);
@@ -78,7 +79,8 @@ fn add_reported(
     pair: &(Text, Text),
     faults: &mut Option<Refusal>,
 ) -> Result<(), AllocError>
-    ensures added { OnOk result (report.new ≡ reports.add_reported cluster.now report.old pair.now) }
+    ensures added { OnOk result (report.new
+        ≡ reports.add_reported cluster.now report.old pair.now) }
     ensures noted { OnOk result (faults.new
         ≡ after_faults faults.old (report_faults cluster.now pair.now)) }
 {

@@ -32,7 +32,8 @@ pub fn words_of_option<'a>(options: &'a Options, name: &[u8]) -> Option<&'a List
 
 /// The items of the words of an option, which commas part.
 pub(crate) fn items_of<'a>(alloc: Global, words: &'a [Text]) -> Result<Vec<&'a [u8]>, AllocError>
-    ensures { IfOk result (λ items. map (λ i. i.now) items.items ≡ flat_map (pieces_at 44) words.now) }
+    ensures { IfOk result (λ items. map (λ i. i.now) items.items
+        ≡ flat_map (pieces_at 44) words.now) }
 {
     let mut items = Vec::new(alloc);
     for word in words {

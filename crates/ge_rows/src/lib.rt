@@ -4,13 +4,14 @@
 //! - `values`: values, their kinds, the rows of the complex table.
 //! - `hosts`, `queues`, `quotas`, `people`, `settings`: what `qconf` configures.
 //! - `tasks`, `jobs`, `accounts`: jobs, their tasks and sets of tasks, accounting lines.
+//! - `job_row`: a job as the table of jobs keeps it.
 //! - `marks`, `labels`, `job_rows`, `plain_rows`: what a table keeps of its rows beside them.
 //! - `cluster`: all of these together; `opening_rows`: the cluster before the first command.
 //! - `scheduling`: limits, bookings and the decisions of a run.
 //! - `entries`: what an accepted command changes.
 //! - `events`, `commands`: what comes in, as it is read, and the replies.
 //!
-//! All fields are public but those of [`TaskSet`], whose spans keep one form. An empty text in place of a
+//! All fields are public but those of [`TaskSet`], whose spans keep one form, and of [`JobRow`]. An empty text in place of a
 //! project or of a parallel environment means none. Amounts are whole numbers: seconds, bytes, or millionths of
 //! a DOUBLE. Rows with many parts have a `Drop` of their own, so their parts are given by `into_parts`.
 #![tactic(auto)]
@@ -21,6 +22,7 @@ mod commands;
 mod entries;
 mod events;
 mod hosts;
+mod job_row;
 mod job_rows;
 mod jobs;
 mod labels;
@@ -46,6 +48,7 @@ pub use ge_collections::{
     Edit, List, Row, ShortRow, Shorts, Table, Text, TryEdit, Twin, twins2, twins3, twins4,
 };
 pub use hosts::{Groups, HostRow, InstanceId};
+pub use job_row::{InRow, JobRow, job_at};
 pub use job_rows::task_marks;
 pub use jobs::{Advance, Grant, Job, PeRequest, Request, Running};
 pub use labels::{JobFacts, JobKind, JobLabel};

@@ -13,7 +13,7 @@ use crate::renewing::renew;
 use crate::rests::{Room, room_at};
 use crate::setting::Setting;
 use crate::vacancy::no_slot_is_left;
-use ge_rows::{Decision, List, TaskId};
+use ge_rows::{Decision, List, TaskId, job_at};
 use ge_timeline::Timeline;
 use std::alloc::{AllocError, Global};
 use std::collections::BTreeSet;
@@ -75,7 +75,7 @@ fn is_shut(at: &Setting<'_>, so_far: &Progress, number: u32) -> bool
     ensures { IsTrue result → Waits at.now.cluster.now at.now.groups.now at.now.order.now
         at.now.moment so_far.now.booked so_far.now.decisions number }
 {
-    let Some(job) = at.cluster.jobs.get(&number) else {
+    let Some(job) = job_at(&at.cluster.jobs, number) else {
         return false;
     };
     if may_reserve(&at.cluster.sched, &so_far.tally, job) {

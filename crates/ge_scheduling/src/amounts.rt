@@ -9,7 +9,7 @@ ghost use Rattle.ge_scheduling.specs.Amounts.{least_asked as least_in_jobs, IsLe
 use crate::setting::Setting;
 use ge_complex::{amount_in, complex_at, is_consumable};
 use ge_pieces::is_word;
-use ge_rows::{Cluster, ComplexDef, Job, Table, Text, Twin, Value};
+use ge_rows::{Cluster, ComplexDef, JobRow, Table, Text, Twin, Value};
 use std::alloc::{AllocError, Global};
 
 /// No job asks less of a value for one slot, by the value's name.
@@ -31,12 +31,12 @@ fn asked_amount(complex: &ComplexDef, asked: Option<&Value>) -> u64
 }
 
 // The walk ends at a job that asks for nothing.
-fn least_asked(jobs: &Table<u32, Job>, complex: &ComplexDef, name: &Text) -> u64
+fn least_asked(jobs: &Table<u32, JobRow>, complex: &ComplexDef, name: &Text) -> u64
     ensures { result ≤ least_in_jobs complex.now name.now jobs.now }
 {
     let mut least = u64::MAX;
-    for (_number, job) in jobs.iter() {
-        least = least.min(asked_amount(complex, job.request.asked.get(name)));
+    for (_number, row) in jobs.iter() {
+        least = least.min(asked_amount(complex, row.job().request.asked.get(name)));
         if least == 0 {
             return 0;
         }

@@ -10,7 +10,7 @@ use crate::vacancy::{no_slot_is_left, vacant_instances};
 use ge_hosts::expand;
 use ge_opening::{any_forced, instance_order};
 use ge_queues::global_host;
-use ge_rows::{Cluster, Groups, InstanceId, Job, List, Table};
+use ge_rows::{Cluster, Groups, InstanceId, JobRow, List, Table};
 use ge_timeline::Timeline;
 use std::alloc::{AllocError, Global};
 use std::collections::BTreeMap;
@@ -60,11 +60,11 @@ pub fn basis_of(alloc: Global, cluster: &Cluster, now: u64) -> Result<Basis, All
 }
 
 // Whether some job asks for slots to be kept for it.
-fn one_asks(jobs: &Table<u32, Job>) -> bool
+fn one_asks(jobs: &Table<u32, JobRow>) -> bool
     ensures { result ≡ list_any asks_to_keep jobs.now }
 {
-    for (_number, job) in jobs.iter() {
-        if job.reserve {
+    for (_number, row) in jobs.iter() {
+        if row.job().reserve {
             return true;
         }
     }

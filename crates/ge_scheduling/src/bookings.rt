@@ -5,7 +5,7 @@ ghost use Rattle.ge_model_place.specs.Running.{booking_at, booked_by};
 ghost use Rattle.ge_model_place.specs.Windows.{base_bookings as base};
 
 use crate::setting::Setting;
-use ge_rows::{Decision, Grant, List, TaskId};
+use ge_rows::{Decision, Grant, List, TaskId, job_at};
 use ge_timeline::Timeline;
 use ge_windows::{base_bookings, booking};
 use std::alloc::{AllocError, Global};
@@ -28,10 +28,11 @@ fn book_task(
     grants: &List<Grant>,
     from: u64,
 ) -> Result<(), AllocError>
-    ensures { OnOk result (booked.new ≡ booked.old ++ booking_at at.now.cluster.now at.now.groups.now
+    ensures { OnOk result (booked.new ≡ booked.old
+        ++ booking_at at.now.cluster.now at.now.groups.now
         (at_number at.now.cluster.now.jobs task.job) task grants.now from) }
 {
-    match at.cluster.jobs.get(&task.job) {
+    match job_at(&at.cluster.jobs, task.job) {
         Some(job) => {
             let b = booking(
                 alloc,

@@ -10,7 +10,7 @@ use crate::setting::Setting;
 use ge_complex::is_consumable;
 use ge_pieces::is_word;
 use ge_queues::at_host;
-use ge_rows::{Cluster, HostRow, InstanceId, Job, List, QueueRow, Table, Text, Twin, Value};
+use ge_rows::{Cluster, HostRow, InstanceId, JobRow, List, QueueRow, Table, Text, Twin, Value};
 use std::alloc::{AllocError, Global};
 
 fn names(values: &Table<Text, Value>, name: &Text) -> bool
@@ -19,11 +19,11 @@ fn names(values: &Table<Text, Value>, name: &Text) -> bool
     values.get(name).is_some()
 }
 
-fn all_ask(jobs: &Table<u32, Job>, name: &Text) -> bool
+fn all_ask(jobs: &Table<u32, JobRow>, name: &Text) -> bool
     ensures { result ≡ list_all (asks_itself name.now) jobs.now }
 {
-    for (_number, job) in jobs.iter() {
-        if !names(&job.request.asked, name) {
+    for (_number, row) in jobs.iter() {
+        if !names(&row.job().request.asked, name) {
             return false;
         }
     }

@@ -5,7 +5,7 @@ ghost use Rattle.ge_model_rows.specs.DecisionRows.{Decision as Decided};
 ghost use Rattle.ge_model_place.specs.Running.{belongs_to, running_in};
 ghost use Rattle.ge_scheduling.specs.Counts.{count_at, is_over, may_be_reserved, IsTallied, IsCounted, StartsOf};
 
-use ge_rows::{Cluster, Decision, Job, Sched, Table, Text, Twin};
+use ge_rows::{Cluster, Decision, Job, Sched, Table, Text, Twin, job_at};
 use std::alloc::{AllocError, Global};
 
 /// What is counted of the decisions so far.
@@ -68,8 +68,8 @@ fn count_all(alloc: Global, cluster: &Cluster) -> Result<Table<Text, u64>, Alloc
         ≡ sum_by (running_in q) cluster.now.jobs) }
 {
     let mut running = Table::new(alloc);
-    for (_number, job) in cluster.jobs.iter() {
-        count_job(alloc, &mut running, job)?;
+    for (_number, row) in cluster.jobs.iter() {
+        count_job(alloc, &mut running, row.job())?;
     }
     Ok(running)
 }
@@ -122,7 +122,7 @@ fn raise_owner(
     ensures { OnOk result ((q : Items ℕ) → count_at running.new q ≡ count_at running.old q
         + cond (belongs_to q (at_number cluster.now.jobs number)) 1 0) }
 {
-    match cluster.jobs.get(&number) {
+    match job_at(&cluster.jobs, number) {
         Some(job) => raise(alloc, running, &job.owner, 1),
         None => Ok(()),
     }

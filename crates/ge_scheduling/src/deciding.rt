@@ -18,7 +18,7 @@ use crate::rests::{Room, is_before};
 use crate::setting::Setting;
 use crate::vacancy::goes_on;
 use ge_limits::LAST_SERIAL;
-use ge_rows::{Decision, Grant, Job, List, Start, TaskId};
+use ge_rows::{Decision, Grant, Job, List, Start, TaskId, job_at};
 use ge_timeline::Timeline;
 use ge_windows::window_end_from;
 use std::alloc::{AllocError, Global};
@@ -169,7 +169,7 @@ pub(crate) fn decision(
     ensures left { OnOk result (AreLeft at.now.cluster.now at.now.groups.now at.now.moment
         booked.now at.now.order.now room.new) }
 {
-    match at.cluster.jobs.get(&task.job) {
+    match job_at(&at.cluster.jobs, task.job) {
         Some(job) => decision_for(alloc, at, booked, tally, room, at_once, job, task),
         None => Ok(Decision::Skip(task)),
     }

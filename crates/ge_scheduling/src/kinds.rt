@@ -6,7 +6,7 @@ ghost use Rattle.std.specs.Option.{option_copied};
 ghost use Rattle.ge_collections.specs.Keyed.{at_number};
 ghost use Rattle.ge_scheduling.specs.KindNotes.{kind_in, TellKinds, is_noted as noted_in, noted_with, kind_alone, kind_after};
 
-use ge_rows::{Cluster, Decision, Job, JobFacts, ShortRow};
+use ge_rows::{Cluster, Decision, Job, JobFacts, ShortRow, job_at};
 use std::alloc::AllocError;
 use std::collections::{BTreeMap, BTreeSet};
 
@@ -60,7 +60,7 @@ fn kind_to_note(cluster: &Cluster, kinds: &Kinds, number: u32, decision: &Decisi
         (kind_in kinds.now.entries number) }
 {
     match decision {
-        Decision::Skip(_) => kind_of_alone(kinds, cluster.jobs.get(&number), number),
+        Decision::Skip(_) => kind_of_alone(kinds, job_at(&cluster.jobs, number), number),
         Decision::Start(_) | Decision::Reserve(_) => None,
     }
 }

@@ -202,8 +202,8 @@ fn shortest_end(at: &Setting<'_>) -> u64
     ensures { result ≤ shortest_end_of at.now.cluster.now at.now.moment }
 {
     let mut end = u64::MAX;
-    for (_number, job) in at.cluster.jobs.iter() {
-        end = end.min(window_end_from(at.cluster, job, at.moment));
+    for (_number, row) in at.cluster.jobs.iter() {
+        end = end.min(window_end_from(at.cluster, row.job(), at.moment));
         if end <= at.moment.saturating_add(1) {
             return 0;
         }

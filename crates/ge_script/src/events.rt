@@ -30,7 +30,8 @@ fn event_with_header(
     header: Option<Header<'_>>,
     texts: &[u8],
 ) -> Result<Event, AllocError>
-    ensures { IfOk result (λ event. event ≡ with_header (says_header header.entry) (lines_of texts.now)) }
+    ensures { IfOk result (λ event. event ≡ with_header (says_header header.entry)
+        (lines_of texts.now)) }
 {
     match header {
         None => Ok(unread_event(alloc, Form::BadHeader)),
@@ -62,7 +63,8 @@ pub fn read_event(alloc: Global, request: &[u8]) -> Result<Event, AllocError>
 /// The bytes of the first request of a script and those of the script after it, or nothing where the script is empty.
 #[tactic(auto, unfolding(ge_model_script::specs::Events::events_of))]
 pub fn next_request(script: &[u8]) -> Option<(&[u8], &[u8])>
-    ensures events { MatchOption result (events_of script.now ≡ []) (λ parts. events_of script.now ≡ event_of parts.0.now ∷ events_of parts.1.now) }
+    ensures events { MatchOption result (events_of script.now ≡ []) (λ parts. events_of script.now
+        ≡ event_of parts.0.now ∷ events_of parts.1.now) }
     ensures shorter { IfSome result (λ parts. length parts.1.now < length script.now) }
 {
     if script.is_empty() {

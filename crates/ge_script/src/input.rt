@@ -53,13 +53,17 @@ pub(crate) fn read_more<S: Source>(
     bytes: &mut Vec<u8>,
 ) -> Result<bool, ScriptFault>
     requires { 0 < length chunk.old }
-    ensures moved { IfOk result (λ some. Moved (S.rest input.old) (S.rest input.new) bytes.old.items bytes.new.items) }
-    ensures kept { IfOk result (λ some. take (length bytes.old.items) bytes.new.items ≡ bytes.old.items) }
-    ensures more { IfOk result (λ some. MatchBool some (vec_len bytes.old < vec_len bytes.new) (vec_len bytes.new ≡ vec_len bytes.old)) }
+    ensures moved { IfOk result (λ some. Moved (S.rest input.old)
+        (S.rest input.new) bytes.old.items bytes.new.items) }
+    ensures kept { IfOk result (λ some. take (length bytes.old.items) bytes.new.items
+        ≡ bytes.old.items) }
+    ensures more { IfOk result (λ some. MatchBool some (vec_len bytes.old
+        < vec_len bytes.new) (vec_len bytes.new ≡ vec_len bytes.old)) }
     ensures few { IfOk result (λ some. vec_len bytes.new ≤ vec_len bytes.old + length chunk.old) }
     ensures ended { IfOk result (λ some. MatchBool some ⊤ (IsReadToEnd (S.rest input.new))) }
     ensures later { S.read_faults input.old ≤ S.read_faults input.new }
-    ensures fault { IsErrOf result ScriptFault.Read → Rose (S.read_faults input.old) (S.read_faults input.new) }
+    ensures fault { IsErrOf result ScriptFault.Read
+        → Rose (S.read_faults input.old) (S.read_faults input.new) }
     ensures long { IsErrOf result ScriptFault.Long → ⊥ }
 {
     let count = input.read(chunk)?;
@@ -71,12 +75,15 @@ pub(crate) fn read_more<S: Source>(
 /// All the bytes of a script. `Read` comes only where a read failed, and `Long` only where [`SCRIPT_BYTES`] bytes were
 /// read and the end was not.
 pub fn read_script<S: Source>(alloc: Global, input: &mut S) -> Result<Vec<u8>, ScriptFault>
-    ensures whole { IfOk result (λ bytes. IfSome (S.rest input.old) (λ script. bytes.items ≡ script)) }
+    ensures whole { IfOk result (λ bytes. IfSome (S.rest input.old) (λ script. bytes.items
+        ≡ script)) }
     ensures below { IfOk result (λ bytes. vec_len bytes < script_bytes) }
     ensures ended { OnOk result (IsReadToEnd (S.rest input.new)) }
-    ensures long { IsErrOf result ScriptFault.Long → IfSome (S.rest input.old) (λ script. script_bytes ≤ length script) }
+    ensures long { IsErrOf result ScriptFault.Long
+        → IfSome (S.rest input.old) (λ script. script_bytes ≤ length script) }
     ensures later { S.read_faults input.old ≤ S.read_faults input.new }
-    ensures fault { IsErrOf result ScriptFault.Read → Rose (S.read_faults input.old) (S.read_faults input.new) }
+    ensures fault { IsErrOf result ScriptFault.Read
+        → Rose (S.read_faults input.old) (S.read_faults input.new) }
 {
     let mut bytes = Vec::new(alloc);
     let mut chunk = new_chunk(alloc)?;

@@ -47,7 +47,8 @@ fn ends_here(bytes: &[u8]) -> bool
 // The first place from `from` on at which a request ends, or at least `limit`.
 fn first_end(bytes: &[u8], from: usize, limit: usize) -> usize
     requires { limit ≤ length bytes.now }
-    ensures passed { (k : ℕ) → from ≤ k → k < result → (k < limit) × (ends_request (drop k bytes.now) ≡ false) }
+    ensures passed { (k : ℕ) → from ≤ k → k < result → (k < limit)
+        × (ends_request (drop k bytes.now) ≡ false) }
     ensures found { result < limit → ends_request (drop result bytes.now) ≡ true }
 {
     let mut at = from;
@@ -69,10 +70,12 @@ fn whole_len(bytes: &[u8], passed: &mut usize, ended: bool) -> Option<usize>
     requires { HasPassed passed.old bytes.now }
     ensures taken { IfSome result (λ n. (0 < n) × (n ≤ length bytes.now)) }
     ensures first { IfSome result (λ n. (more : List ℕ) → (ended ≡ true → more ≡ [])
-        → requests_of (bytes.now ++ more) ≡ take n bytes.now ∷ requests_of (drop n bytes.now ++ more)) }
+        → requests_of (bytes.now ++ more) ≡ take n bytes.now ∷ requests_of (drop n bytes.now
+        ++ more)) }
     ensures passed { HasPassed passed.new bytes.now }
     ensures none { MatchOption result (ended ≡ true → bytes.now ≡ []) (λ n. 0 ≤ n) }
-    ensures looked { MatchOption result (ended ≡ false → length bytes.now ≤ passed.new + 2) (λ n. 0 ≤ n) }
+    ensures looked { MatchOption result (ended ≡ false → length bytes.now ≤ passed.new + 2) (λ n. 0
+        ≤ n) }
 {
     if bytes.is_empty() {
         return None;
@@ -108,9 +111,11 @@ fn drop_given(bytes: &mut Vec<u8>, start: &mut usize)
 impl Script {
     /// A script of which nothing was read.
     pub fn new(alloc: Global) -> Result<Script, AllocError>
-        ensures coming { IfOk result (λ script. (rest : Option (List ℕ)) → coming script rest ≡ option_map events_of rest) }
+        ensures coming { IfOk result (λ script. (rest : Option (List ℕ)) → coming script rest
+            ≡ option_map events_of rest) }
         ensures over { IfOk result (λ script. (rest : Option (List ℕ)) → IsOver script rest) }
-        ensures total { IfOk result (λ script. (rest : Option (List ℕ)) → total_count script rest ≡ option_map length rest) }
+        ensures total { IfOk result (λ script. (rest : Option (List ℕ)) → total_count script rest
+            ≡ option_map length rest) }
     {
         let chunk = new_chunk(alloc)?;
         Ok(Script {
@@ -135,7 +140,8 @@ impl Script {
         ensures count { read_count self.new ≡ read_count self.old }
         ensures given { given_count self.old ≤ given_count self.new }
         ensures short { self.new.passed ≤ text_bytes }
-        ensures looked { length (held self.old) ≤ self.old.passed + 2 → length (held self.new) ≤ self.new.passed + 2 }
+        ensures looked { length (held self.old) ≤ self.old.passed + 2 → length (held self.new)
+            ≤ self.new.passed + 2 }
         ensures chunk { self.new.chunk ≡ self.old.chunk }
     {
         if self.passed <= TEXT_BYTES {
@@ -151,16 +157,21 @@ impl Script {
     fn read_on<S: Source>(&mut self, s: &mut S) -> Result<(), ScriptFault>
         requires over { IsOver self.old (S.rest s.old) }
         requires looked { length (held self.old) ≤ self.old.passed + 2 }
-        ensures coming { OnOk result (coming self.new (S.rest s.new) ≡ coming self.old (S.rest s.old)) }
+        ensures coming { OnOk result (coming self.new (S.rest s.new)
+            ≡ coming self.old (S.rest s.old)) }
         ensures over { OnOk result (IsOver self.new (S.rest s.new)) }
         ensures given { given_count self.old ≤ given_count self.new }
-        ensures total { OnOk result (total_count self.new (S.rest s.new) ≡ total_count self.old (S.rest s.old)) }
-        ensures more { OnOk result (self.new.ended ≡ false → read_count self.old < read_count self.new) }
+        ensures total { OnOk result (total_count self.new (S.rest s.new)
+            ≡ total_count self.old (S.rest s.old)) }
+        ensures more { OnOk result (self.new.ended ≡ false → read_count self.old
+            < read_count self.new) }
         ensures grows { OnOk result (read_count self.old ≤ read_count self.new) }
         ensures long { IsErrOf result ScriptFault.Long → script_bytes ≤ read_count self.new }
-        ensures long_total { IsErrOf result ScriptFault.Long → total_count self.new (S.rest s.new) ≡ total_count self.old (S.rest s.old) }
+        ensures long_total { IsErrOf result ScriptFault.Long → total_count self.new (S.rest s.new)
+            ≡ total_count self.old (S.rest s.old) }
         ensures later { S.read_faults s.old ≤ S.read_faults s.new }
-        ensures fault { IsErrOf result ScriptFault.Read → Rose (S.read_faults s.old) (S.read_faults s.new) }
+        ensures fault { IsErrOf result ScriptFault.Read
+            → Rose (S.read_faults s.old) (S.read_faults s.new) }
     {
         self.skip_excess();
         drop_given(&mut self.bytes, &mut self.start);
@@ -177,14 +188,19 @@ impl Script {
     /// were read and the end was not.
     pub fn next<S: Source>(&mut self, s: &mut S) -> Result<Option<Event>, ScriptFault>
         requires { IsOver self.old (S.rest s.old) }
-        ensures next { IfOk result (λ next. GivesNext (coming self.old (S.rest s.old)) (coming self.new (S.rest s.new)) next) }
+        ensures next { IfOk result (λ next. GivesNext (coming self.old (S.rest s.old))
+            (coming self.new (S.rest s.new)) next) }
         ensures over { OnOk result (IsOver self.new (S.rest s.new)) }
-        ensures goes_on { IfOk result (λ next. MatchOption next (IsReadToEnd (S.rest s.new)) (λ event. given_count self.old < given_count self.new)) }
-        ensures total { OnOk result (total_count self.new (S.rest s.new) ≡ total_count self.old (S.rest s.old)) }
+        ensures goes_on { IfOk result (λ next. MatchOption next (IsReadToEnd (S.rest s.new))
+            (λ event. given_count self.old < given_count self.new)) }
+        ensures total { OnOk result (total_count self.new (S.rest s.new)
+            ≡ total_count self.old (S.rest s.old)) }
         ensures long { IsErrOf result ScriptFault.Long → script_bytes ≤ read_count self.new }
-        ensures long_total { IsErrOf result ScriptFault.Long → total_count self.new (S.rest s.new) ≡ total_count self.old (S.rest s.old) }
+        ensures long_total { IsErrOf result ScriptFault.Long → total_count self.new (S.rest s.new)
+            ≡ total_count self.old (S.rest s.old) }
         ensures later { S.read_faults s.old ≤ S.read_faults s.new }
-        ensures fault { IsErrOf result ScriptFault.Read → Rose (S.read_faults s.old) (S.read_faults s.new) }
+        ensures fault { IsErrOf result ScriptFault.Read
+            → Rose (S.read_faults s.old) (S.read_faults s.new) }
     {
         'reading: loop {
             let bytes = bytes_from(self.bytes.as_slice(), self.start);

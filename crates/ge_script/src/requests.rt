@@ -20,7 +20,8 @@ pub(crate) fn request_len(bytes: &[u8]) -> usize
     requires { 0 < length bytes.now }
     ensures taken { 0 < result }
     ensures within { result ≤ length bytes.now }
-    ensures first { requests_of bytes.now ≡ take result bytes.now ∷ requests_of (drop result bytes.now) }
+    ensures first { requests_of bytes.now ≡ take result bytes.now
+        ∷ requests_of (drop result bytes.now) }
 {
     let mut end = line_len(bytes);
     while end < bytes.len() && !begins_request(bytes_from(bytes, end)) {

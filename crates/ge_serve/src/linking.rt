@@ -56,7 +56,8 @@ pub fn serve_link<D: Disk, N: Link, C: Clock>(
         (areas_of D.told D.syncs D.disk_faults a.new b.new)
         bytes answers (N.written link.old) (N.written link.new) (C.answers clock.new) result) }
     ensures home { IsHome (parts_of m.old) (areas_of D.told D.syncs D.disk_faults a.old b.old)
-        → OnOk result (IsHome (parts_of m.new) (areas_of D.told D.syncs D.disk_faults a.new b.new)) }
+        → OnOk result (IsHome (parts_of m.new)
+        (areas_of D.told D.syncs D.disk_faults a.new b.new)) }
     ensures blames { LinkBlames result
         (Rose (N.read_faults link.old) (N.read_faults link.new))
         (Rose (N.write_faults link.old) (N.write_faults link.new))

@@ -41,13 +41,15 @@ fn serve_next<D: Disk, L: Door, C: Clock>(
     requires going { is_stopping m.old ≡ false }
     requires length { HasLength m.old (D.told a.old) (D.told b.old) }
     ensures served { OnOk result (
-        OnDoor (L.coming door.old) (L.closed door.old) (C.answers clock.old) (λ coming closed answers.
+        OnDoor (L.coming door.old) (L.closed door.old) (C.answers clock.old)
+        (λ coming closed answers.
         OneServed plan_of (parts_of m.old) (parts_of m.new)
         (areas_of D.told D.syncs D.disk_faults a.old b.old)
         (areas_of D.told D.syncs D.disk_faults a.new b.new)
         coming closed answers (L.coming door.new) (L.closed door.new) (C.answers clock.new))) }
     ensures unserved { IfErr result (λ fault.
-        OnDoor (L.coming door.old) (L.closed door.old) (C.answers clock.old) (λ coming closed answers.
+        OnDoor (L.coming door.old) (L.closed door.old) (C.answers clock.old)
+        (λ coming closed answers.
         NoneAccepted (parts_of m.old) (parts_of m.new)
         (areas_of D.told D.syncs D.disk_faults a.old b.old)
         (areas_of D.told D.syncs D.disk_faults a.new b.new)
@@ -56,7 +58,8 @@ fn serve_next<D: Disk, L: Door, C: Clock>(
         (areas_of D.told D.syncs D.disk_faults a.old b.old)
         (areas_of D.told D.syncs D.disk_faults a.new b.new)
         coming closed answers (L.coming door.new) (L.closed door.new) fault)) }
-    ensures home { OnOk result (IsHome (parts_of m.old) (areas_of D.told D.syncs D.disk_faults a.old b.old)
+    ensures home { OnOk result (IsHome (parts_of m.old)
+        (areas_of D.told D.syncs D.disk_faults a.old b.old)
         → IsHome (parts_of m.new) (areas_of D.told D.syncs D.disk_faults a.new b.new)) }
     ensures lives { OnOk result (is_gone m.new ≡ false) }
     ensures length { HasLength m.new (D.told a.new) (D.told b.new) }

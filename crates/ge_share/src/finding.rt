@@ -103,7 +103,8 @@ fn add_scopes(
     name: &Text,
     projects: &[u32],
 ) -> Result<(), AllocError>
-    ensures { OnOk result (leaves.new ≡ fold (λ more other. with_leaf id name.now more (scope_of_project other)) leaves.old projects.now) }
+    ensures { OnOk result (leaves.new ≡ fold (λ more other. with_leaf id name.now more
+        (scope_of_project other)) leaves.old projects.now) }
 {
     for project in projects {
         add_leaf(alloc, leaves, id, name, scope_below(*project))?;

@@ -55,7 +55,8 @@ fn add_weight(
     sums: &Amounts,
     node: &Node<'_>,
 ) -> Result<(), AllocError>
-    ensures { OnOk result (weights.new ≡ weight_with usage.now jobs.now sums.now weights.old node.now) }
+    ensures { OnOk result (weights.new ≡ weight_with usage.now jobs.now sums.now weights.old
+        node.now) }
 {
     let weight = weight_of(usage, jobs, sums, node);
     weights.insert(node.id(), weight)?;

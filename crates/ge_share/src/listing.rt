@@ -11,7 +11,7 @@ use crate::finding::{LeafFinder, leaf_of, line_up, prepare};
 use crate::leveling::divide_tickets;
 use crate::walking::{Walk, walk_tree};
 use ge_base::sum_of;
-use ge_rows::{Cluster, List, Table, Text};
+use ge_rows::{Cluster, List, Table, Text, job_at};
 use std::alloc::{AllocError, Global};
 
 // Whether the usage that is summed up is that of a row's user and project.
@@ -29,7 +29,8 @@ fn add_usages(
     finder: &LeafFinder,
     now_epoch: u64,
 ) -> Result<Table<u32, u128>, AllocError>
-    ensures { IfOk result (λ usage. usage ≡ fold (with_usage_by now_epoch finder.now) [] c.now.usage) }
+    ensures { IfOk result (λ usage. usage ≡ fold (with_usage_by now_epoch finder.now)
+        [] c.now.usage) }
 {
     let mut usage = Table::new(alloc);
     let mut begun = false;
@@ -75,7 +76,7 @@ fn add_job(
 ) -> Result<(), AllocError>
     ensures { OnOk result (jobs.new ≡ with_number c.now finder.now jobs.old number) }
 {
-    match c.jobs.get(&number) {
+    match job_at(&c.jobs, number) {
         None => Ok(()),
         Some(job) => {
             let line = line_up(alloc, finder, &job.owner, &job.project)?;
@@ -116,9 +117,10 @@ fn tickets_at(
     jobs: &Table<u32, u128>,
     number: u32,
 ) -> Result<u64, AllocError>
-    ensures { IfOk result (λ own. own ≡ number_tickets c.now finder.now tickets.now jobs.now number) }
+    ensures { IfOk result (λ own. own
+        ≡ number_tickets c.now finder.now tickets.now jobs.now number) }
 {
-    match c.jobs.get(&number) {
+    match job_at(&c.jobs, number) {
         None => Ok(0),
         Some(job) => {
             let leaf = leaf_of(alloc, finder, &job.owner, &job.project)?;
@@ -135,7 +137,8 @@ fn list_tickets(
     jobs: &Table<u32, u128>,
     numbers: &[u32],
 ) -> Result<List<u64>, AllocError>
-    ensures { IfOk result (λ list. list ≡ map (number_tickets c.now finder.now tickets.now jobs.now) numbers.now) }
+    ensures { IfOk result (λ list. list ≡ map (number_tickets c.now finder.now tickets.now jobs.now)
+        numbers.now) }
 {
     let mut list = List::new(alloc);
     for number in numbers {

@@ -22,7 +22,12 @@ impl<'a> Model for Node<'a> {
 
     ghost Value = { Entered };
 
-    ghost view = { λ n. record { id = n.id; row = n.row.now; above = n.above; projects = n.projects } };
+    ghost view = { λ n. record {
+      id = n.id;
+      row = n.row.now;
+      above = n.above;
+      projects = n.projects;
+    } };
 }
 
 impl<'a> Node<'a> {

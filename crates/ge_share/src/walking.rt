@@ -39,7 +39,8 @@ fn put_node<'a>(
     above: &[u32],
     projects: &[u32],
 ) -> Result<(), AllocError>
-    ensures { OnOk result (walk.new ≡ with_line walk.old (entered id row.now above.now projects.now)) }
+    ensures { OnOk result (walk.new ≡ with_line walk.old
+        (entered id row.now above.now projects.now)) }
 {
     let line = led_by(alloc, id, above)?;
     let above = copy_of(alloc, above)?;

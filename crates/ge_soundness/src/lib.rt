@@ -34,16 +34,23 @@ ghost use Rattle.ge_model_core.specs.Trace.{cluster_after};
 /// rising number, as the tables and sets of a program do.
 pub fn sound_clusters_stay_sound()
     ensures opening { IsSound opening_cluster × IsOrdered opening_cluster }
-    ensures entries { (c : Cluster) (e : Event) → IsSound c → IsOrdered c → IfSome (plan_of c e).entry (λ entry. IsSound (after_entry c entry) × IsOrdered (after_entry c entry)) }
-    ensures traces { (events : List Event) (marks : List Bool) → IsSound (cluster_after plan_of opening_cluster events marks) × IsOrdered (cluster_after plan_of opening_cluster events marks) }
+    ensures entries { (c : Cluster) (e : Event) → IsSound c → IsOrdered c
+        → IfSome (plan_of c e).entry (λ entry. IsSound (after_entry c entry)
+        × IsOrdered (after_entry c entry)) }
+    ensures traces { (events : List Event) (marks : List Bool)
+        → IsSound (cluster_after plan_of opening_cluster events marks)
+        × IsOrdered (cluster_after plan_of opening_cluster events marks) }
 {}
 
 /// Every event is accepted, with code 0, or refused: then it has no entry, and the master goes on. So from any cluster
 /// a trace that begins with a refused event leaves what the rest of it leaves.
 pub fn refused_events_change_nothing()
-    ensures answers { (c : Cluster) (e : Event) → ((plan_of c e).reply.code ≡ 0) ⊎ ((refusal : Refusal) × (plan_of c e ≡ refused refusal)) }
-    ensures traces { (c : Cluster) (e : Event) (events : List Event) (mark : Bool) (marks : List Bool) → (plan_of c e).reply.code ≢ 0
-        → cluster_after plan_of c (e ∷ events) (mark ∷ marks) ≡ cluster_after plan_of c events marks }
+    ensures answers { (c : Cluster) (e : Event) → ((plan_of c e).reply.code
+        ≡ 0) ⊎ ((refusal : Refusal) × (plan_of c e ≡ refused refusal)) }
+    ensures traces { (c : Cluster) (e : Event) (events : List Event) (mark : Bool)
+        (marks : List Bool) → (plan_of c e).reply.code ≢ 0
+        → cluster_after plan_of c (e ∷ events) (mark ∷ marks)
+        ≡ cluster_after plan_of c events marks }
 {}
 
 /// What an accepted `qrsub` is granted takes no limit over what there is: where the plan of an event in a sound cluster
@@ -52,6 +59,9 @@ pub fn refused_events_change_nothing()
 /// booked before it.
 pub fn granted_reservations_keep_limits()
     ensures { (c : Cluster) (e : Event) (advance : Advance)
-        → IsSound c → (plan_of c e).entry ≡ Some (record { moment = e.moment; change = Book advance })
+        → IsSound c → (plan_of c e).entry ≡ Some (record {
+          moment = e.moment;
+          change = Book advance;
+        })
         → KeepsBeside c e.moment c.next_advance advance }
 {}

@@ -78,7 +78,8 @@ fn is_booked_for(name: &Text, booked: Option<&Advance>) -> bool
 
 // Whether a parallel environment is given that isn't the reservation's.
 fn is_other_pe(booked: Option<&Advance>, name: Option<&Text>) -> bool
-    ensures { result ≡ advances.is_other_pe (option_copied booked.entry) (option_copied name.entry) }
+    ensures { result ≡ advances.is_other_pe (option_copied booked.entry)
+        (option_copied name.entry) }
 {
     match name {
         None => false,
@@ -113,7 +114,8 @@ pub(crate) fn note_advance(
     faults: &mut Option<Refusal>,
 )
     requires { asked.now ≡ (request_of c.now options.now.items nothing_asked).0 }
-    ensures { faults.new ≡ after_faults faults.old (advances.advance_faults c.now options.now.items (option_copied booked.entry)) }
+    ensures { faults.new ≡ after_faults faults.old (advances.advance_faults c.now options.now.items
+        (option_copied booked.entry)) }
 {
     note(
         faults,
@@ -134,7 +136,8 @@ fn note_joined(
     faults: &mut Option<Refusal>,
 )
     requires { asked.now ≡ (request_of c.now options.now.items nothing_asked).0 }
-    ensures { faults.new ≡ after_faults faults.old (advances.joined_faults c.now e.now options.now.items (option_copied booked.entry)) }
+    ensures { faults.new ≡ after_faults faults.old
+        (advances.joined_faults c.now e.now options.now.items (option_copied booked.entry)) }
 {
     match booked {
         None => note(faults, true, Refusal::NoSuchObject),
@@ -155,7 +158,8 @@ pub(crate) fn note_join(
     faults: &mut Option<Refusal>,
 )
     requires { asked.now ≡ (request_of c.now options.now.items nothing_asked).0 }
-    ensures { faults.new ≡ after_faults faults.old (advances.join_faults c.now e.now options.now.items) }
+    ensures { faults.new ≡ after_faults faults.old
+        (advances.join_faults c.now e.now options.now.items) }
 {
     if has_option(options, b"-ar") {
         note_joined(

@@ -23,7 +23,7 @@ use ge_base::Refusal;
 use ge_options::{WideRange, has_option};
 use ge_pieces::{is_same, note};
 use ge_request::request_over;
-use ge_rows::{Change, Cluster, Event, Job, List, Options, Patch, Planned, Text};
+use ge_rows::{Change, Cluster, Event, Job, List, Options, Patch, Planned, Text, job_at};
 use std::alloc::{AllocError, Global};
 
 fn holder_of(job: &Job) -> Holder<'_>
@@ -110,7 +110,7 @@ fn note_number(
     ensures { OnOk result (faults.new
         ≡ after_faults faults.old (alter_faults c.now e.now options.now.items number)) }
 {
-    match c.jobs.get(&number) {
+    match job_at(&c.jobs, number) {
         None => {
             note(faults, true, Refusal::NoSuchObject);
             Ok(())
@@ -165,7 +165,7 @@ fn patch_of_number(
 ) -> Result<Option<(u32, Patch)>, AllocError>
     ensures { IfOk result (λ patch. patch ≡ patch_at c.now options.now.items number) }
 {
-    match c.jobs.get(&number) {
+    match job_at(&c.jobs, number) {
         None => Ok(None),
         Some(job) => {
             let patch = patch_of_job(alloc, c, e, options, job)?;

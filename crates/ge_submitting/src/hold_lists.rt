@@ -18,7 +18,7 @@ use crate::owners::{Names, own_jobs};
 use ge_base::Refusal;
 use ge_options::WideRange;
 use ge_pieces::{has_digits, note, slices_at};
-use ge_rows::{Cluster, Job, List, Options, Text};
+use ge_rows::{Cluster, Job, List, Options, Text, job_at};
 use ge_text::matches;
 use std::alloc::{AllocError, Global};
 use std::marker::Model;
@@ -42,7 +42,8 @@ impl<'a> Model for OwnJobs<'a> {
 
     ghost view = { λ o. (o.cluster.now, o.owner.now) };
 
-    ghost invariant = { λ o. ForSome o.named (λ named. named_shown named.entries ≡ jobs_of_owner o.cluster.now.jobs o.owner.now) };
+    ghost invariant = { λ o. ForSome o.named (λ named. named_shown named.entries
+        ≡ jobs_of_owner o.cluster.now.jobs o.owner.now) };
 }
 
 // Lists those of some jobs whose names a pattern stands for.
@@ -128,9 +129,11 @@ impl<'a> OwnJobs<'a> {
 
     // The number that digits are, where a job has had it.
     fn number_had(&self, digits: &[u8]) -> Option<u32>
-        ensures none { IfNone result ((number_of digits.now == 0 || nat_le self.now.0.next_job (number_of digits.now)) ≡ true) }
+        ensures none { IfNone result ((number_of digits.now == 0
+            || nat_le self.now.0.next_job (number_of digits.now)) ≡ true) }
         ensures some { IfSome result (λ number. (number ≡ number_of digits.now)
-            × ((number_of digits.now == 0 || nat_le self.now.0.next_job (number_of digits.now)) ≡ false)) }
+            × ((number_of digits.now == 0 || nat_le self.now.0.next_job (number_of digits.now))
+            ≡ false)) }
     {
         let number = wide_worth(digits);
         if number == 0 || number >= u128::from(self.cluster.next_job) {
@@ -218,7 +221,8 @@ pub(crate) fn holds_given(
     owner: &Text,
     name: &[u8],
 ) -> Result<Option<Option<List<u32>>>, AllocError>
-    ensures { IfOk result (λ holds. holds ≡ holding.holds_given c.now options.now.items owner.now name.now) }
+    ensures { IfOk result (λ holds. holds ≡ holding.holds_given c.now options.now.items owner.now
+        name.now) }
 {
     match option_word(options, name) {
         None => Ok(None),
@@ -252,11 +256,12 @@ fn is_other_range(tasks: &WideRange, job: Option<&Job>) -> bool
 fn has_range_beside(c: &Cluster, tasks: &WideRange, number: u32) -> bool
     ensures { result ≡ has_other_range (range_shown tasks.now) (at_number c.now.jobs number) }
 {
-    is_other_range(tasks, c.jobs.get(&number))
+    is_other_range(tasks, job_at(&c.jobs, number))
 }
 
 fn has_other_ranges(c: &Cluster, tasks: &WideRange, numbers: &[u32]) -> bool
-    ensures { result ≡ list_any (λ number. has_other_range (range_shown tasks.now) (at_number c.now.jobs number)) numbers.now }
+    ensures { result ≡ list_any (λ number. has_other_range (range_shown tasks.now)
+        (at_number c.now.jobs number)) numbers.now }
 {
     numbers
         .iter()
@@ -264,7 +269,8 @@ fn has_other_ranges(c: &Cluster, tasks: &WideRange, numbers: &[u32]) -> bool
 }
 
 fn note_ranges(c: &Cluster, tasks: &WideRange, faults: &mut Option<Refusal>, numbers: &[u32])
-    ensures { faults.new ≡ after_faults faults.old (range_faults c.now (range_shown tasks.now) numbers.now) }
+    ensures { faults.new ≡ after_faults faults.old (range_faults c.now
+        (range_shown tasks.now) numbers.now) }
 {
     note(
         faults,
@@ -281,7 +287,8 @@ pub(crate) fn note_array_holds(
     faults: &mut Option<Refusal>,
     holds: &Option<Option<List<u32>>>,
 )
-    ensures { faults.new ≡ after_faults faults.old (array_faults c.now (range_shown tasks.now) holds.now) }
+    ensures { faults.new ≡ after_faults faults.old (array_faults c.now
+        (range_shown tasks.now) holds.now) }
 {
     match holds {
         None => {}

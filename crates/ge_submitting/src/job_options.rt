@@ -110,7 +110,8 @@ fn note_words(
     holder: &Holder,
     faults: &mut Option<Refusal>,
 )
-    ensures { faults.new ≡ after_faults faults.old (job_words_faults c.now e.now options.now.items (holder_shown holder.now)) }
+    ensures { faults.new ≡ after_faults faults.old (job_words_faults c.now e.now options.now.items
+        (holder_shown holder.now)) }
 {
     note_priority(c, e, options, faults);
     note_width(faults, number_given(options, b"-js"));
@@ -245,7 +246,8 @@ pub(crate) fn numbers_given(
 
 /// The number of `-p`, which isn't refused.
 pub(crate) fn priority_given(options: &Options) -> Result<Option<i32>, AllocError>
-    ensures { IfOk result (λ number. number ≡ option_map integer_of (word_given options.now.items (codes "-p"))) }
+    ensures { IfOk result (λ number. number ≡ option_map integer_of (word_given options.now.items
+        (codes "-p"))) }
 {
     match option_word(options, b"-p") {
         None => Ok(None),

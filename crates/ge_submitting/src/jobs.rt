@@ -52,7 +52,8 @@ fn account_given(alloc: Global, account: Option<Text>) -> Result<Text, AllocErro
 }
 
 fn request_given(alloc: Global, options: &Options, request: Request) -> Request
-    ensures { result ≡ unwrap_or (if job_options.asks options.now.items then Some request else None) requests.no_request }
+    ensures { result ≡ unwrap_or (if job_options.asks options.now.items then Some request else None)
+        requests.no_request }
 {
     if asks(options) {
         request
@@ -71,7 +72,11 @@ fn first_hold(options: &Options) -> u8
 // The tasks of a job as it has them: their span and the set of those that wait.
 fn tasks_of(alloc: Global, tasks: &WideRange) -> Result<(TaskSpan, TaskSet), AllocError>
     requires { IsTrue (is_real tasks.now) }
-    ensures { IfOk result (λ both. both ≡ (range_shown tasks.now, range_set (range_shown tasks.now))) }
+    ensures { IfOk result (λ both. both ≡ (
+      range_shown tasks.now,
+      range_set
+          (range_shown tasks.now),
+    )) }
 {
     let span = span_of(tasks)?;
     let queued = tasks_of_range(alloc, tasks)?;
@@ -174,7 +179,8 @@ fn array_line(alloc: Global, job: &Job) -> Result<Text, AllocError>
 }
 
 fn job_line(alloc: Global, job: &Job) -> Result<Text, AllocError>
-    ensures { IfOk result (λ line. line ≡ codes "Your job " ++ decimal job.now.number ++ quoted_of job.now.name) }
+    ensures { IfOk result (λ line. line ≡ codes "Your job " ++ decimal job.now.number
+        ++ quoted_of job.now.name) }
 {
     let mut line = begun(alloc, b"Your job ")?;
     line.append(job.number.to_string(alloc)?.as_bytes())?;

@@ -12,7 +12,7 @@ use ge_limits::{
 };
 use ge_options::WideRange;
 use ge_pieces::note;
-use ge_rows::{Cluster, Job, List, Table, Text};
+use ge_rows::{Cluster, JobRow, List, Table, Text};
 
 // Whether so many jobs live, so far go their numbers, or so many words a command has.
 fn is_full(c: &Cluster, words: &List<Text>) -> bool
@@ -23,7 +23,7 @@ fn is_full(c: &Cluster, words: &List<Text>) -> bool
 
 // Whether the scripts of all live jobs together pass a bound with some bytes more.
 #[tactic(auto, using(crate::proofs::Sizes::scripts_over))]
-fn scripts_pass(jobs: &Table<u32, Job>, bytes: u64) -> bool
+fn scripts_pass(jobs: &Table<u32, JobRow>, bytes: u64) -> bool
     ensures { result ≡ nat_lt SCRIPTS_BYTES (sum_by submitting.script_length jobs.now + bytes) }
 {
     jobs.totals().1.saturating_add(u128::from(bytes)) > u128::from(SCRIPTS_BYTES)
@@ -38,8 +38,9 @@ fn is_script_over(c: &Cluster, script: &Text) -> bool
 
 // Whether live tasks pass a bound with some more.
 #[tactic(auto, using(crate::proofs::Sizes::tasks_over))]
-fn tasks_pass(jobs: &Table<u32, Job>, lines: usize, steps: u128) -> bool
-    ensures { result ≡ nat_lt TASKS_AND_LINES (sum_by submitting.live_count jobs.now + lines + (steps + 1)) }
+fn tasks_pass(jobs: &Table<u32, JobRow>, lines: usize, steps: u128) -> bool
+    ensures { result ≡ nat_lt TASKS_AND_LINES (sum_by submitting.live_count jobs.now + lines
+        + (steps + 1)) }
 {
     jobs.totals()
         .0

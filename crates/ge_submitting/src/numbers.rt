@@ -43,7 +43,8 @@ pub(crate) fn list_once(listed: &mut Listed, number: u32) -> Result<(), AllocErr
 
 fn list_all(listed: &mut Listed, numbers: &[u32]) -> Result<(), AllocError>
     requires { Knows listed.old }
-    ensures numbers { OnOk result (listed.new.numbers ≡ fold with_one_number listed.old.numbers numbers.now) }
+    ensures numbers { OnOk result (listed.new.numbers
+        ≡ fold with_one_number listed.old.numbers numbers.now) }
 {
     for number in numbers {
         list_once(listed, *number)?;

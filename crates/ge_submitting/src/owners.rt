@@ -8,7 +8,7 @@ ghost use Rattle.ge_rows.specs.Marks.{mark_of};
 ghost use Rattle.ge_rows.specs.declared.marks.MarkSort.TheVariants as sort;
 ghost use Rattle.ge_submitting.specs.Holding.{at_name, name_at, is_keyed, PutsName, named_shown, jobs_of_owner};
 
-use ge_rows::{Job, JobMark, MarkSort, Table, Text, Twin};
+use ge_rows::{JobMark, JobRow, MarkSort, Table, Text, Twin, job_at};
 use std::alloc::{AllocError, Global};
 use std::collections::BTreeMap;
 
@@ -19,12 +19,12 @@ pub(crate) type Names<'a> = BTreeMap<u32, &'a Text>;
 #[tactic(auto, using(crate::proofs::Owned::name_put, crate::proofs::Owned::name_lacks))]
 fn put_name<'a>(
     names: &mut Names<'a>,
-    jobs: &'a Table<u32, Job>,
+    jobs: &'a Table<u32, JobRow>,
     number: u32,
 ) -> Result<(), AllocError>
     ensures { OnOk result (PutsName jobs.now names.old.entries names.new.entries number) }
 {
-    if let Some(job) = jobs.get(&number) {
+    if let Some(job) = job_at(jobs, number) {
         names.insert(number, &job.name)?;
     }
     Ok(())
@@ -34,7 +34,7 @@ fn put_name<'a>(
 #[tactic(auto, using(crate::proofs::Owned::names_more))]
 fn names_of<'a>(
     alloc: Global,
-    jobs: &'a Table<u32, Job>,
+    jobs: &'a Table<u32, JobRow>,
     marked: &[(JobMark, u32)],
 ) -> Result<Names<'a>, AllocError>
     ensures names { IfOk result (λ names. (q : ℕ) → at_name q names.entries
@@ -62,7 +62,7 @@ fn past_owner(alloc: Global, owner: &Text) -> Result<JobMark, AllocError>
 #[tactic(auto, using(crate::proofs::Owned::jobs_named))]
 pub(crate) fn own_jobs<'a>(
     alloc: Global,
-    jobs: &'a Table<u32, Job>,
+    jobs: &'a Table<u32, JobRow>,
     owner: &Text,
 ) -> Result<Names<'a>, AllocError>
     ensures { IfOk result (λ names. named_shown names.entries ≡ jobs_of_owner jobs.now owner.now) }

@@ -6,7 +6,7 @@ ghost use Rattle.std.specs.Option.{option_copied};
 ghost use Rattle.ge_model_core.specs.Reaching.{patched_after, waits_for, meets, all_predecessors as number_of_all, reaches_itself};
 ghost use Rattle.ge_submitting.specs.Walking.{FindsPatches, LendsOne};
 
-use ge_rows::{Cluster, Job, List, Patch};
+use ge_rows::{Cluster, Job, List, Patch, job_at};
 use std::alloc::{AllocError, Global};
 use std::collections::{BTreeMap, BTreeSet};
 use std::marker::Model;
@@ -113,7 +113,7 @@ impl<'a> Waits<'a> {
     fn lists(&self, number: u32) -> (&[u32], &[u32])
         ensures { result.0.now ++ result.1.now ≡ waits_for self.now.0 self.now.1 number }
     {
-        match self.cluster.jobs.get(&number) {
+        match job_at(&self.cluster.jobs, number) {
             None => (&[], &[]),
             Some(job) => lists_of(job, self.by_number.get(&number).copied()),
         }

@@ -49,7 +49,8 @@ fn reached(range: WideRange) -> WideRange
 }
 
 fn range_given(options: &Options) -> Option<WideRange>
-    ensures range { option_map range_shown result ≡ option_and_then range_of (word_given options.now.items (codes "-t")) }
+    ensures range { option_map range_shown result
+        ≡ option_and_then range_of (word_given options.now.items (codes "-t")) }
     ensures real { IfSome result (λ r. IsTrue (is_real r)) }
 {
     match option_word(options, b"-t") {

@@ -72,7 +72,8 @@ fn accept_submission(
       holds_given c.now options.now.items e.now.user (codes "-hold_jid_ad"),
     ) }
     ensures { IfOk result (λ planned. planned
-        ≡ submission_answer e.now (submitted_job c.now e.now options.now.items words.now script.now)) }
+        ≡ submission_answer e.now (submitted_job c.now e.now options.now.items words.now
+        script.now)) }
 {
     let (request, after, after_each) = looked;
     let (after, after_each) = both_known(after, after_each)?;

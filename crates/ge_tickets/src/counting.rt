@@ -7,7 +7,7 @@ ghost use Rattle.ge_model_value.specs.Pieces.{is_empty};
 ghost use Rattle.ge_model_order.specs.Tickets.{is_owned_by, is_in_project, jobs_of};
 ghost use Rattle.ge_tickets.specs.Counted.{count_at, is_named, AreCounts};
 
-use ge_rows::{Cluster, Table, Text, Twin};
+use ge_rows::{Cluster, Table, Text, Twin, job_at};
 use std::alloc::{AllocError, Global};
 
 /// How many jobs each user has, and each project.
@@ -70,7 +70,7 @@ fn count_owner(
 ) -> Result<(), AllocError>
     ensures { OnOk result ((q : Items ℕ) → count_at counts.new q ≡ count_at counts.old q + count_by (is_owned_by q) (jobs_of c.now (number ∷ []))) }
 {
-    match c.jobs.get(&number) {
+    match job_at(&c.jobs, number) {
         Some(job) => raise(alloc, counts, &job.owner),
         None => Ok(()),
     }
@@ -84,7 +84,7 @@ fn count_project(
 ) -> Result<(), AllocError>
     ensures { OnOk result ((q : Items ℕ) → count_at counts.new q ≡ count_at counts.old q + count_by (is_in_project q) (jobs_of c.now (number ∷ []))) }
 {
-    match c.jobs.get(&number) {
+    match job_at(&c.jobs, number) {
         Some(job) => raise_project(alloc, counts, &job.project),
         None => Ok(()),
     }

@@ -9,7 +9,7 @@ ghost use Rattle.ge_tickets.specs.Counted.{from_user, from_named, from_project, 
 use crate::counting::{Counts, count_of};
 use crate::summing::ShareSums;
 use ge_base::{product_of, sum_of};
-use ge_rows::{Cluster, Job, Text, UserRow};
+use ge_rows::{Cluster, Job, Text, UserRow, job_at};
 
 fn part_of(amount: u128, part: u128, whole: u128) -> u128
     ensures { result ≡ portion amount part whole }
@@ -117,7 +117,7 @@ fn job_tickets(c: &Cluster, counts: &Counts, sums: &ShareSums, job: &Job) -> u64
 pub(crate) fn tickets_at(c: &Cluster, counts: &Counts, sums: &ShareSums, number: u32) -> u64
     ensures { result ≡ tickets_by_counts c.now counts.now sums.now number }
 {
-    match c.jobs.get(&number) {
+    match job_at(&c.jobs, number) {
         Some(job) => job_tickets(c, counts, sums, job),
         None => 0,
     }

@@ -6,7 +6,7 @@ ghost use Rattle.ge_tickets.specs.Own.{OwnAlone, is_own_alone, own_tickets as ow
 
 use crate::dividing::{cut, functional};
 use ge_beside::{row_at, walk};
-use ge_rows::{Cluster, JobFacts, List, ShortRow};
+use ge_rows::{Cluster, JobFacts, List, ShortRow, job_at};
 use std::alloc::{AllocError, Global};
 use std::collections::BTreeMap;
 use std::collections::btree_map::Iter;
@@ -23,7 +23,7 @@ pub fn has_own_alone(c: &Cluster) -> bool
 fn own_tickets(c: &Cluster, number: u32) -> u64
     ensures { result ≡ own_of c.now number }
 {
-    match c.jobs.get(&number) {
+    match job_at(&c.jobs, number) {
         Some(job) => cut(u128::from(job.oticket)),
         None => 0,
     }

@@ -5,7 +5,7 @@ ghost use Rattle.ge_tickets.specs.Counted.{count_at, counted_shares, with_job_sh
 
 use crate::counting::{Counts, count_of};
 use ge_base::sum_of;
-use ge_rows::{Cluster, ProjectRow, Table, Text, UserRow};
+use ge_rows::{Cluster, ProjectRow, Table, Text, UserRow, job_at};
 
 /// The shares of all users with a job, of all projects with one, and of the jobs.
 #[derive(Clone, Copy)]
@@ -51,7 +51,7 @@ fn project_shares(projects: &Table<Text, ProjectRow>, counts: &Table<Text, u64>)
 fn add_job_share(c: &Cluster, total: u128, number: u32) -> u128
     ensures { result ≡ with_job_share c.now total number }
 {
-    match c.jobs.get(&number) {
+    match job_at(&c.jobs, number) {
         Some(job) => sum_of(total, u128::from(job.share)),
         None => total,
     }

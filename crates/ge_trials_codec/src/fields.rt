@@ -308,7 +308,8 @@ fn is_complex(row: &ComplexDef) -> bool {
 fn rows_of_jobs(rt: HostRuntime) -> Result<(), Fail> {
     let cluster = take_cluster(rt.alloc(), EACH_FIELD)?;
     let mut same = cluster.jobs.len() == 1 && cluster.lines.len() == 1;
-    for job in cluster.jobs.values() {
+    for row in cluster.jobs.values() {
+        let job = row.job();
         same &= is_job(job) && has_tasks(job) && is_request(&job.request);
     }
     for line in cluster.lines.items() {

@@ -45,7 +45,8 @@ fn is_completed(cluster: &Cluster) -> bool {
     let mut same = cluster.next_advance == 1
         && cluster.advances.is_empty()
         && cluster.jobs.len() == 1;
-    for job in cluster.jobs.values() {
+    for row in cluster.jobs.values() {
+        let job = row.job();
         same &= job.number == 90 && job.advance == 0;
     }
     same

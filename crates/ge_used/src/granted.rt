@@ -6,7 +6,7 @@ ghost use Rattle.ge_model_config.specs.Used as used;
 
 use crate::marked::is_marked;
 use ge_pieces::is_same;
-use ge_rows::{Advance, Cluster, Grant, Job, MarkSort, Table, Text};
+use ge_rows::{Advance, Cluster, Grant, JobRow, MarkSort, Table, Text};
 use std::alloc::{AllocError, Global};
 
 fn is_on_queue(name: &Text, grant: &Grant) -> bool
@@ -34,23 +34,26 @@ fn has_host(name: &Text, grants: &[Grant]) -> bool
 }
 
 #[tactic(auto, using(crate::proofs::Borne::on_queue))]
-fn job_on_queue(alloc: Global, name: &Text, jobs: &Table<u32, Job>) -> Result<bool, AllocError>
-    ensures { IfOk result (λ runs. runs ≡ list_any (λ job. list_any (λ task. list_any (λ grant. text_eq name.now grant.at.queue) task.1.grants) job.1.running) jobs.now) }
+fn job_on_queue(alloc: Global, name: &Text, jobs: &Table<u32, JobRow>) -> Result<bool, AllocError>
+    ensures { IfOk result (λ runs. runs ≡ list_any (λ job. list_any (λ task. list_any
+        (λ grant. text_eq name.now grant.at.queue) task.1.grants) job.1.running) jobs.now) }
 {
     let runs = is_marked(alloc, jobs, MarkSort::Queue, name)?;
     Ok(runs)
 }
 
 #[tactic(auto, using(crate::proofs::Borne::on_host))]
-fn job_on_host(alloc: Global, name: &Text, jobs: &Table<u32, Job>) -> Result<bool, AllocError>
-    ensures { IfOk result (λ runs. runs ≡ list_any (λ job. list_any (λ task. list_any (λ grant. text_eq name.now grant.at.host) task.1.grants) job.1.running) jobs.now) }
+fn job_on_host(alloc: Global, name: &Text, jobs: &Table<u32, JobRow>) -> Result<bool, AllocError>
+    ensures { IfOk result (λ runs. runs ≡ list_any (λ job. list_any (λ task. list_any
+        (λ grant. text_eq name.now grant.at.host) task.1.grants) job.1.running) jobs.now) }
 {
     let runs = is_marked(alloc, jobs, MarkSort::Host, name)?;
     Ok(runs)
 }
 
 fn advance_on_queue(name: &Text, advances: &Table<u32, Advance>) -> bool
-    ensures { result ≡ list_any (λ booked. list_any (λ grant. text_eq name.now grant.at.queue) booked.1.grants) advances.now }
+    ensures { result ≡ list_any (λ booked. list_any
+        (λ grant. text_eq name.now grant.at.queue) booked.1.grants) advances.now }
 {
     for (_, booked) in advances.iter() {
         if has_queue(name, booked.grants.items()) {
@@ -61,7 +64,8 @@ fn advance_on_queue(name: &Text, advances: &Table<u32, Advance>) -> bool
 }
 
 fn advance_on_host(name: &Text, advances: &Table<u32, Advance>) -> bool
-    ensures { result ≡ list_any (λ booked. list_any (λ grant. text_eq name.now grant.at.host) booked.1.grants) advances.now }
+    ensures { result ≡ list_any (λ booked. list_any
+        (λ grant. text_eq name.now grant.at.host) booked.1.grants) advances.now }
 {
     for (_, booked) in advances.iter() {
         if has_host(name, booked.grants.items()) {

@@ -29,7 +29,8 @@ fn pe_in_jobs(alloc: Global, name: &Text, c: &Cluster) -> Result<bool, AllocErro
 }
 
 fn pe_in_advances(name: &Text, c: &Cluster) -> bool
-    ensures { result ≡ used.advance_where c.now (λ booked. used.asks_pe name.now booked.request.pe) }
+    ensures { result ≡ used.advance_where c.now
+        (λ booked. used.asks_pe name.now booked.request.pe) }
 {
     for (_, booked) in c.advances.iter() {
         if asks_pe(name, &booked.request.pe) {
@@ -53,8 +54,8 @@ pub(crate) fn pe_is_asked(alloc: Global, name: &Text, c: &Cluster) -> Result<boo
 fn is_of_job(name: &Text, c: &Cluster) -> bool
     ensures { result ≡ used.job_where c.now (λ job. text_eq name.now job.project) }
 {
-    for (_, job) in c.jobs.iter() {
-        if is_same(name, &job.project) {
+    for (_, row) in c.jobs.iter() {
+        if is_same(name, &row.job().project) {
             return true;
         }
     }
@@ -64,7 +65,8 @@ fn is_of_job(name: &Text, c: &Cluster) -> bool
 /// Whether a live job has a project. A job without one bears no mark, so that an empty name is looked for by a walk.
 #[tactic(auto, using(crate::proofs::Borne::on_project_named))]
 pub(crate) fn project_in_jobs(alloc: Global, name: &Text, c: &Cluster) -> Result<bool, AllocError>
-    ensures { IfOk result (λ has. has ≡ used.job_where c.now (λ job. text_eq name.now job.project)) }
+    ensures { IfOk result (λ has. has ≡ used.job_where c.now
+        (λ job. text_eq name.now job.project)) }
 {
     if name.is_empty() {
         return Ok(is_of_job(name, c));
@@ -83,7 +85,8 @@ fn complex_in_jobs(alloc: Global, name: &Text, c: &Cluster) -> Result<bool, Allo
 }
 
 fn complex_in_advances(name: &Text, c: &Cluster) -> bool
-    ensures { result ≡ used.advance_where c.now (λ booked. has_name_in booked.request.asked name.now) }
+    ensures { result ≡ used.advance_where c.now (λ booked. has_name_in booked.request.asked
+        name.now) }
 {
     for (_, booked) in c.advances.iter() {
         if has_name(&booked.request.asked, name) {

@@ -3,13 +3,13 @@ ghost use Rattle.std.specs.Prelude.{◌≡◌, [], IfOk};
 ghost use Rattle.ge_collections.specs.Asked.{is_borne};
 ghost use Rattle.ge_rows.specs.Marks.{job_marks, mark_of};
 
-use ge_rows::{Job, JobMark, MarkSort, Table, Text};
+use ge_rows::{JobMark, JobRow, MarkSort, Table, Text};
 use std::alloc::{AllocError, Global};
 
 /// Whether a live job bears the mark of a sort with a name, without a walk over jobs. The mark takes memory.
 pub(crate) fn is_marked(
     alloc: Global,
-    jobs: &Table<u32, Job>,
+    jobs: &Table<u32, JobRow>,
     sort: MarkSort,
     name: &Text,
 ) -> Result<bool, AllocError>

@@ -36,7 +36,8 @@ fn is_overridden(name: &Text, queue: &QueueRow) -> bool
 }
 
 fn is_in_queue(name: &Text, queue: &QueueRow) -> bool
-    ensures { result ≡ (is_one_of name.now queue.now.hosts || used.is_overridden name.now queue.now) }
+    ensures { result ≡ (is_one_of name.now queue.now.hosts
+        || used.is_overridden name.now queue.now) }
 {
     is_among(name, queue.hosts.items()) || is_overridden(name, queue)
 }

@@ -73,7 +73,8 @@ fn group_in_set(name: &Text, rules: &[Rule]) -> bool
 }
 
 fn set_in_set(name: &Text, rules: &[Rule]) -> bool
-    ensures { result ≡ list_any (λ rule. is_one_of (64 ∷ name.now) (elements_of rule.users)) rules.now }
+    ensures { result ≡ list_any (λ rule. is_one_of (64
+        ∷ name.now) (elements_of rule.users)) rules.now }
 {
     rules.iter().any(|rule| names_set(name, rule))
 }

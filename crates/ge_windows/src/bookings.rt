@@ -16,8 +16,8 @@ use crate::standing::stand_in;
 use crate::windows::window_end_from;
 use ge_demands::demands;
 use ge_rows::{
-    Advance, Booking, Cluster, Demand, Grant, Groups, Job, JobMark, List, MarkSort, Running, Table,
-    TaskId,
+    Advance, Booking, Cluster, Demand, Grant, Groups, Job, JobMark, JobRow, List, MarkSort,
+    Running, Table, TaskId, job_at,
 };
 use std::alloc::{AllocError, Global};
 use std::collections::BTreeSet;
@@ -64,7 +64,8 @@ fn running_booking(
 ) -> Booking
     requires { demands ≡ demands_of cluster.now _groups.now job.now running.now.grants }
     ensures { result
-        ≡ windows.running_booking cluster.now _groups.now now (task.job, job.now) (task.task, running.now) }
+        ≡ windows.running_booking cluster.now _groups.now now (task.job, job.now)
+        (task.task, running.now) }
 {
     let from = running.start;
     let until = window_end_from(cluster, job, from).max(next_moment(now));
@@ -104,7 +105,7 @@ fn add_job(
 }
 
 // The numbers of the jobs of which a task runs, which the table keeps.
-fn running_jobs(alloc: Global, jobs: &Table<u32, Job>) -> Result<Vec<u32>, AllocError>
+fn running_jobs(alloc: Global, jobs: &Table<u32, JobRow>) -> Result<Vec<u32>, AllocError>
     ensures { IfOk result (λ numbers. numbers.items ≡ running_in jobs.now) }
 {
     let runs = JobMark::new(alloc, MarkSort::Runs, b"", b"", 0)?;
@@ -122,7 +123,7 @@ fn add_job_at(
     ensures { OnOk result (bookings.new ≡ bookings.old
         ++ bookings_at cluster.now groups.now now number) }
 {
-    match cluster.jobs.get(&number) {
+    match job_at(&cluster.jobs, number) {
         Some(job) => add_job(alloc, cluster, groups, now, bookings, number, job),
         None => Ok(()),
     }
@@ -179,12 +180,12 @@ fn note_job(numbers: &mut BTreeSet<u32>, key: u32, job: &Job) -> Result<(), Allo
 }
 
 // The numbers of the reservations in which a task runs, with 0 for the jobs that were sent into none.
-fn numbers_in_use(alloc: Global, jobs: &Table<u32, Job>) -> Result<BTreeSet<u32>, AllocError>
+fn numbers_in_use(alloc: Global, jobs: &Table<u32, JobRow>) -> Result<BTreeSet<u32>, AllocError>
     ensures { IfOk result (λ numbers. AreInUse numbers jobs.now) }
 {
     let mut numbers = BTreeSet::new(alloc);
-    for (key, job) in jobs.iter() {
-        note_job(&mut numbers, *key, job)?;
+    for (key, row) in jobs.iter() {
+        note_job(&mut numbers, *key, row.job())?;
     }
     Ok(numbers)
 }
@@ -250,7 +251,8 @@ pub fn base_bookings(
     groups: &Groups,
     now: u64,
 ) -> Result<List<Booking>, AllocError>
-    ensures { IfOk result (λ bookings. bookings ≡ windows.base_bookings cluster.now groups.now now) }
+    ensures { IfOk result (λ bookings. bookings
+        ≡ windows.base_bookings cluster.now groups.now now) }
 {
     let mut bookings = List::new(alloc);
     add_jobs(alloc, cluster, groups, now, &mut bookings)?;

@@ -20,7 +20,8 @@ fn fill_part<S: Source>(
 ) -> Result<usize, WireFault>
     requires some { done < want }
     requires room { want ≤ length buf.old }
-    ensures moved { IfOk result (λ now. Moved (S.rest s.old) (S.rest s.new) (take done buf.old) (take now buf.new)) }
+    ensures moved { IfOk result (λ now. Moved (S.rest s.old) (S.rest s.new) (take done buf.old)
+        (take now buf.new)) }
     ensures from { IfOk result (λ now. done ≤ now) }
     ensures bound { IfOk result (λ now. now ≤ want) }
     ensures ended { IfOk result (λ now. now ≡ done → IsReadToEnd (S.rest s.new)) }
@@ -41,7 +42,8 @@ fn fill_part<S: Source>(
 /// the source has ended.
 pub(crate) fn fill<S: Source>(s: &mut S, buf: &mut [u8], want: usize) -> Result<usize, WireFault>
     requires { want ≤ length buf.old }
-    ensures moved { IfOk result (λ count. Moved (S.rest s.old) (S.rest s.new) [] (take count buf.new)) }
+    ensures moved { IfOk result (λ count. Moved (S.rest s.old) (S.rest s.new) []
+        (take count buf.new)) }
     ensures bound { IfOk result (λ count. count ≤ want) }
     ensures ended { IfOk result (λ count. count < want → IsReadToEnd (S.rest s.new)) }
     ensures long { length buf.new ≡ length buf.old }
@@ -77,7 +79,8 @@ pub fn read_up_to<S: Source>(
     limit: usize,
 ) -> Result<(), WireFault>
     requires { vec_len bytes.old ≤ limit }
-    ensures moved { OnOk result (Moved (S.rest s.old) (S.rest s.new) bytes.old.items bytes.new.items) }
+    ensures moved { OnOk result (Moved (S.rest s.old)
+        (S.rest s.new) bytes.old.items bytes.new.items) }
     ensures kept { OnOk result (take (vec_len bytes.old) bytes.new.items ≡ bytes.old.items) }
     ensures bound { OnOk result (vec_len bytes.new ≤ limit) }
     ensures ended { OnOk result (vec_len bytes.new < limit → IsReadToEnd (S.rest s.new)) }

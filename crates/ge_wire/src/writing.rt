@@ -14,7 +14,8 @@ use ge_rows::Text;
 // Writes two pieces, one after the other.
 fn write_both<K: Sink>(k: &mut K, head: &[u8], body: &[u8]) -> Result<(), Failed>
     ensures whole { OnOk result (Gains (K.written k.old) (K.written k.new) (head.now ++ body.now)) }
-    ensures front { OnErr result (GainsPrefix (K.written k.old) (K.written k.new) (head.now ++ body.now)) }
+    ensures front { OnErr result (GainsPrefix (K.written k.old) (K.written k.new) (head.now
+        ++ body.now)) }
     ensures read_side { K.read_side k.new ≡ K.read_side k.old }
     ensures cause { HasCause (K.write_faults k.old) (K.write_faults k.new) result }
     ensures no_fault { OnOk result (K.write_faults k.new ≡ K.write_faults k.old) }
@@ -28,8 +29,10 @@ fn write_both<K: Sink>(k: &mut K, head: &[u8], body: &[u8]) -> Result<(), Failed
 pub fn write_frame<K: Sink>(k: &mut K, payload: &Text) -> Result<(), WireFault>
     requires some { 0 < length payload.now }
     requires fits { length payload.now ≤ text_bytes }
-    ensures whole { OnOk result (Gains (K.written k.old) (K.written k.new) (request_frame payload.now)) }
-    ensures front { OnErr result (GainsPrefix (K.written k.old) (K.written k.new) (request_frame payload.now)) }
+    ensures whole { OnOk result (Gains (K.written k.old) (K.written k.new)
+        (request_frame payload.now)) }
+    ensures front { OnErr result (GainsPrefix (K.written k.old) (K.written k.new)
+        (request_frame payload.now)) }
     ensures read_side { K.read_side k.new ≡ K.read_side k.old }
     ensures cause { HasCause (K.write_faults k.old) (K.write_faults k.new) result }
     ensures no_fault { OnOk result (K.write_faults k.new ≡ K.write_faults k.old) }
@@ -47,7 +50,8 @@ pub fn write_frame<K: Sink>(k: &mut K, payload: &Text) -> Result<(), WireFault>
 /// the frame was written.
 pub fn write_reply<K: Sink>(k: &mut K, text: &Text) -> Result<(), WireFault>
     ensures whole { OnOk result (Gains (K.written k.old) (K.written k.new) (reply_frame text.now)) }
-    ensures front { OnErr result (GainsPrefix (K.written k.old) (K.written k.new) (reply_frame text.now)) }
+    ensures front { OnErr result (GainsPrefix (K.written k.old) (K.written k.new)
+        (reply_frame text.now)) }
     ensures read_side { K.read_side k.new ≡ K.read_side k.old }
     ensures cause { HasCause (K.write_faults k.old) (K.write_faults k.new) result }
     ensures no_fault { OnOk result (K.write_faults k.new ≡ K.write_faults k.old) }

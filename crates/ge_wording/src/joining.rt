@@ -28,7 +28,8 @@ fn append_others(line: &mut Text, between: &[u8], words: &[&[u8]]) -> Result<(),
 
 /// Words with a text between each two, as the columns of a line.
 pub fn join_words(alloc: Global, between: &[u8], words: &[&[u8]]) -> Result<Text, AllocError>
-    ensures { IfOk result (λ text. text ≡ joined_by between.now (map (λ word. word.now) words.now)) }
+    ensures { IfOk result (λ text. text ≡ joined_by between.now (map
+        (λ word. word.now) words.now)) }
 {
     match words {
         [] => Ok(Text::new(alloc)),

@@ -61,7 +61,8 @@ pub fn number_list(alloc: Global, numbers: &[u32]) -> Result<Text, AllocError>
 }
 
 fn digit(n: u32, unit: u32) -> u8
-    requires { unit ≡ 100000 ⊎ (unit ≡ 10000 ⊎ (unit ≡ 1000 ⊎ (unit ≡ 100 ⊎ (unit ≡ 10 ⊎ unit ≡ 1)))) }
+    requires { unit ≡ 100000 ⊎ (unit ≡ 10000 ⊎ (unit ≡ 1000 ⊎ (unit ≡ 100 ⊎ (unit ≡ 10 ⊎ unit
+        ≡ 1)))) }
     ensures { result ≡ digit_at n unit }
 {
     48 + (n / unit % 10) as u8

@@ -8,8 +8,8 @@ use crate::pairs::Fields;
 use crate::tables::take_table;
 use ge_model_codec::TakeFault;
 use ge_rows::{
-    Advance, Cluster, ComplexDef, HostRow, Job, Line, List, PeRow, ProjectRow, QueueRow, QuotaRow,
-    Sched, ShareNode, Table, Text, UserRow,
+    Advance, Cluster, ComplexDef, HostRow, JobRow, Line, List, PeRow, ProjectRow, QueueRow,
+    QuotaRow, Sched, ShareNode, Table, Text, UserRow,
 };
 use std::alloc::{AllocError, Global};
 
@@ -35,7 +35,7 @@ type Usage = Table<(Text, Text, u64), u128>;
 
 type Work = (
     (List<Text>, List<Text>),
-    Table<u32, Job>,
+    Table<u32, JobRow>,
     (Usage, List<Line>),
 );
 
@@ -46,7 +46,7 @@ type Booked = (u32, Table<u32, Advance>);
 
 // The fields from `managers` to `lines`, the jobs in a format.
 #[tactic(auto, using(crate::specs::Passing::fault_passes, crate::specs::Passing::fault_passes_made))]
-fn take_work<J: Format<Job>>(
+fn take_work<J: Format<JobRow>>(
     alloc: Global,
     bytes: &[u8],
     at: usize,
@@ -56,14 +56,14 @@ fn take_work<J: Format<Job>>(
     ensures within { IfOk result (λ p. p.1 ≤ length bytes.now) }
 {
     let (lists, mid) = <(List<Text>, List<Text>)>::take(alloc, bytes, at)?;
-    let (jobs, mid) = take_table::<u32, Job, J>(alloc, bytes, mid)?;
+    let (jobs, mid) = take_table::<u32, JobRow, J>(alloc, bytes, mid)?;
     let (accounts, past) = <(Usage, List<Line>)>::take(alloc, bytes, mid)?;
     Ok(((lists, jobs, accounts), past))
 }
 
 // The fields before `next_advance`, the complex table and the jobs in a format.
 #[tactic(auto, using(crate::specs::Passing::fault_passes, crate::specs::Passing::fault_passes_made))]
-fn take_front<C: Format<ComplexDef>, J: Format<Job>>(
+fn take_front<C: Format<ComplexDef>, J: Format<JobRow>>(
     alloc: Global,
     bytes: &[u8],
     at: usize,
