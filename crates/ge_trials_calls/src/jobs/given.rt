@@ -1,9 +1,8 @@
 // What the trials begin with: two array jobs. Tasks of the first that start and end, and targets that name some.
+use crate::given::waiting_job;
 use ge_jobs::{After, JobTable, NamedTasks, end, joined, start, submit};
 use ge_ranges::set_of;
-use ge_rows::{
-    Grant, InstanceId, Job, List, Pick, Request, Start, Table, TaskId, TaskSet, TaskSpan, Text,
-};
+use ge_rows::{Grant, InstanceId, Job, List, Pick, Start, Table, TaskId, TaskSet, TaskSpan, Text};
 use std::alloc::{AllocError, Global};
 
 // One slot of all.q at local.
@@ -20,52 +19,31 @@ fn one_slot(alloc: Global) -> Result<List<Grant>, AllocError> {
 
 // A job with waiting tasks and array predecessors.
 fn array_job(alloc: Global, number: u32, queued: TaskSet, after_each: List<u32>) -> Job {
-    Job {
-        number,
-        name: Text::new(alloc),
-        owner: Text::new(alloc),
-        group: Text::new(alloc),
-        account: Text::new(alloc),
-        submitted: 0,
-        priority: 0,
-        share: 0,
-        project: Text::new(alloc),
-        reserve: false,
-        not_before: 0,
-        deadline: 0,
-        request: Request {
-            asked: Table::new(alloc),
-            queues: List::new(alloc),
-            pe: None,
-        },
-        array: true,
-        span: TaskSpan {
-            first: 1,
-            last: 10,
-            step: 3,
-        },
-        queued,
-        broken: TaskSet::new(alloc),
-        running: Table::new(alloc),
-        hold: 0,
-        after: List::new(alloc),
-        after_each,
-        oticket: 0,
-        words: List::new(alloc),
-        script: Text::new(alloc),
-        advance: 0,
-    }
+    let mut job = waiting_job(alloc, number);
+    job.array = true;
+    job.span = TaskSpan {
+        first: 1,
+        last: 10,
+        step: 3,
+    };
+    job.queued = queued;
+    job.after_each = after_each;
+    job
 }
 
 // Jobs 1 and 2 with the tasks 1-10:3, where each task of job 2 waits for the one of its number in job 1.
 pub fn two_arrays(alloc: Global) -> Result<JobTable, AllocError> {
     let mut jobs = Table::new(alloc);
     let first = set_of(alloc, &[1, 4, 7, 10])?;
-    submit(&mut jobs, array_job(alloc, 1, first, List::new(alloc)))?;
+    submit(
+        alloc,
+        &mut jobs,
+        array_job(alloc, 1, first, List::new(alloc)),
+    )?;
     let second = set_of(alloc, &[1, 4, 7, 10])?;
     let mut before = List::new(alloc);
     before.push(1)?;
-    submit(&mut jobs, array_job(alloc, 2, second, before))?;
+    submit(alloc, &mut jobs, array_job(alloc, 2, second, before))?;
     Ok(jobs)
 }
 

@@ -1,7 +1,8 @@
 // What the trials begin with: jobs, share nodes and usage.
+use crate::given::waiting_job;
 use ge_ranges::parse_set;
 use ge_rows::{
-    Cluster, Job, List, ProjectRow, Request, ShareNode, Table, TaskSet, TaskSpan, Text, UserRow,
+    Cluster, Job, JobRow, List, ProjectRow, ShareNode, TaskSet, TaskSpan, Text, UserRow,
 };
 use std::alloc::{AllocError, Global};
 
@@ -30,44 +31,22 @@ fn tasks_of(alloc: Global, tasks: &str) -> Result<TaskSet, AllocError> {
 }
 
 fn job_of(alloc: Global, number: u32, of: Brief) -> Result<Job, AllocError> {
-    let owner = text(alloc, of.owner)?;
-    let project = text(alloc, of.project)?;
-    let queued = tasks_of(alloc, of.tasks)?;
-    Ok(Job {
-        number,
-        name: Text::new(alloc),
-        owner,
-        group: Text::new(alloc),
-        account: Text::new(alloc),
-        submitted: of.submitted,
-        priority: of.priority,
-        share: of.share,
-        project,
-        reserve: false,
-        not_before: 0,
-        deadline: of.deadline,
-        request: Request {
-            asked: Table::new(alloc),
-            queues: List::new(alloc),
-            pe: None,
-        },
-        array: true,
-        span: TaskSpan {
-            first: 1,
-            last: 100,
-            step: 1,
-        },
-        queued,
-        broken: TaskSet::new(alloc),
-        running: Table::new(alloc),
-        hold: 0,
-        after: List::new(alloc),
-        after_each: List::new(alloc),
-        oticket: of.oticket,
-        words: List::new(alloc),
-        script: Text::new(alloc),
-        advance: 0,
-    })
+    let mut job = waiting_job(alloc, number);
+    job.owner = text(alloc, of.owner)?;
+    job.submitted = of.submitted;
+    job.priority = of.priority;
+    job.share = of.share;
+    job.project = text(alloc, of.project)?;
+    job.deadline = of.deadline;
+    job.array = true;
+    job.span = TaskSpan {
+        first: 1,
+        last: 100,
+        step: 1,
+    };
+    job.queued = tasks_of(alloc, of.tasks)?;
+    job.oticket = of.oticket;
+    Ok(job)
 }
 
 /// A job comes under a number.
@@ -78,7 +57,7 @@ pub(crate) fn put_job(
     of: Brief,
 ) -> Result<(), AllocError> {
     let job = job_of(alloc, number, of)?;
-    c.jobs.insert(number, job)?;
+    c.jobs.insert(number, JobRow::new(alloc, job)?)?;
     Ok(())
 }
 

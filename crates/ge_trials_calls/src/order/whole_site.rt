@@ -1,7 +1,7 @@
 // Six jobs of three users and two projects, with shares of every kind.
 use crate::order::sites::{Brief, put_job, put_node, put_project, put_usage, put_user, text};
 use ge_order::{candidates, order, prios, urgency};
-use ge_rows::{Cluster, List, Prio, TaskId, opening};
+use ge_rows::{Cluster, List, Prio, TaskId, job_at, opening};
 use ge_share::{share_tickets, usage_at};
 use ge_tickets::tickets;
 use std::alloc::{AllocError, Global};
@@ -116,7 +116,7 @@ fn tickets_of_six_jobs(rt: HostRuntime) -> Result<(), Fail> {
 fn urgencies(alloc: Global, c: &Cluster, jobs: &[u32]) -> Result<Vec<u128>, AllocError> {
     let mut found = Vec::new(alloc);
     for number in jobs {
-        match c.jobs.get(number) {
+        match job_at(&c.jobs, *number) {
             Some(job) => found.push(urgency(c, job, NOW))?,
             None => found.push(0)?,
         }

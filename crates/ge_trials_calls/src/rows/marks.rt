@@ -1,7 +1,8 @@
 // What a table of jobs finds them by, and a plan's parts.
+use crate::given::waiting_job;
 use ge_rows::{
-    Grant, InstanceId, Job, JobMark, List, MarkSort, Planned, Reply, Request, Row, Running, Table,
-    TaskSet, TaskSpan, Text, task_marks,
+    Grant, InstanceId, Job, JobMark, List, MarkSort, Planned, Reply, Row, Running, Table, TaskSet,
+    TaskSpan, Text, task_marks,
 };
 use std::alloc::{AllocError, Global};
 use std::test::Fail;
@@ -25,49 +26,27 @@ fn running(alloc: Global) -> Result<Running, AllocError> {
 
 // A job of ann in a project, with a script of three bytes, one running task and tasks 2, 4 and 6 waiting.
 fn job(alloc: Global) -> Result<Job, AllocError> {
-    let mut tasks = Table::new(alloc);
-    tasks.insert(1, running(alloc)?)?;
     let mut waiting = List::new(alloc);
     waiting.push(TaskSpan {
         first: 2,
         last: 6,
         step: 2,
     })?;
-    Ok(Job {
-        number: 1,
-        name: Text::from_bytes(alloc, b"sim")?,
-        owner: Text::from_bytes(alloc, b"ann")?,
-        group: Text::new(alloc),
-        account: Text::new(alloc),
-        submitted: 10,
-        priority: 0,
-        share: 0,
-        project: Text::from_bytes(alloc, b"p")?,
-        reserve: false,
-        not_before: 0,
-        deadline: 0,
-        request: Request {
-            asked: Table::new(alloc),
-            queues: List::new(alloc),
-            pe: None,
-        },
-        array: true,
-        span: TaskSpan {
-            first: 1,
-            last: 6,
-            step: 1,
-        },
-        queued: TaskSet::from_spans(waiting),
-        broken: TaskSet::new(alloc),
-        running: tasks,
-        hold: 0,
-        after: List::new(alloc),
-        after_each: List::new(alloc),
-        oticket: 0,
-        words: List::new(alloc),
-        script: Text::from_bytes(alloc, b"a\nb")?,
-        advance: 3,
-    })
+    let mut job = waiting_job(alloc, 1);
+    job.name = Text::from_bytes(alloc, b"sim")?;
+    job.owner = Text::from_bytes(alloc, b"ann")?;
+    job.project = Text::from_bytes(alloc, b"p")?;
+    job.array = true;
+    job.span = TaskSpan {
+        first: 1,
+        last: 6,
+        step: 1,
+    };
+    job.queued = TaskSet::from_spans(waiting);
+    job.running.insert(1, running(alloc)?)?;
+    job.script = Text::from_bytes(alloc, b"a\nb")?;
+    job.advance = 3;
+    Ok(job)
 }
 
 #[test]

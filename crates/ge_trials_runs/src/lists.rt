@@ -2,4 +2,5 @@
 //! lists for them.
 
 mod given;
+mod lines;
 mod lists;

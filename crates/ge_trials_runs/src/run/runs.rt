@@ -1,58 +1,15 @@
 // Runs on the opening cluster, whose queue has two slots on one host.
-use ge_rows::{
-    Cluster, Decision, Job, List, Request, Running, Start, Table, TaskId, TaskSet, TaskSpan, Text,
-    Twin, opening,
-};
+use crate::given::waiting_job;
+use ge_rows::{Cluster, Decision, Job, JobRow, List, Running, Start, TaskId, Twin, opening};
 use ge_scheduling::{all_wait, basis_of, begin_run, decide_tasks, decisions_of, others_wait, run};
 use std::alloc::{AllocError, Global};
 use std::test::Fail;
 
-fn nothing_asked(alloc: Global) -> Request {
-    Request {
-        asked: Table::new(alloc),
-        queues: List::new(alloc),
-        pe: None,
-    }
-}
-
-fn waiting_job(alloc: Global, number: u32) -> Job {
-    Job {
-        number,
-        name: Text::new(alloc),
-        owner: Text::new(alloc),
-        group: Text::new(alloc),
-        account: Text::new(alloc),
-        submitted: 10,
-        priority: 0,
-        share: 0,
-        project: Text::new(alloc),
-        reserve: false,
-        not_before: 0,
-        deadline: 0,
-        request: nothing_asked(alloc),
-        array: false,
-        span: TaskSpan {
-            first: 1,
-            last: 1,
-            step: 1,
-        },
-        queued: TaskSet::new(alloc),
-        broken: TaskSet::new(alloc),
-        running: Table::new(alloc),
-        hold: 0,
-        after: List::new(alloc),
-        after_each: List::new(alloc),
-        oticket: 0,
-        words: List::new(alloc),
-        script: Text::new(alloc),
-        advance: 0,
-    }
-}
-
 fn with_jobs(alloc: Global, jobs: u32) -> Result<Cluster, AllocError> {
     let mut cluster = opening(alloc)?;
     for number in 0..jobs {
-        cluster.jobs.insert(number, waiting_job(alloc, number))?;
+        let row = JobRow::new(alloc, waiting_job(alloc, number))?;
+        cluster.jobs.insert(number, row)?;
     }
     Ok(cluster)
 }
@@ -122,7 +79,9 @@ fn begin_all(
     for decision in decisions.items() {
         if let Decision::Start(start) = decision {
             let job = started_job(alloc, start)?;
-            cluster.jobs.insert(start.task.job, job)?;
+            cluster
+                .jobs
+                .insert(start.task.job, JobRow::new(alloc, job)?)?;
         }
     }
     Ok(())
@@ -162,7 +121,7 @@ fn all_wait_behind_full_slots(rt: HostRuntime) -> Result<(), Fail> {
     assert!(rt; all_wait(&cluster, &basis_of(alloc, &cluster, 21)?));
     let mut asking = waiting_job(alloc, 3);
     asking.reserve = true;
-    cluster.jobs.insert(3, asking)?;
+    cluster.jobs.insert(3, JobRow::new(alloc, asking)?)?;
     assert!(rt; !all_wait(&cluster, &basis_of(alloc, &cluster, 21)?));
     Ok(())
 }

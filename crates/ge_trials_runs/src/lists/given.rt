@@ -1,8 +1,9 @@
 // What is listed: two array jobs of ann, one of bob that waits for more slots than there are, and an advance reservation.
+use crate::given::{nothing_asked, waiting_job};
 use ge_ranges::parse_set;
 use ge_rows::{
-    Advance, Cluster, Grant, InstanceId, Job, List, PeRequest, Request, Running, Table, TaskSet,
-    TaskSpan, Text, Value, opening,
+    Advance, Cluster, Grant, InstanceId, Job, JobRow, List, PeRequest, Running, TaskSet, TaskSpan,
+    Text, Value, opening,
 };
 use std::alloc::{AllocError, Global};
 
@@ -17,52 +18,21 @@ fn tasks(alloc: Global, written: &str) -> Result<TaskSet, AllocError> {
     }
 }
 
-fn nothing_asked(alloc: Global) -> Request {
-    Request {
-        asked: Table::new(alloc),
-        queues: List::new(alloc),
-        pe: None,
-    }
-}
-
 // An array of these tasks that was submitted at 10.
 fn array_job(alloc: Global, number: u32, name: &str, queued: &str) -> Result<Job, AllocError> {
-    let name = text(alloc, name)?;
-    let owner = text(alloc, "ann")?;
-    let group = text(alloc, "staff")?;
-    let account = text(alloc, "sge")?;
-    let queued = tasks(alloc, queued)?;
-    Ok(Job {
-        number,
-        name,
-        owner,
-        group,
-        account,
-        submitted: 10,
-        priority: 0,
-        share: 0,
-        project: Text::new(alloc),
-        reserve: false,
-        not_before: 0,
-        deadline: 0,
-        request: nothing_asked(alloc),
-        array: true,
-        span: TaskSpan {
-            first: 1,
-            last: 10,
-            step: 3,
-        },
-        queued,
-        broken: TaskSet::new(alloc),
-        running: Table::new(alloc),
-        hold: 0,
-        after: List::new(alloc),
-        after_each: List::new(alloc),
-        oticket: 0,
-        words: List::new(alloc),
-        script: Text::new(alloc),
-        advance: 0,
-    })
+    let mut job = waiting_job(alloc, number);
+    job.name = text(alloc, name)?;
+    job.owner = text(alloc, "ann")?;
+    job.group = text(alloc, "staff")?;
+    job.account = text(alloc, "sge")?;
+    job.array = true;
+    job.span = TaskSpan {
+        first: 1,
+        last: 10,
+        step: 3,
+    };
+    job.queued = tasks(alloc, queued)?;
+    Ok(job)
 }
 
 // Two slots of all.q on local.
@@ -134,9 +104,9 @@ fn booked(alloc: Global) -> Result<Advance, AllocError> {
 /// The opening cluster with all of these.
 pub(crate) fn site(alloc: Global) -> Result<Cluster, AllocError> {
     let mut c = opening(alloc)?;
-    c.jobs.insert(1, first(alloc)?)?;
-    c.jobs.insert(2, second(alloc)?)?;
-    c.jobs.insert(3, third(alloc)?)?;
+    c.jobs.insert(1, JobRow::new(alloc, first(alloc)?)?)?;
+    c.jobs.insert(2, JobRow::new(alloc, second(alloc)?)?)?;
+    c.jobs.insert(3, JobRow::new(alloc, third(alloc)?)?)?;
     c.advances.insert(7, booked(alloc)?)?;
     Ok(c)
 }
