@@ -9,6 +9,10 @@ use crate::short_row::ShortRow;
 use crate::twin::Twin;
 use std::alloc::Global;
 use std::collections::BTreeMap;
+use std::mem;
+
+/// How many short rows there are at least where they are packed.
+const PACKED_ROWS: usize = 64;
 
 /// The short row at each key, and the numbers of labels, each below a bound. A number stays with its label.
 #[derive(Drop)]
@@ -16,6 +20,8 @@ pub(crate) struct ShortRows<K: Ord, L: Ord, F: Copy> {
     pub(crate) numbers: BTreeMap<L, u32>,
     pub(crate) bound: u32,
     pub(crate) rows: BTreeMap<K, ShortRow<F>>,
+    // How many rows there were where they were packed last.
+    pub(crate) packed: usize,
 }
 
 // The number of a label, which may be a new one: the bound, since that of any other is below it. It is looked up once.
@@ -144,6 +150,7 @@ fn begin<K: Ord + Drop, V: Row>(alloc: Global) -> Option<Box<ShortRows<K, V::Lab
         numbers: BTreeMap::new(alloc),
         bound: 0,
         rows: BTreeMap::new(alloc),
+        packed: 0,
     };
     match Box::new(alloc, shorts) {
         Ok(shorts) => Some(shorts),
@@ -200,6 +207,48 @@ fn is_crowded<K: Ord, L: Ord, F: Copy>(
     }
 }
 
+// Whether there are twice as many rows as where they were packed last.
+fn is_loose<K: Ord, L: Ord, F: Copy>(shorts: &ShortRows<K, L, F>) -> bool {
+    shorts.rows.len() / 2 >= shorts.packed.max(PACKED_ROWS)
+}
+
+// The same rows in full nodes, one behind the other.
+fn pack<K: Ord + Drop, F: Copy>(
+    alloc: Global,
+    rows: BTreeMap<K, ShortRow<F>>,
+) -> Option<BTreeMap<K, ShortRow<F>>>
+    ensures { IfSome result (λ packed. (q : K) → lookup (is_at (K.cmp q)) packed.entries
+        ≡ lookup (is_at (K.cmp q)) rows.entries) }
+{
+    match rows.into_iter().collect(alloc) {
+        Ok(packed) => Some(packed),
+        Err(_want) => None,
+    }
+}
+
+// Short rows that are packed, where there are many more than when that was done: a map whose keys rise is half full, and its
+// nodes lie apart, so that a walk waits for memory at each.
+fn packed<K: Ord + Twin + Drop, V: Row>(
+    alloc: Global,
+    shorts: Option<Box<ShortRows<K, V::Label, V::Facts>>>,
+) -> Option<Box<ShortRows<K, V::Label, V::Facts>>>
+    ensures { (look : K → Option V) → IfSome shorts
+        (λ b. AreShown K.cmp V.Label.cmp V.labels V.short b.value.numbers.entries b.value.bound
+        b.value.rows.entries look)
+        → IfSome result (λ b. AreShown K.cmp V.Label.cmp V.labels V.short b.value.numbers.entries
+        b.value.bound b.value.rows.entries look) }
+{
+    let mut shorts = shorts?;
+    if !is_loose(&shorts) {
+        return Some(shorts);
+    }
+    let rows = mem::replace(&mut shorts.rows, BTreeMap::new(alloc));
+    let rows = pack(alloc, rows)?;
+    shorts.packed = rows.len();
+    shorts.rows = rows;
+    Some(shorts)
+}
+
 /// Short rows for a table that a row is about to come to. Where it is empty they begin anew, and where most labels are of
 /// rows that went they are made anew, so that labels take no more memory than rows.
 pub(crate) fn ready<K: Ord + Twin + Drop, V: Row>(
@@ -218,7 +267,7 @@ pub(crate) fn ready<K: Ord + Twin + Drop, V: Row>(
     if is_crowded(&shorts, rows.len()) {
         return renewed::<K, V>(alloc, rows);
     }
-    shorts
+    packed::<K, V>(alloc, shorts)
 }
 
 /// No row is at a key.
