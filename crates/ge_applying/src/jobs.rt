@@ -4,55 +4,16 @@ ghost use Rattle.ge_model_jobs.specs.Altering.{with_job, alter_job, with_altered
 ghost use Rattle.ge_model_jobs.specs.Ending.{clear_from, with_cleared};
 
 use ge_jobs::{JobTable, NamedTasks, alter, clear_named, hold, joined, release, submit};
-use ge_rows::{Cluster, Job, List, Patch, Pick, Request, Table, TaskSet, TaskSpan, Text};
+use ge_rows::{Cluster, JobRow, Patch, Pick, Table};
 use std::alloc::{AllocError, Global};
-
-/// A job of nobody, which takes no memory: what an entry is left with whose job was moved into the cluster.
-pub(crate) fn no_job(alloc: Global) -> Job {
-    Job {
-        number: 0,
-        name: Text::new(alloc),
-        owner: Text::new(alloc),
-        group: Text::new(alloc),
-        account: Text::new(alloc),
-        submitted: 0,
-        priority: 0,
-        share: 0,
-        project: Text::new(alloc),
-        reserve: false,
-        not_before: 0,
-        deadline: 0,
-        request: Request {
-            asked: Table::new(alloc),
-            queues: List::new(alloc),
-            pe: None,
-        },
-        array: false,
-        span: TaskSpan {
-            first: 1,
-            last: 1,
-            step: 1,
-        },
-        queued: TaskSet::new(alloc),
-        broken: TaskSet::new(alloc),
-        running: Table::new(alloc),
-        hold: 0,
-        after: List::new(alloc),
-        after_each: List::new(alloc),
-        oticket: 0,
-        words: List::new(alloc),
-        script: Text::new(alloc),
-        advance: 0,
-    }
-}
 
 /// A job comes, and the next one has the number after it.
 #[tactic(auto, unfolding(ge_model_jobs::specs::Altering::with_job))]
-pub(crate) fn add_job(alloc: Global, c: &mut Cluster, job: Job) -> Result<(), AllocError>
+pub(crate) fn add_job(c: &mut Cluster, job: JobRow) -> Result<(), AllocError>
     ensures { OnOk result (c.new ≡ with_job c.old job) }
 {
-    let next = job.number.saturating_add(1);
-    submit(alloc, &mut c.jobs, job)?;
+    let next = job.job().number.saturating_add(1);
+    submit(&mut c.jobs, job)?;
     c.next_job = next;
     Ok(())
 }

@@ -12,7 +12,7 @@ use ge_bodies::body;
 use ge_config::read_item;
 use ge_model_grammar::Body;
 use ge_pieces::ReadFault;
-use ge_rows::{Change, Cluster, Event, Item, ObjectKind, Planned, Text};
+use ge_rows::{Change, Cluster, Event, Item, ObjectKind, Own, Planned, Text};
 use std::alloc::{AllocError, Global};
 
 fn add_manager(alloc: Global, c: &Cluster, e: &Event, name: &Text) -> Result<Planned, AllocError>
@@ -25,7 +25,8 @@ fn add_manager(alloc: Global, c: &Cluster, e: &Event, name: &Text) -> Result<Pla
         return refuse(alloc, refusal);
     }
     let names = enlisted(alloc, &c.managers, name)?;
-    done(alloc, e, Change::Put(Item::Managers(names)))
+    let item = Own::new(alloc, Item::Managers(names))?;
+    done(alloc, e, Change::Put(item))
 }
 
 fn add_operator(alloc: Global, c: &Cluster, e: &Event, name: &Text) -> Result<Planned, AllocError>
@@ -38,7 +39,8 @@ fn add_operator(alloc: Global, c: &Cluster, e: &Event, name: &Text) -> Result<Pl
         return refuse(alloc, refusal);
     }
     let names = enlisted(alloc, &c.operators, name)?;
-    done(alloc, e, Change::Put(Item::Operators(names)))
+    let item = Own::new(alloc, Item::Operators(names))?;
+    done(alloc, e, Change::Put(item))
 }
 
 // All of the body is read, also where the user may not: a refusal with an earlier code may answer.
@@ -55,6 +57,7 @@ fn put_read(
 {
     let mut faults = role_fault(c, e);
     let item = read_item(alloc, c, kind, adding, parts, &mut faults)?;
+    let item = Own::new(alloc, item)?;
     decide(alloc, e, faults, Change::Put(item))
 }
 

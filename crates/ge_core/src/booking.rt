@@ -17,7 +17,7 @@ use ge_pieces::note;
 use ge_place::place_job;
 use ge_request::request_over;
 use ge_rows::{
-    Advance, Change, Cluster, Event, Grant, Kind, List, Options, Planned, Request, Text, Twin,
+    Advance, Change, Cluster, Event, Grant, Kind, List, Options, Own, Planned, Request, Text, Twin,
 };
 use ge_submitting::{no_request, number_given, option_word, text_given};
 use ge_timeline::Timeline;
@@ -155,7 +155,7 @@ fn book(alloc: Global, c: &Cluster, e: &Event, mut asked: Advance) -> Result<Pla
     };
     asked.grants = grants;
     let line = granted_line(alloc, c.next_advance)?;
-    accept(alloc, e, Change::Book(asked), line)
+    accept(alloc, e, Change::Book(Own::new(alloc, asked)?), line)
 }
 
 fn book_or_refuse(

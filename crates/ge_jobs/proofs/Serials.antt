@@ -4,7 +4,7 @@ use Rattle.std.specs.List.{list_any}
 use Rattle.std.specs.Prelude.{Some}
 use Rattle.std.specs.Ordering.{nat_cmp}
 use Rattle.std.specs.BTreeMap.{is_at}
-use Rattle.ge_model_jobs.proofs.BorneMarks.{of_serial, at_serial}
+use Rattle.ge_model_jobs.proofs.BorneMarks.{of_serial, at_serial, is_serial}
 use Rattle.ge_rows.specs.declared.jobs.Running.{Running}
 use Rattle.ge_rows.specs.declared.jobs.Job.{Job}
 use Rattle.ge_rows.specs.declared.marks.JobMark.{JobMark}
@@ -39,7 +39,7 @@ module _ (serial : ℕ) where
 
   -- a running task bears the mark of its serial
   pub task_bears : (row : ℕ × Running) → list_any (is_at (nat_cmp serial)) (row.1.serial ∷ []) ≡ has_serial serial row
-  task_bears row = alone (is_at (nat_cmp serial) row.1.serial) ∙ at_serial serial row.1.serial
+  task_bears row = alone (is_at (nat_cmp serial) row.1.serial) ∙ is_serial serial row.1.serial
     where
       alone : (b : Bool) → (b || false) ≡ b
       alone true = refl

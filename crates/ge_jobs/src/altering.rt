@@ -14,13 +14,12 @@ use ge_rows::{
 use std::alloc::{AllocError, Global};
 
 /// A job comes under its number (qsub). After want of memory the table is as it was.
-pub fn submit(alloc: Global, jobs: &mut JobTable, job: Job) -> Result<(), AllocError>
+pub fn submit(jobs: &mut JobTable, job: JobRow) -> Result<(), AllocError>
     ensures ok { OnOk result (jobs.new ≡ submitted jobs.old job) }
     ensures err { OnErr result (jobs.new ≡ jobs.old) }
 {
-    let number = job.number;
-    let row = JobRow::new(alloc, job)?;
-    let _before = jobs.insert(number, row)?;
+    let number = job.job().number;
+    let _before = jobs.insert(number, job)?;
     Ok(())
 }
 

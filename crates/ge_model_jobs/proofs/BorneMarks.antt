@@ -4,6 +4,9 @@ use Rattle.std.specs.List.{list_any}
 use Rattle.std.specs.Map.{keys_of, values_of}
 use Rattle.std.specs.Prelude.{Option, Some, None}
 use Rattle.std.specs.BTreeMap.{is_at}
+use Rattle.std.specs.Ordering.{ordering_then, is_eq, nat_cmp}
+use Rattle.std.specs.declared.cmp.Ordering.{Ordering}
+use Rattle.std.specs.declared.cmp.Ordering.TheVariants.{Less, Equal, Greater}
 use Rattle.std.proofs.lemmas.List.Folds.{list_any-append}
 use Rattle.ge_model_jobs.specs.Starting.{is_joined}
 use Rattle.ge_model_jobs.proofs.Keys.{same_key}
@@ -129,9 +132,18 @@ module _ (test : JobMark → Bool) (most : LacksMost test) where
 turned : (a b : ℕ) → (a == b) ≡ (b == a)
 turned a b = grind arith
 
+-- behind numbers there are no names
+number_alone : (o : Ordering) → is_eq (ordering_then o Equal) ≡ is_eq o
+number_alone Less = refl
+number_alone Equal = refl
+number_alone Greater = refl
+
+pub is_serial : (serial n : ℕ) → is_at (nat_cmp serial) n ≡ (n == serial)
+is_serial serial n = same_key serial n ∙ turned serial n
+
 -- a mark is at another of its sort with no names where their numbers are one
 pub at_serial : (serial n : ℕ) → is_at (order.ghosts.cmp (mark_of sort.Serial [] [] serial)) (mark_of sort.Serial [] [] n) ≡ (n == serial)
-at_serial serial n = same_key serial n ∙ turned serial n
+at_serial serial n = number_alone (nat_cmp serial n) ∙ is_serial serial n
 
 module _ (number : ℕ) (some : 1 ≤ number) where
   abbrev is_it : JobMark → Bool
@@ -142,7 +154,7 @@ module _ (number : ℕ) (some : 1 ≤ number) where
 
   on_advance : (n : ℕ) → list_any is_it (advance_marks n) ≡ (n == number)
   on_advance zero = none_there number some
-  on_advance (suc n) = alone (is_it (mark_of sort.Advance [] [] (suc n))) ∙ same_key number (suc n) ∙ turned number (suc n)
+  on_advance (suc n) = alone (is_it (mark_of sort.Advance [] [] (suc n))) ∙ number_alone (nat_cmp number (suc n)) ∙ is_serial number (suc n)
 
   -- a job bears the mark of a reservation exactly where it names it
   bears_advance : (job : Job) → list_any is_it (job_marks job) ≡ (job.advance == number)

@@ -17,7 +17,7 @@ use Rattle.ge_model_order.specs.Urgency.{in_ones, value_urgency, resource_urgenc
 use Rattle.ge_order.specs.Standings.{AreUnits, adds_beside, others_add, others_urgency, with_other}
 use Rattle.ge_order.specs.declared.asked.Units.{Units}
 
-neither : (a b : Bool) → (a || b) ≡ false → (a ≡ false) × (b ≡ false)
+pub neither : (a b : Bool) → (a || b) ≡ false → (a ≡ false) × (b ≡ false)
 neither true b none = absurd (true≢false none)
 neither false b none = (refl, none)
 

@@ -2,6 +2,7 @@ pub mod OneKind
 pub mod Rising
 pub mod Ordered
 pub mod InParts
+pub mod Sequential
 pub mod Slots
 pub mod Beside
 pub mod Scaled

@@ -1,10 +1,13 @@
 -- Jobs of one kind ask alike, and short rows tell what is known of jobs.
-use Rattle.std.proofs.Common.{◌≡◌, ◌<◌, ℕ, List, Option, Some, None, refl, sym, ap, ◌∙◌, map, length, get_or, replicate}
-use Rattle.std.specs.Prelude.{slice_set, refl as same}
+use Rattle.std.proofs.Common.{◌≡◌, ◌<◌, ℕ, Bool, true, false, cond, List, [], ◌∷◌, Option, Some, None, refl, sym, ap, ◌∙◌, map, length, get_or, replicate}
+use Rattle.std.specs.Prelude.{All, IfSome, slice_set, refl as same}
+use Rattle.std.specs.BTreeMap.{is_at}
+use Rattle.std.specs.List.Sorted.{IsStrictlySortedBy}
+use Rattle.std.specs.Map.{keys_of, values_of}
 use Rattle.std.specs.Ordering.{nat_cmp}
 use Rattle.std.specs.Option.{option_map}
-use Rattle.std.proofs.lemmas.List.Elements.{All-get_or, All-set, All-replicate}
-use Rattle.ge_collections.specs.Keyed.{at_number}
+use Rattle.std.proofs.lemmas.List.Elements.{All-head, All-tail, All-get_or, All-set, All-replicate}
+use Rattle.ge_collections.specs.Keyed.{at_number, text_cmp}
 use Rattle.ge_collections.specs.Short.{AreShort, short_of}
 use Rattle.ge_collections.specs.declared.short_row.ShortRow.{ShortRow}
 use Rattle.ge_model_rows.specs.ClusterRows.{Cluster}
@@ -12,12 +15,26 @@ use Rattle.ge_model_rows.specs.JobRows.{Job}
 use Rattle.ge_model_jobs.proofs.SameKind.{one_kind}
 use Rattle.ge_model_order.specs.Urgency.{resources_urgency, urgency_of}
 use Rattle.ge_rows.specs.JobShort.{job_facts, job_labels}
+use Rattle.ge_rows.specs.Orderly.{IsOrderlyJob}
 use Rattle.ge_rows.specs.declared.labels.JobFacts.{JobFacts}
 use Rattle.ge_rows.specs.contracts.labels.JobLabelOrd.TheImpl.{cmp-value as by_label}
 use Rattle.ge_order.specs.Kinds.{kind_in, asked_of, SameAsked, AreAsked, IsAsked, TellJobs, urgent_by, told_standing}
 use Rattle.ge_order.specs.Standings.{standing_of, urgent_of}
 use Rattle.ge_order.specs.declared.standing.Standing.{Standing}
 use Rattle.ge_order.specs.declared.standing.Urgent.{Urgent}
+
+abbrev IsNamed : Job → Type 0
+IsNamed job = IsStrictlySortedBy text_cmp (keys_of job.request.asked)
+
+-- what the job under a number asks for stands by name
+named_at : (jobs : List (ℕ × Job)) (number : ℕ) → All IsOrderlyJob (values_of jobs) → IfSome (at_number jobs number) IsNamed
+named_at [] number all = tt
+named_at (row ∷ rows) number all =
+    by (is_at (nat_cmp number) row.0) (named_at rows number (All-tail IsOrderlyJob row.1 (values_of rows) all))
+  where
+    by : (here : Bool) → IfSome (at_number rows number) IsNamed → IfSome (cond here (Some row.1) (at_number rows number)) IsNamed
+    by true later = (All-head IsOrderlyJob row.1 (values_of rows) all).3
+    by false later = later
 
 module _ (c : Cluster) (rows : List (ℕ × ShortRow JobFacts)) (bound : ℕ) (are : AreShort nat_cmp by_label.it job_labels job_facts rows bound c.jobs) where
   none_there : (number kind : ℕ) → at_number c.jobs number ≡ None → kind_in rows number ≡ Some kind → ◌≡◌ {A = Option ℕ} None (Some kind)
@@ -45,8 +62,12 @@ module _ (c : Cluster) (rows : List (ℕ × ShortRow JobFacts)) (bound : ℕ) (a
       by (Some job) = refl
 
   -- the short rows of jobs tell of them
-  pub rows_tell : TellJobs c rows
-  rows_tell = record { alike = same_asked; facts = same_facts }
+  pub rows_tell : All IsOrderlyJob (values_of c.jobs) → TellJobs c rows
+  rows_tell orderly = record {
+    alike = same_asked;
+    facts = same_facts;
+    named = λ number. named_at c.jobs number orderly;
+  }
 
 module _ (c : Cluster) (rows : List (ℕ × ShortRow JobFacts)) where
   pub none_last : (last : Option (ℕ × ℕ)) → last ≡ None → IsAsked c rows last

@@ -15,6 +15,7 @@ use Rattle.ge_collections.specs.Keyed.{at_number}
 use Rattle.ge_collections.specs.Short.{AreShort, short_of}
 use Rattle.ge_collections.specs.declared.short_row.ShortRow.{ShortRow}
 use Rattle.ge_rows.specs.JobShort.{has_some, job_facts, job_labels}
+use Rattle.ge_rows.specs.Orderly.{IsOrderlyJob}
 use Rattle.ge_rows.specs.declared.labels.JobFacts.{JobFacts}
 use Rattle.ge_rows.specs.contracts.labels.JobLabelOrd.TheImpl.{cmp-value as by_label}
 use Rattle.ge_model_rows.specs.ClusterRows.{Cluster}
@@ -107,10 +108,6 @@ module _ (c : Cluster) (now number : ℕ) where
         ap (λ each. is_empty (first_tasks 1 (difference job.queued (fold (with_holding c.jobs) [] each)))) (nothing_in job.after_each follow.1) ∙ some_waits job.queued form waits,
       ))
       ∙ ap (λ o. not (is_empty (eligible_of c.jobs now 1 o))) (sym there)
-
--- what holds of each job by its own types
-abbrev pub IsOrderlyJob : Job → Type 0
-IsOrderlyJob job = (is_form job.queued ≡ true) × ((is_form job.broken ≡ true) × IsStrictlySortedBy nat_cmp (keys_of job.running))
 
 module _ (c : Cluster) (now bound : ℕ) (shorts : List (ℕ × ShortRow JobFacts)) (are : AreShort nat_cmp by_label.it job_labels job_facts shorts bound c.jobs) where
   chosen : (rows : List (ℕ × Job)) → AllByRecursion (λ e. at_number c.jobs e.0 ≡ Some e.1) rows → AllByRecursion IsOrderlyJob (values_of rows)

@@ -1,8 +1,10 @@
 -- What requests add to urgency, by the kinds of jobs, and what short rows tell of the jobs of a list.
-use Rattle.std.specs.Prelude.{◌≡◌, ℕ, ◌-◌, ◌/◌, ◌^◌, ◌==◌, if◌then◌else◌, min, max, List, All, Option, Some, None}
+use Rattle.std.specs.Prelude.{◌≡◌, ℕ, ◌-◌, ◌/◌, ◌^◌, ◌==◌, if◌then◌else◌, min, max, List, All, Option, Some, None, IfSome}
+use Rattle.std.specs.List.Sorted.{IsStrictlySortedBy}
+use Rattle.std.specs.Map.{keys_of}
 use Rattle.std.specs.Option.{option_map}
 use Rattle.ge_base.specs.Fixed.{cut_sum, cut_product}
-use Rattle.ge_collections.specs.Keyed.{at_number}
+use Rattle.ge_collections.specs.Keyed.{at_number, text_cmp}
 use Rattle.ge_collections.specs.declared.short_row.ShortRow.{ShortRow}
 use Rattle.ge_model_rows.specs.ClusterRows.{Cluster}
 use Rattle.ge_model_order.specs.Urgency.{resources_urgency}
@@ -31,10 +33,11 @@ IsAsked c rows last = (kind asked : ℕ) → last ≡ Some (kind, asked) → (nu
 abbrev pub AreAsked : Cluster → List (ℕ × ShortRow JobFacts) → List (Option (ℕ × ℕ)) → Type 0
 AreAsked c rows kinds = All (IsAsked c rows) kinds
 
--- short rows are those of the jobs
+-- short rows are those of the jobs, and what each job asks for stands by name
 pub record TellJobs (c : Cluster) (rows : List (ℕ × ShortRow JobFacts)) : Type 0 where
   pub alike : SameAsked c rows
   pub facts : (number : ℕ) → option_map (λ row. row.facts) (at_number rows number) ≡ option_map job_facts (at_number c.jobs number)
+  pub named : (number : ℕ) → IfSome (at_number c.jobs number) (λ job. IsStrictlySortedBy text_cmp (keys_of job.request.asked))
 
 -- the urgency by what a request adds, the moment of the submission and the deadline
 abbrev pub urgency_by : Cluster → ℕ → ℕ → ℕ → ℕ → ℕ

@@ -53,6 +53,10 @@ prio_of sched scale entry = prio_of_urgent sched scale entry.0.job entry.1 entry
 abbrev pub slot_urgency : ℕ → Option ComplexDef → ℕ
 slot_urgency slots unit = elim unit [ None ↦ 0 | Some complex ↦ value_urgency complex slots (Amount 1) ]
 
+-- what a sequential job adds that asks for nothing else which adds
+abbrev pub sequential_urgency : Option ComplexDef → ℕ
+sequential_urgency unit = cut_sum 0 (slot_urgency 1 unit)
+
 -- one more resource, if it isn't slots
 abbrev pub with_other : Cluster → ℕ → ℕ → List ℕ × Value → ℕ
 with_other c slots total asked = if is_at (text_cmp (codes "slots")) asked.0 then total else cut_sum total (resource_urgency c slots asked)

@@ -167,6 +167,13 @@ pub(crate) fn units_of(c: &Cluster) -> Units<'_>
     }
 }
 
+/// What resources add to the urgency of a sequential job, where no complex beside slots adds any.
+pub(crate) fn sequential_urgency(units: Units<'_>) -> u128
+    ensures { result ≡ standings.sequential_urgency (option_copied units.entry.slots) }
+{
+    sum_of(0, slot_urgency(1, units.slots))
+}
+
 /// What all resources add that a job asks for, given what complexes tell.
 #[tactic(auto, using(crate::proofs::Slots::slots_apart))]
 pub(crate) fn resources_urgency(c: &Cluster, units: Units<'_>, request: &Request) -> u128

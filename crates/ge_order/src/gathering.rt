@@ -1,7 +1,7 @@
 // What short rows tell of all candidates, in one walk.
 ghost use Rattle.std.specs.Prelude.{◌≡◌, IfOk, map};
 ghost use Rattle.ge_tickets.specs.Own.{told_tickets};
-ghost use Rattle.ge_order.specs.Kinds.{SameAsked, told_standing};
+ghost use Rattle.ge_order.specs.Kinds.{TellJobs, told_standing};
 ghost use Rattle.ge_order.specs.Repeated.{candidate_of, standing, IsScale};
 ghost use Rattle.ge_order.specs.Told.{chosen};
 
@@ -53,7 +53,7 @@ pub(crate) fn gather(
     rows: &BTreeMap<u32, ShortRow<JobFacts>>,
     now: u64,
 ) -> Result<Gathered, AllocError>
-    ensures standings { SameAsked c.now rows.now.entries → IfOk result (λ found.
+    ensures standings { TellJobs c.now rows.now.entries → IfOk result (λ found.
         map standing found.candidates.items ≡ map (told_standing c.now rows.now.entries now)
         (chosen c.now now rows.now.entries)) }
     ensures tickets { IfOk result (λ found. map (λ x. x.tickets) found.candidates.items

@@ -1,14 +1,16 @@
-// What requests add to urgency, kept for kinds of jobs: a walk meets few of them, and mostly the same ones again.
-ghost use Rattle.std.specs.Prelude.{◌≡◌, ℕ, List as Items, Some, IfSome};
+// What requests add to urgency, told by short rows or kept for kinds of jobs: a walk meets few kinds, and mostly the same
+// ones again.
+ghost use Rattle.std.specs.Prelude.{◌≡◌, ◌||◌, ℕ, List as Items, Some, IfSome};
 ghost use Rattle.ge_collections.specs.declared.short_row.ShortRow.{ShortRow as Short};
 ghost use Rattle.ge_model_rows.specs.ClusterRows.{Cluster as Rows};
 ghost use Rattle.ge_rows.specs.declared.labels.JobFacts.{JobFacts as Facts};
-ghost use Rattle.ge_order.specs.Kinds.{kind_in, asked_of, SameAsked, AreAsked};
+ghost use Rattle.ge_collections.specs.Keyed.{at_number};
+ghost use Rattle.ge_order.specs.Kinds.{kind_in, asked_of, SameAsked, AreAsked, TellJobs};
 ghost use Rattle.ge_order.specs.Standings.{AreUnits};
 
-use crate::asked::{Units, resources_urgency};
+use crate::asked::{Units, resources_urgency, sequential_urgency};
 use ge_jobs::get;
-use ge_rows::Cluster;
+use ge_rows::{Cluster, JobFacts, ShortRow};
 
 /// How many kinds are kept.
 const PLACES: usize = 64;
@@ -42,14 +44,8 @@ fn of_kind(kept: &Option<(u32, u128)>, kind: u32) -> Option<u128>
     }
 }
 
-/// What the request of a job of a kind adds: that of another of its kind, where one is kept.
-pub(crate) fn kind_urgency(
-    c: &Cluster,
-    units: Units<'_>,
-    kinds: &mut Kinds,
-    kind: u32,
-    number: u32,
-) -> u128
+// What the request of a job of a kind adds: that of another of its kind, where one is kept.
+fn kind_urgency(c: &Cluster, units: Units<'_>, kinds: &mut Kinds, kind: u32, number: u32) -> u128
     ensures asked { (rows : Items (ℕ × Short Facts)) → AreUnits c.now units.entry
         → kind_in rows number ≡ Some kind → AreAsked c.now rows kinds.old
         → result ≡ asked_of c.now number }
@@ -65,5 +61,34 @@ pub(crate) fn kind_urgency(
             kinds[place] = Some((kind, asked));
             asked
         }
+    }
+}
+
+// Whether what the request of a job adds is looked up.
+fn is_looked_up(units: Units<'_>, facts: &JobFacts) -> bool
+    ensures { result ≡ (facts.now.parallel || units.entry.others) }
+{
+    facts.parallel || units.others
+}
+
+/// What the request of the job of a short row adds. That of a sequential job isn't looked up where no complex beside slots adds.
+pub(crate) fn row_urgency(
+    c: &Cluster,
+    units: Units<'_>,
+    kinds: &mut Kinds,
+    number: u32,
+    row: &ShortRow<JobFacts>,
+) -> u128
+    ensures asked { (rows : Items (ℕ × Short Facts)) → AreUnits c.now units.entry
+        → at_number rows number ≡ Some row.now → TellJobs c.now rows
+        → AreAsked c.now rows kinds.old → result ≡ asked_of c.now number }
+    ensures kept { (rows : Items (ℕ × Short Facts)) → AreUnits c.now units.entry
+        → at_number rows number ≡ Some row.now → TellJobs c.now rows
+        → AreAsked c.now rows kinds.old → AreAsked c.now rows kinds.new }
+{
+    if is_looked_up(units, &row.facts) {
+        kind_urgency(c, units, kinds, row.third, number)
+    } else {
+        sequential_urgency(units)
     }
 }

@@ -3,12 +3,12 @@ ghost use Rattle.std.specs.Prelude.{◌≡◌, ℕ, List as Items, Some, None, I
 ghost use Rattle.ge_collections.specs.Keyed.{at_number};
 ghost use Rattle.ge_collections.specs.declared.short_row.ShortRow.{ShortRow as Short};
 ghost use Rattle.ge_rows.specs.declared.labels.JobFacts.{JobFacts as Facts};
-ghost use Rattle.ge_order.specs.Kinds.{asked_of, SameAsked, urgency_by as urgency_of};
+ghost use Rattle.ge_order.specs.Kinds.{asked_of, TellJobs, urgency_by as urgency_of};
 ghost use Rattle.ge_order.specs.Repeated.{urged_by, seen_more, Knows, IsWithin};
 ghost use Rattle.ge_order.specs.Standings.{AreUnits, lesser as least_of};
 
 use crate::asked::Units;
-use crate::kinds::{Kinds, kind_urgency};
+use crate::kinds::{Kinds, row_urgency};
 use crate::urging::urgency_by;
 use ge_rows::{Cluster, JobFacts, ShortRow};
 
@@ -96,11 +96,12 @@ pub(crate) fn urgency_again(
     now: u64,
 ) -> u128
     ensures urgency { (rows : Items (ℕ × Short Facts)) → AreUnits c.now units.entry
-        → at_number rows number ≡ Some row.now → Knows c.now rows now kinds.old seen.old.last
+        → at_number rows number ≡ Some row.now → TellJobs c.now rows
+        → Knows c.now rows now kinds.old seen.old.last
         → result ≡ urgency_of c.now (asked_of c.now number) row.now.facts.submitted
         row.now.facts.deadline now }
     ensures known { (rows : Items (ℕ × Short Facts)) → AreUnits c.now units.entry
-        → at_number rows number ≡ Some row.now → SameAsked c.now rows
+        → at_number rows number ≡ Some row.now → TellJobs c.now rows
         → Knows c.now rows now kinds.old seen.old.last
         → Knows c.now rows now kinds.new seen.new.last }
     ensures low { IsWithin seen.old → seen.new.low ≡ Some (least_of seen.old.low result) }
@@ -110,7 +111,7 @@ pub(crate) fn urgency_again(
     match of_like(&seen.last, row) {
         Some(urgency) => urgency,
         None => {
-            let asked = kind_urgency(c, units, kinds, row.third, number);
+            let asked = row_urgency(c, units, kinds, number, row);
             let urgency = urgency_by(c, asked, row.facts.submitted, row.facts.deadline, now);
             *seen = see(seen, row, urgency);
             urgency

@@ -72,6 +72,7 @@ pub(crate) fn standings(
 ) -> Result<Vec<Standing>, AllocError>
     ensures { IfOk result (λ standings. standings.items ≡ map (standing_of c.now now) jobs.now) }
 {
+    c.jobs.orderly();
     match c.jobs.shorts() {
         Some(shorts) => {
             let standings = standings_told(alloc, c, shorts.rows, jobs, now)?;

@@ -8,7 +8,7 @@ ghost use Rattle.ge_order.specs.Kinds as kind;
 ghost use Rattle.ge_order.specs.Standings.{AreUnits};
 
 use crate::asked::{Units, units_of};
-use crate::kinds::{Kinds, kind_urgency, no_kinds};
+use crate::kinds::{Kinds, no_kinds, row_urgency};
 use crate::standing::{Standing, Urgent};
 use crate::urging::urgency_by;
 use ge_beside::{row_at, walk};
@@ -37,11 +37,12 @@ fn standing_told<'a>(
     now: u64,
 ) -> Standing
     ensures standing { AreUnits c.now units.entry → AreFound rows.now.entries left.old
+        → kind.TellJobs c.now rows.now.entries
         → kind.AreAsked c.now rows.now.entries kinds.old
         → result ≡ kind.told_standing c.now rows.now.entries now number }
     ensures others { AreFound rows.now.entries left.old → AreFound rows.now.entries left.new }
     ensures asked { AreUnits c.now units.entry → AreFound rows.now.entries left.old
-        → kind.SameAsked c.now rows.now.entries
+        → kind.TellJobs c.now rows.now.entries
         → kind.AreAsked c.now rows.now.entries kinds.old
         → kind.AreAsked c.now rows.now.entries kinds.new }
 {
@@ -51,7 +52,7 @@ fn standing_told<'a>(
             urgent: None,
         },
         Some(row) => {
-            let asked = kind_urgency(c, units, kinds, row.third, number);
+            let asked = row_urgency(c, units, kinds, number, row);
             Standing {
                 job: number,
                 urgent: Some(urgent_by(c, now, asked, &row.facts)),
@@ -68,7 +69,7 @@ pub(crate) fn standings_told(
     jobs: &[u32],
     now: u64,
 ) -> Result<Vec<Standing>, AllocError>
-    ensures { kind.SameAsked c.now rows.now.entries → IfOk result (λ standings. standings.items
+    ensures { kind.TellJobs c.now rows.now.entries → IfOk result (λ standings. standings.items
         ≡ map (kind.told_standing c.now rows.now.entries now) jobs.now) }
 {
     let units = units_of(c);

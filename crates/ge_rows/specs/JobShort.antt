@@ -1,5 +1,5 @@
 -- What is kept of a job for walks over all jobs.
-use Rattle.std.specs.Prelude.{ℕ, Bool, not, ◌||◌, ◌==◌, List, length}
+use Rattle.std.specs.Prelude.{ℕ, Bool, not, ◌||◌, ◌==◌, List, length, is_some}
 use Rattle.ge_rows.specs.declared.jobs.Job.{Job}
 use Rattle.ge_rows.specs.declared.labels.JobFacts.{JobFacts}
 use Rattle.ge_rows.specs.declared.labels.JobKind.{JobKind}
@@ -21,6 +21,7 @@ job_facts job = record {
   waits = has_some job.queued;
   follows = has_some job.after || has_some job.after_each;
   runs = has_some job.running;
+  parallel = is_some job.request.pe;
 }
 
 -- who it is of and what it asks for

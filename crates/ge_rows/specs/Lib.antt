@@ -4,6 +4,7 @@ pub mod JobShort
 pub mod Marks
 pub mod Opening
 pub mod OpeningComplexes
+pub mod Orderly
 pub mod Parts
 pub mod Sizes
 pub mod TaskSet

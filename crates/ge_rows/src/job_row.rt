@@ -80,13 +80,9 @@ impl Twin for JobRow {
 }
 
 impl Row for JobRow {
-    ghost use Rattle.std.specs.Prelude.{◌≡◌, true};
-    ghost use Rattle.std.specs.List.Sorted.{IsStrictlySortedBy};
-    ghost use Rattle.std.specs.Map.{keys_of};
-    ghost use Rattle.std.specs.Ordering.{nat_cmp};
     ghost use Rattle.ge_rows.specs.Marks.{job_marks};
     ghost use Rattle.ge_rows.specs.Weights.{live_tasks, script_bytes};
-    ghost use Rattle.ge_rows.specs.TaskSet.{is_form};
+    ghost use Rattle.ge_rows.specs.Orderly.{IsOrderlyJob};
     ghost use Rattle.ge_rows.specs.JobShort.{job_facts, job_labels};
 
     /// What it names, and what its running tasks have.
@@ -105,7 +101,7 @@ impl Row for JobRow {
 
     ghost labels = { job_labels };
 
-    ghost IsOrderly = { λ job. (is_form job.queued ≡ true) × ((is_form job.broken ≡ true) × IsStrictlySortedBy nat_cmp (keys_of job.running)) };
+    ghost IsOrderly = { IsOrderlyJob };
 
     fn weights(&self) -> (u128, u128) {
         self.own.weights()

@@ -342,6 +342,7 @@ fn facts_of(job: &Job) -> JobFacts
         waits: !job.queued.spans().is_empty(),
         follows: !job.after.items().is_empty() || !job.after_each.items().is_empty(),
         runs: !job.running.is_empty(),
+        parallel: job.request.pe.is_some(),
     }
 }
 
@@ -351,13 +352,9 @@ fn room_of(job: &Job) -> usize {
 }
 
 impl Row for Job {
-    ghost use Rattle.std.specs.Prelude.{◌≡◌, true};
-    ghost use Rattle.std.specs.List.Sorted.{IsStrictlySortedBy};
-    ghost use Rattle.std.specs.Map.{keys_of};
-    ghost use Rattle.std.specs.Ordering.{nat_cmp};
     ghost use Rattle.ge_rows.specs.Marks.{job_marks};
     ghost use Rattle.ge_rows.specs.Weights.{live_tasks, script_bytes};
-    ghost use Rattle.ge_rows.specs.TaskSet.{is_form};
+    ghost use Rattle.ge_rows.specs.Orderly.{IsOrderlyJob};
     ghost use Rattle.ge_rows.specs.JobShort.{job_facts, job_labels};
 
     /// What it names, and what its running tasks have.
@@ -376,7 +373,7 @@ impl Row for Job {
 
     ghost labels = { job_labels };
 
-    ghost IsOrderly = { λ job. (is_form job.queued ≡ true) × ((is_form job.broken ≡ true) × IsStrictlySortedBy nat_cmp (keys_of job.running)) };
+    ghost IsOrderly = { IsOrderlyJob };
 
     fn weights(&self) -> (u128, u128) {
         (live_tasks(self), self.script.len() as u128)
@@ -409,5 +406,6 @@ impl Row for Job {
         let _queued = self.queued.spans();
         let _broken = self.broken.spans();
         let _running = self.running.len();
+        let _asked = self.request.asked.len();
     }
 }

@@ -6,7 +6,7 @@ use crate::jobs::{Job, Request};
 use ge_collections::{Text, Twin, twins2, twins4};
 use std::alloc::{AllocError, Global};
 
-/// What a scheduling run reads of every job, in 48 bytes. See the manual page qsub.
+/// What a scheduling run reads of every job, in 56 bytes. See the manual page qsub.
 #[derive(Clone, Copy, Debug, PartialEq, Eq)]
 pub struct JobFacts {
     /// When it was submitted, in seconds.
@@ -29,6 +29,8 @@ pub struct JobFacts {
     pub follows: bool,
     /// Whether a task runs.
     pub runs: bool,
+    /// `-pe`: whether it asks for a parallel environment.
+    pub parallel: bool,
 }
 
 /// Who a job is of and what it asks for. Jobs of one kind may use the same hosts and queues, have the same urgency but

@@ -8,10 +8,10 @@
 //! - `marks`, `labels`, `job_rows`, `plain_rows`: what a table keeps of its rows beside them.
 //! - `cluster`: all of these together; `opening_rows`: the cluster before the first command.
 //! - `scheduling`: limits, bookings and the decisions of a run.
-//! - `entries`: what an accepted command changes.
+//! - `entries`: what an accepted command changes; `own`: a value in memory of its own.
 //! - `events`, `commands`: what comes in, as it is read, and the replies.
 //!
-//! All fields are public but those of [`TaskSet`], whose spans keep one form, and of [`JobRow`]. An empty text in place of a
+//! All fields are public but those of [`TaskSet`], whose spans keep one form, and of [`JobRow`] and [`Own`]. An empty text in place of a
 //! project or of a parallel environment means none. Amounts are whole numbers: seconds, bytes, or millionths of
 //! a DOUBLE. Rows with many parts have a `Drop` of their own, so their parts are given by `into_parts`.
 #![tactic(auto)]
@@ -29,6 +29,7 @@ mod labels;
 mod marks;
 mod opening_complexes;
 mod opening_rows;
+mod own;
 mod people;
 mod plain_rows;
 mod planned;
@@ -54,6 +55,7 @@ pub use jobs::{Advance, Grant, Job, PeRequest, Request, Running};
 pub use labels::{JobFacts, JobKind, JobLabel};
 pub use marks::{JobMark, MarkSort};
 pub use opening_rows::{default_queue, default_sched, opening};
+pub use own::Own;
 pub use people::{ProjectRow, ShareNode, UserRow};
 pub use planned::Planned;
 pub use queues::{Allocation, Attr, PeRow, QueueRow, UrgencySlots};

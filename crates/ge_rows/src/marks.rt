@@ -31,17 +31,17 @@ pub enum MarkSort {
     Attribute,
 }
 
-/// What a job is found by in the table of jobs: in the order of their sorts, then names, then numbers.
+/// What a job is found by in the table of jobs: in the order of their sorts, then numbers, which compare fast, then names.
 #[derive(Debug, Drop, PartialEq, Eq, PartialOrd, Ord)]
 pub struct JobMark {
     /// What it is about.
     pub sort: MarkSort,
+    /// A number: a serial, or that of an advance reservation; 0 where its sort has none.
+    pub number: u64,
     /// A name, as its sort says; empty where it has none.
     pub name: Text,
     /// A second name: that of a job, behind its owner's.
     pub other: Text,
-    /// A number: a serial, or that of an advance reservation.
-    pub number: u64,
 }
 
 impl Twin for JobMark {
@@ -49,9 +49,9 @@ impl Twin for JobMark {
         let (name, other) = twins2(alloc, &self.name, &self.other)?;
         Ok(JobMark {
             sort: self.sort,
+            number: self.number,
             name,
             other,
-            number: self.number,
         })
     }
 }
@@ -71,9 +71,9 @@ impl JobMark {
         let other = Text::from_bytes(alloc, other)?;
         Ok(JobMark {
             sort,
+            number,
             name,
             other,
-            number,
         })
     }
 
@@ -83,9 +83,9 @@ impl JobMark {
     {
         self.sort
             .cmp(&sort)
+            .then(self.number.cmp(&number))
             .then(self.name.bytes().cmp(name))
             .then(self.other.bytes().cmp(other))
-            .then(self.number.cmp(&number))
             .is_eq()
     }
 }

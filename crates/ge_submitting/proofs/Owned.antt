@@ -78,7 +78,7 @@ module _ (owner : List ℕ) where
   in_owner : (o n : List ℕ) → in_range (mark_of sort.Owner o n 0) ≡ text_eq owner o
   in_owner o n = (λ i. kept (text_cmp owner o) n i && not (kept (text_cmp (owner ++ 0 ∷ []) o) n i)) ∙ only_itself owner o
     where
-      kept : (c : Ordering) (n : List ℕ) → is_le (ordering_then c (ordering_then (text_cmp [] n) Equal)) ≡ is_le c
+      kept : (c : Ordering) (n : List ℕ) → is_le (ordering_then c (text_cmp [] n)) ≡ is_le c
       kept Less n = refl
       kept Equal [] = refl
       kept Equal (b ∷ n) = refl

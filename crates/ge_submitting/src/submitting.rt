@@ -20,7 +20,7 @@ use crate::submitted_tasks::tasks_submitted;
 use ge_answers::{accept, refuse};
 use ge_base::Refusal;
 use ge_options::WideRange;
-use ge_rows::{Change, Cluster, Event, List, Options, Planned, Request, Text};
+use ge_rows::{Change, Cluster, Event, JobRow, List, Options, Planned, Request, Text};
 use std::alloc::{AllocError, Global};
 
 // What the options ask for and their hold lists, with what refuses them.
@@ -81,7 +81,8 @@ fn accept_submission(
         alloc, c, e, options, words, script, tasks, request, after, after_each,
     )?;
     let line = submitted_line(alloc, &job)?;
-    accept(alloc, e, Change::Submit(job), line)
+    let row = JobRow::new(alloc, job)?;
+    accept(alloc, e, Change::Submit(row), line)
 }
 
 /// The plan of qsub with these options, words of a command and script.

@@ -110,7 +110,7 @@ fn a_submission(rt: HostRuntime) {
             matches!(
                 &taken,
                 Ok((Entry { change: Change::Submit(job), .. }, end))
-                    if job.advance == 0 && job.number == 7 && *end == vector.len()
+                    if job.job().advance == 0 && job.job().number == 7 && *end == vector.len()
             )
         );
         let today = Entry::take(rt.alloc(), vector, 0);

@@ -8,8 +8,8 @@ use crate::pairs::{Fields, put_variant};
 use crate::texts::take_tag;
 use ge_model_codec::TakeFault;
 use ge_rows::{
-    Advance, Change, Entry, Item, Job, Key, List, Patch, Pick, Request, Start, Table, TaskSet,
-    Text, Value,
+    Advance, Change, Entry, Item, JobRow, Key, List, Own, Patch, Pick, Request, Start, Table,
+    TaskSet, Text, Value,
 };
 use std::alloc::{AllocError, Global};
 
@@ -98,7 +98,7 @@ impl Canon for Patch {
 
 // A change of jobs.
 #[tactic(auto, using(crate::specs::Passing::fault_passes, crate::specs::Passing::fault_passes_made))]
-fn take_job_change<J: Format<Job>, O: Format<Item>>(
+fn take_job_change<J: Format<JobRow>, O: Format<Item>>(
     alloc: Global,
     bytes: &[u8],
     at: usize,
@@ -139,7 +139,7 @@ fn take_job_change<J: Format<Job>, O: Format<Item>>(
 
 // A change of what is configured, of the load or of what runs.
 #[tactic(auto, using(crate::specs::Passing::fault_passes, crate::specs::Passing::fault_passes_made))]
-fn take_other_change<J: Format<Job>, O: Format<Item>>(
+fn take_other_change<J: Format<JobRow>, O: Format<Item>>(
     alloc: Global,
     bytes: &[u8],
     at: usize,
@@ -153,6 +153,7 @@ fn take_other_change<J: Format<Job>, O: Format<Item>>(
     match tag {
         6 => {
             let (value, end) = O::take(alloc, bytes, at)?;
+            let value = Own::new(alloc, value)?;
             Ok((Change::Put(value), end))
         }
         7 => {
@@ -178,7 +179,7 @@ fn take_other_change<J: Format<Job>, O: Format<Item>>(
 
 // An advance reservation that is made, or some that are taken back.
 #[tactic(auto, using(crate::specs::Passing::fault_passes, crate::specs::Passing::fault_passes_made))]
-fn take_booking<J: Format<Job>, O: Format<Item>>(
+fn take_booking<J: Format<JobRow>, O: Format<Item>>(
     alloc: Global,
     bytes: &[u8],
     at: usize,
@@ -192,6 +193,7 @@ fn take_booking<J: Format<Job>, O: Format<Item>>(
     match tag {
         11 => {
             let (value, end) = Advance::take(alloc, bytes, at)?;
+            let value = Own::new(alloc, value)?;
             Ok((Change::Book(value), end))
         }
         _ => {
@@ -203,7 +205,7 @@ fn take_booking<J: Format<Job>, O: Format<Item>>(
 
 // One of the first so many changes, its job and object in a format.
 #[tactic(auto, using(crate::specs::Passing::fault_passes, crate::specs::Passing::fault_passes_made))]
-fn take_change<J: Format<Job>, O: Format<Item>>(
+fn take_change<J: Format<JobRow>, O: Format<Item>>(
     alloc: Global,
     bytes: &[u8],
     at: usize,
@@ -240,14 +242,14 @@ impl Canon for Change {
             Change::Release(first, second) => put_variant(3, &(first, second), out),
             Change::Delete(first, second) => put_variant(4, &(first, second), out),
             Change::Clear(value) => put_variant(5, &value, out),
-            Change::Put(value) => put_variant(6, &value, out),
+            Change::Put(value) => put_variant(6, &value.get(), out),
             Change::Drop(value) => put_variant(7, &value, out),
             Change::Load(first, second) => put_variant(8, &(first, second), out),
             Change::End(first, second, third, fourth, fifth) => {
                 put_variant(9, &(first, second, third, fourth, fifth), out)
             }
             Change::Run(value) => put_variant(10, &value, out),
-            Change::Book(value) => put_variant(11, &value, out),
+            Change::Book(value) => put_variant(11, &value.get(), out),
             Change::Unbook(value) => put_variant(12, &value, out),
         }
     }

@@ -2,7 +2,9 @@
 use crate::given::waiting_job;
 use ge_jobs::{After, JobTable, NamedTasks, end, joined, start, submit};
 use ge_ranges::set_of;
-use ge_rows::{Grant, InstanceId, Job, List, Pick, Start, Table, TaskId, TaskSet, TaskSpan, Text};
+use ge_rows::{
+    Grant, InstanceId, Job, JobRow, List, Pick, Start, Table, TaskId, TaskSet, TaskSpan, Text,
+};
 use std::alloc::{AllocError, Global};
 
 // One slot of all.q at local.
@@ -35,15 +37,13 @@ fn array_job(alloc: Global, number: u32, queued: TaskSet, after_each: List<u32>)
 pub fn two_arrays(alloc: Global) -> Result<JobTable, AllocError> {
     let mut jobs = Table::new(alloc);
     let first = set_of(alloc, &[1, 4, 7, 10])?;
-    submit(
-        alloc,
-        &mut jobs,
-        array_job(alloc, 1, first, List::new(alloc)),
-    )?;
+    let job = array_job(alloc, 1, first, List::new(alloc));
+    submit(&mut jobs, JobRow::new(alloc, job)?)?;
     let second = set_of(alloc, &[1, 4, 7, 10])?;
     let mut before = List::new(alloc);
     before.push(1)?;
-    submit(alloc, &mut jobs, array_job(alloc, 2, second, before))?;
+    let job = array_job(alloc, 2, second, before);
+    submit(&mut jobs, JobRow::new(alloc, job)?)?;
     Ok(jobs)
 }
 

@@ -21,7 +21,7 @@ loop-number-init c =
     let whole = ap (λ entries. length entries) start in
     let seen = c.nothing_seen-seen.ensures in
     let none = c.in_ok-candidates.ensures.items in (
-      (λ alike. (
+      (λ tell. (
         (λ i. map standing (none i) ++ map (told_standing c.args.c.now rows c.args.now) (chosen c.args.c.now c.args.now (start i))),
         record { all = c.no_kinds-kinds.ensures c.args.c.now rows; alike = none_urged c.args.c.now rows c.args.now _ (ap (λ (s : Seen). s.last) seen) },
       )),
@@ -55,11 +55,11 @@ loop-number-preserved-then-branch c =
     let pushed : more ≡ done ++ one ∷ [] = c.push_reserved.ensures.items in
     let greater : c.max-most.result ≡ max c.loop-number.most one.tickets = search rules in
     let told = c.urgency_again-urgency.ensures in (
-      (λ alike.
-          let so_far = before.0 alike in (
+      (λ tell.
+          let so_far = before.0 tell in (
             chosen_more (told_standing C rows now) C now (map standing done) (map standing more) _ (standing one) _ _ number row c.in-Some.ensures.steps is so_far.0
-                (ap standing is_one ∙ standing_of_row C rows now number row c.urgency_again-urgency.result found.0 (told.urgency rows c.units_of-units.ensures found.0 so_far.1)) (map_more standing done more one pushed),
-            told.known rows c.units_of-units.ensures found.0 alike so_far.1,
+                (ap standing is_one ∙ standing_of_row C rows now number row c.urgency_again-urgency.result found.0 (told.urgency rows c.units_of-units.ensures found.0 tell so_far.1)) (map_more standing done more one pushed),
+            told.known rows c.units_of-units.ensures found.0 tell so_far.1,
           )),
       chosen_more (told_tickets rows) C now (map tickets done) (map tickets more) _ one.tickets _ _ number row c.in-Some.ensures.steps is before.1
           (ap tickets is_one ∙ ticket_of_row rows number row found.0) (map_more tickets done more one pushed),

@@ -2,7 +2,7 @@ use Rattle.std.proofs.Common.{◌≡◌, ◌+◌, ◌≤◌, ◌++◌, length, m
 use Rattle.ge_beside.specs.Met.{AreFound}
 use Rattle.ge_model_order.specs.Amounts.{greatest}
 use Rattle.ge_tickets.specs.Own.{told_tickets}
-use Rattle.ge_order.specs.Kinds.{SameAsked, told_standing}
+use Rattle.ge_order.specs.Kinds.{TellJobs, told_standing}
 use Rattle.ge_order.specs.Repeated.{Knows, IsWithin, standing}
 use Rattle.ge_order.specs.Standings.{with_lesser, with_greater}
 use Rattle.ge_order.specs.Told.{chosen}
@@ -10,7 +10,7 @@ use Rattle.ge_order.proofs.gathering.gather.Given as goal
 
 abbrev pub invariant-loop-number : goal.invariant-loop-number
 invariant-loop-number l =
-    (SameAsked l.c l.rows.entries
+    (TellJobs l.c l.rows.entries
     → (map standing l.candidates.items ++ map (told_standing l.c l.rows.entries l.now) (chosen l.c l.now l.number-iterator) ≡ map (told_standing l.c l.rows.entries l.now) (chosen l.c l.now l.rows.entries))
     × Knows l.c l.rows.entries l.now l.kinds l.seen.last)
     × (map (λ x. x.tickets) l.candidates.items ++ map (told_tickets l.rows.entries) (chosen l.c l.now l.number-iterator) ≡ map (told_tickets l.rows.entries) (chosen l.c l.now l.rows.entries))

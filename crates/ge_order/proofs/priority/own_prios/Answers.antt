@@ -18,10 +18,10 @@ returns c =
     let shorts = c.in-Some.shorts in
     let rows = shorts.rows.now.entries in
     let jobs = chosen C now rows in
-    let tell = rows_tell C rows shorts.bound c.in-Some.ensures in
+    let tell = rows_tell C rows shorts.bound c.in-Some.ensures c.orderly.ensures.rows in
     let found = c.in_ok-found.found in
     let candidates = found.candidates.items in
-    let standings : map standing candidates ≡ map (standing_of C now) jobs = c.in_ok-found.ensures.standings tell.alike ∙ all_told C rows now jobs tell in
+    let standings : map standing candidates ≡ map (standing_of C now) jobs = c.in_ok-found.ensures.standings tell ∙ all_told C rows now jobs tell in
     let tickets : map (λ x. x.tickets) candidates ≡ tickets_of C jobs =
     c.in_ok-found.ensures.tickets ∙ told_same C shorts.bound rows c.in-Some.ensures jobs
     ∙ own_alone C jobs (c.has_own_alone.ensures.alone c.if-not-has_own_alone.false) in
