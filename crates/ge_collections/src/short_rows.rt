@@ -1,15 +1,15 @@
 // Short rows, as rows come and go.
-ghost use Rattle.std.specs.Prelude.{◌≡◌, ℕ, IfSome, IsTrue, None, Option, Some, cond, false};
+ghost use Rattle.std.specs.Prelude.{◌≡◌, ℕ, IfOk, IfSome, IsTrue, None, Option, Some, cond, false};
 ghost use Rattle.std.specs.BTreeMap.{is_at};
-ghost use Rattle.std.specs.Map.{lookup};
+ghost use Rattle.std.specs.List.Sorted.{IsStrictlySortedBy};
+ghost use Rattle.std.specs.Map.{keys_of, lookup};
 ghost use Rattle.ge_collections.specs.Short.{AreShown, Grow, IsNumbered, number_in, short_of};
 
 use crate::row::Row;
 use crate::short_row::ShortRow;
 use crate::twin::Twin;
-use std::alloc::Global;
+use std::alloc::{AllocError, Global};
 use std::collections::BTreeMap;
-use std::mem;
 
 /// How many short rows there are at least where they are packed.
 const PACKED_ROWS: usize = 64;
@@ -212,18 +212,32 @@ fn is_loose<K: Ord, L: Ord, F: Copy>(shorts: &ShortRows<K, L, F>) -> bool {
     shorts.rows.len() / 2 >= shorts.packed.max(PACKED_ROWS)
 }
 
-// The same rows in full nodes, one behind the other.
-fn pack<K: Ord + Drop, F: Copy>(
+// Copies of rows in order.
+fn copies<K: Ord + Twin + Drop, F: Copy>(
     alloc: Global,
-    rows: BTreeMap<K, ShortRow<F>>,
-) -> Option<BTreeMap<K, ShortRow<F>>>
-    ensures { IfSome result (λ packed. (q : K) → lookup (is_at (K.cmp q)) packed.entries
-        ≡ lookup (is_at (K.cmp q)) rows.entries) }
+    rows: &BTreeMap<K, ShortRow<F>>,
+) -> Result<Vec<(K, ShortRow<F>)>, AllocError>
+    ensures copied { IfOk result (λ list. list.items ≡ rows.now.entries) }
+    ensures rising { IsStrictlySortedBy K.cmp (keys_of rows.now.entries) }
 {
-    match rows.into_iter().collect(alloc) {
-        Ok(packed) => Some(packed),
-        Err(_want) => None,
+    let mut list = Vec::with_capacity(alloc, rows.len())?;
+    for (key, row) in rows.iter() {
+        list.push((key.twin(alloc)?, *row))?;
     }
+    Ok(list)
+}
+
+// The same rows in full nodes. The old map still stands, so that the new nodes lie one behind the other and not in the holes
+// that the old ones leave.
+fn pack<K: Ord + Twin + Drop, F: Copy>(
+    alloc: Global,
+    rows: &BTreeMap<K, ShortRow<F>>,
+) -> Result<BTreeMap<K, ShortRow<F>>, AllocError>
+    ensures { IfOk result (λ packed. (q : K) → lookup (is_at (K.cmp q)) packed.entries
+        ≡ lookup (is_at (K.cmp q)) rows.now.entries) }
+{
+    let list = copies(alloc, rows)?;
+    list.into_iter().collect(alloc)
 }
 
 // Short rows that are packed, where there are many more than when that was done: a map whose keys rise is half full, and its
@@ -242,11 +256,14 @@ fn packed<K: Ord + Twin + Drop, V: Row>(
     if !is_loose(&shorts) {
         return Some(shorts);
     }
-    let rows = mem::replace(&mut shorts.rows, BTreeMap::new(alloc));
-    let rows = pack(alloc, rows)?;
-    shorts.packed = rows.len();
-    shorts.rows = rows;
-    Some(shorts)
+    match pack(alloc, &shorts.rows) {
+        Ok(rows) => {
+            shorts.packed = rows.len();
+            shorts.rows = rows;
+            Some(shorts)
+        }
+        Err(_want) => None,
+    }
 }
 
 /// Short rows for a table that a row is about to come to. Where it is empty they begin anew, and where most labels are of
