@@ -17,7 +17,7 @@ use std::alloc::{AllocError, Global};
 
 /// How many jobs are put in order before it is asked whether all others wait. Most runs of a full cluster have few slots to
 /// give; one that goes on to the others has walked the priorities once more.
-const FEW: usize = 256;
+const FEW: usize = 128;
 
 // The run with the tasks of the jobs of these priorities decided too, in their order.
 fn decide_jobs(

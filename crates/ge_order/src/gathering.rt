@@ -66,10 +66,9 @@ pub(crate) fn gather(
     let (mut seen, mut most) = (nothing_seen(), 0);
     let mut candidates = Vec::with_capacity(alloc, rows.len())?;
     for (number, row) in rows.iter() {
-        let (number, row) = (*number, *row);
-        if has_task(alloc, c, number, &row, now)? {
-            let urgency = urgency_again(c, units, &mut kinds, &mut seen, number, &row, now);
-            let candidate = candidate_by(number, &row, urgency);
+        if has_task(alloc, c, *number, row, now)? {
+            let urgency = urgency_again(c, units, &mut kinds, &mut seen, *number, row, now);
+            let candidate = candidate_by(*number, row, urgency);
             most = most.max(candidate.tickets);
             candidates.push_reserved(candidate);
         }

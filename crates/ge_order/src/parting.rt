@@ -7,7 +7,7 @@ use ge_rows::{List, Prio};
 use std::alloc::{AllocError, Global};
 
 /// How many ranks a bound is chosen from, at most.
-const SAMPLES: usize = 64;
+const SAMPLES: usize = 256;
 
 /// A rank that parts priorities: those before it in the order of a run, and the others.
 #[derive(Clone, Copy)]
