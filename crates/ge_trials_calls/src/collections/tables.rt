@@ -88,3 +88,30 @@ fn short_rows(rt: HostRuntime) -> Result<(), Fail> {
     assert!(rt; shown(&house, 20).is_none());
     Ok(())
 }
+
+// More guests than after how many short rows are packed, twice.
+fn full_house(alloc: Global) -> Result<Table<u32, Guest>, AllocError> {
+    let mut house = Table::new(alloc);
+    for number in 0..300_u32 {
+        let guest = Guest {
+            room: number % 5,
+            nights: u64::from(number),
+        };
+        let _before = house.insert(number, guest)?;
+    }
+    Ok(house)
+}
+
+#[test]
+fn packed_short_rows(rt: HostRuntime) -> Result<(), Fail> {
+    let mut house = full_house(rt.alloc())?;
+    assert!(rt; nights(&house, 0) == Some(0));
+    assert!(rt; nights(&house, 127) == Some(127));
+    assert!(rt; nights(&house, 299) == Some(299));
+    assert!(rt; nights(&house, 300).is_none());
+    assert!(rt; share(&house, 3, 298));
+    assert!(rt; !share(&house, 3, 299));
+    assert!(rt; house.remove(&127).is_some());
+    assert!(rt; shown(&house, 127).is_none());
+    Ok(())
+}
