@@ -262,7 +262,7 @@ fn packed<K: Ord + Twin + Drop, V: Row>(
             shorts.rows = rows;
             Some(shorts)
         }
-        Err(_want) => None,
+        Err(_want) => Some(shorts),
     }
 }
 
