@@ -7,8 +7,8 @@ ghost use Rattle.ge_scheduling.specs.Bases.{IsBasis};
 ghost use Rattle.ge_scheduling.specs.UnderWay.{IsUnderWay, tasks_decided};
 ghost use Rattle.ge_dispatching.specs.Telling.{TellsRun};
 
-use crate::prioritizing::priorities;
-use ge_order::{bound_for, first_part, order, second_part};
+use crate::prioritizing::run_prios;
+use ge_order::{Prios, bound_for, first_part, order, second_part};
 use ge_rows::{Cluster, Decision, Event, List, Prio};
 use ge_scheduling::{
     Basis, Run, all_wait, basis_of, begin_run, decide_tasks, decisions_of, others_wait,
@@ -60,7 +60,7 @@ fn decide_in_parts(
     alloc: Global,
     c: &Cluster,
     basis: Basis,
-    prios: &List<Prio>,
+    prios: &Prios,
     now: u64,
 ) -> Result<List<Decision>, AllocError>
     requires { IsBasis c.now basis }
@@ -69,7 +69,8 @@ fn decide_in_parts(
 {
     let run = begin_run(alloc, c, basis)?;
     let Some(bound) = bound_for(alloc, prios, FEW)? else {
-        let decisions = decide_last(alloc, c, run, prios, now)?;
+        let prios = prios.list(alloc)?;
+        let decisions = decide_last(alloc, c, run, &prios, now)?;
         return Ok(decisions);
     };
     let first = first_part(alloc, prios, &bound)?;
@@ -93,7 +94,7 @@ fn decisions_on(
     ensures { IfOk result (λ decisions.
         TellsRun c.now (order_of c.now (prios_at c.now now) now) basis.moment decisions) }
 {
-    let prios = priorities(alloc, c, now)?;
+    let prios = run_prios(alloc, c, now)?;
     let decisions = decide_in_parts(alloc, c, basis, &prios, now)?;
     Ok(decisions)
 }

@@ -2,7 +2,7 @@
 ghost use Rattle.std.specs.Prelude.{◌≡◌, [], IfOk, IsTrue};
 ghost use Rattle.ge_model_order.specs.Priority.{added_tickets, all_tickets_of, prios_at};
 
-use ge_order::{candidates, own_prios, prios};
+use ge_order::{Prios, candidates, own_prios, prios};
 use ge_rows::{Cluster, List, Prio};
 use ge_share::share_tickets;
 use ge_tickets::tickets;
@@ -52,8 +52,8 @@ fn prios_with_all(alloc: Global, c: &Cluster, now: u64) -> Result<List<Prio>, Al
     prios(alloc, c, &jobs, &tickets, now)
 }
 
-/// The priorities of all candidates at a moment, in order of their numbers.
-pub fn priorities(alloc: Global, c: &Cluster, now: u64) -> Result<List<Prio>, AllocError>
+/// The priorities of all candidates at a moment, as a run stands on them.
+pub(crate) fn run_prios(alloc: Global, c: &Cluster, now: u64) -> Result<Prios, AllocError>
     ensures { IfOk result (λ prios. prios ≡ prios_at c.now now) }
 {
     if has_no_tree(c) {
@@ -61,5 +61,14 @@ pub fn priorities(alloc: Global, c: &Cluster, now: u64) -> Result<List<Prio>, Al
             return Ok(prios);
         }
     }
-    prios_with_all(alloc, c, now)
+    let prios = prios_with_all(alloc, c, now)?;
+    Prios::from_list(alloc, &prios)
+}
+
+/// The priorities of all candidates at a moment, in order of their numbers.
+pub fn priorities(alloc: Global, c: &Cluster, now: u64) -> Result<List<Prio>, AllocError>
+    ensures { IfOk result (λ prios. prios ≡ prios_at c.now now) }
+{
+    let prios = run_prios(alloc, c, now)?;
+    prios.list(alloc)
 }

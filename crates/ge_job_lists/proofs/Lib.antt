@@ -1,1 +1,2 @@
 pub mod GatheredOrders
+pub mod OnHost

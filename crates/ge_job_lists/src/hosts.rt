@@ -3,10 +3,12 @@
 ghost use Rattle.std.specs.Prelude.{◌≡◌, ◌++◌, ◌∷◌, [], IfOk, OnOk, codes, decimal, fold, map};
 ghost use Rattle.std.specs.Map.{values_of};
 ghost use Rattle.ge_model_report.specs.Orders.{is_run_at, order_text, orders_of};
-ghost use Rattle.ge_job_lists.specs.Gathered.{with_order, with_orders};
+ghost use Rattle.ge_job_lists.specs.Gathered.{on_host, with_order, with_orders, with_orders_at};
 
 use crate::grants::slots_of;
-use ge_rows::{Cluster, Grant, Job, JobRow, List, Running, Table, Text, Twin};
+use ge_rows::{
+    Cluster, Grant, Job, JobMark, JobRow, List, MarkSort, Running, Table, Text, Twin, job_at,
+};
 use ge_wording::{Column, join_columns};
 use std::alloc::{AllocError, Global};
 use std::collections::BTreeMap;
@@ -78,6 +80,47 @@ fn put_job(
     Ok(())
 }
 
+// The numbers of the jobs that have slots of a host, which the table keeps.
+fn jobs_on(alloc: Global, jobs: &Table<u32, JobRow>, host: &Text) -> Result<Vec<u32>, AllocError>
+    ensures { IfOk result (λ numbers. numbers.items ≡ on_host host.now jobs.now) }
+{
+    let mark = JobMark::new(alloc, MarkSort::Host, host.bytes(), b"", 0)?;
+    jobs.bearers(alloc, &mark)
+}
+
+fn put_job_at(
+    alloc: Global,
+    texts: &mut BTreeMap<Place, Text>,
+    host: &Text,
+    jobs: &Table<u32, JobRow>,
+    number: u32,
+) -> Result<(), AllocError>
+    ensures { OnOk result (texts.new.entries ≡ with_orders_at host.now jobs.now
+        texts.old.entries number) }
+{
+    match job_at(jobs, number) {
+        Some(job) => put_job(alloc, texts, host, number, job),
+        None => Ok(()),
+    }
+}
+
+fn gathered_at(
+    alloc: Global,
+    jobs: &Table<u32, JobRow>,
+    host: &Text,
+    numbers: Vec<u32>,
+) -> Result<BTreeMap<Place, Text>, AllocError>
+    ensures { IfOk result (λ texts. texts.entries
+        ≡ fold (with_orders_at host.now jobs.now) [] numbers.items) }
+{
+    let mut texts = BTreeMap::new(alloc);
+    for number in numbers {
+        put_job_at(alloc, &mut texts, host, jobs, number)?;
+    }
+    Ok(texts)
+}
+
+// The orders of all jobs. Those that have no slots of the host aren't looked at.
 fn gathered(
     alloc: Global,
     jobs: &Table<u32, JobRow>,
@@ -85,11 +128,9 @@ fn gathered(
 ) -> Result<BTreeMap<Place, Text>, AllocError>
     ensures { IfOk result (λ texts. texts.entries ≡ fold (with_orders host.now) [] jobs.now) }
 {
-    let mut texts = BTreeMap::new(alloc);
-    for (number, row) in jobs.iter() {
-        put_job(alloc, &mut texts, host, *number, row.job())?;
-    }
-    Ok(texts)
+    jobs.orderly();
+    let numbers = jobs_on(alloc, jobs, host)?;
+    gathered_at(alloc, jobs, host, numbers)
 }
 
 fn gathered_lines(

@@ -28,7 +28,6 @@ module _ (serial : ℕ) where
   bears_serial row =
       of_serial is_it (record {
         runs = λ name other n. refl;
-        runs_on = λ name other n. refl;
         queue = λ name other n. refl;
         host = λ name other n. refl;
         project = λ name other n. refl;

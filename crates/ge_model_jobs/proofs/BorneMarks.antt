@@ -17,7 +17,7 @@ use Rattle.ge_rows.specs.declared.jobs.PeRequest.{PeRequest}
 use Rattle.ge_rows.specs.declared.marks.JobMark.{JobMark}
 use Rattle.ge_rows.specs.declared.marks.MarkSort.{MarkSort}
 use Rattle.ge_rows.specs.declared.marks.MarkSort.TheVariants as sort
-use Rattle.ge_rows.specs.Marks.{mark_of, project_marks, advance_marks, pe_marks, attribute_mark, run_marks, grant_marks, task_marks, own_marks, job_marks}
+use Rattle.ge_rows.specs.Marks.{mark_of, project_marks, advance_marks, pe_marks, attribute_mark, grant_marks, task_marks, own_marks, job_marks}
 use Rattle.ge_rows.specs.contracts.marks.JobMarkOrd.TheImpl as order
 
 alone : (b : Bool) → (b || false) ≡ b
@@ -31,7 +31,6 @@ Lacks test kind = (name other : List ℕ) (n : ℕ) → test (mark_of kind name 
 -- none of a sort but an owner's, a reservation's and a serial's does
 pub record LacksMost (test : JobMark → Bool) : Type 0 where
   pub runs : Lacks test sort.Runs
-  pub runs_on : Lacks test sort.RunsOn
   pub queue : Lacks test sort.Queue
   pub host : Lacks test sort.Host
   pub project : Lacks test sort.Project
@@ -61,10 +60,6 @@ module _ (test : JobMark → Bool) (most : LacksMost test) where
   no_attribute [] = refl
   no_attribute (name ∷ names) = (λ i. most.attribute name [] 0 i || no_attribute names i)
 
-  no_run : (n : ℕ) (grants : List Grant) → list_any test (run_marks n grants) ≡ false
-  no_run n [] = refl
-  no_run n (grant ∷ grants) = unmet (mark_of sort.RunsOn grant.at.host [] n) (most.runs_on grant.at.host [] n)
-
   no_grants : (grants : List Grant) → list_any test (flat_map grant_marks grants) ≡ false
   no_grants [] = refl
   no_grants (grant ∷ grants) =
@@ -73,12 +68,8 @@ module _ (test : JobMark → Bool) (most : LacksMost test) where
   -- of a running task its serial is left
   of_task : (task : Running) → list_any test (task_marks task) ≡ test (mark_of sort.Serial [] [] task.serial)
   of_task task =
-      with_none (two ++ run_marks task.serial task.grants) (flat_map grant_marks task.grants) (no_grants task.grants)
-      ∙ with_none two (run_marks task.serial task.grants) (no_run task.serial task.grants)
+      with_none (mark_of sort.Runs [] [] 0 ∷ mark_of sort.Serial [] [] task.serial ∷ []) (flat_map grant_marks task.grants) (no_grants task.grants)
       ∙ (λ i. most.runs [] [] 0 i || alone (test (mark_of sort.Serial [] [] task.serial)) i)
-    where
-      two : List JobMark
-      two = mark_of sort.Runs [] [] 0 ∷ mark_of sort.Serial [] [] task.serial ∷ []
 
   of_tasks : (rows : List (ℕ × Running)) → list_any test (flat_map task_marks (values_of rows)) ≡ list_any (λ row. test (mark_of sort.Serial [] [] row.1.serial)) rows
   of_tasks [] = refl
@@ -161,7 +152,6 @@ module _ (number : ℕ) (some : 1 ≤ number) where
   bears_advance job =
       of_advance is_it (record {
         runs = λ name other n. refl;
-        runs_on = λ name other n. refl;
         queue = λ name other n. refl;
         host = λ name other n. refl;
         project = λ name other n. refl;

@@ -1,6 +1,8 @@
 pub mod OneKind
 pub mod Rising
+pub mod Limited
 pub mod Ordered
+pub mod InLots
 pub mod InParts
 pub mod Sequential
 pub mod Slots

@@ -1,3 +1,4 @@
+pub mod Alike
 pub mod Kinds
 pub mod Parted
 pub mod Ranked

@@ -5,6 +5,7 @@ ghost use Rattle.ge_order.specs.Kinds.{TellJobs, told_standing};
 ghost use Rattle.ge_order.specs.Repeated.{candidate_of, standing, IsScale};
 ghost use Rattle.ge_order.specs.Told.{chosen};
 
+use crate::alike::Candidates;
 use crate::asked::units_of;
 use crate::choosing::has_task;
 use crate::kinds::no_kinds;
@@ -31,7 +32,7 @@ pub(crate) struct Candidate {
 /// All candidates, and what their urgencies and tickets are parts of.
 #[derive(Drop)]
 pub(crate) struct Gathered {
-    pub(crate) candidates: Vec<Candidate>,
+    pub(crate) candidates: Candidates,
     pub(crate) scale: Scale,
 }
 
@@ -54,23 +55,23 @@ pub(crate) fn gather(
     now: u64,
 ) -> Result<Gathered, AllocError>
     ensures standings { TellJobs c.now rows.now.entries → IfOk result (λ found.
-        map standing found.candidates.items ≡ map (told_standing c.now rows.now.entries now)
+        map standing found.candidates ≡ map (told_standing c.now rows.now.entries now)
         (chosen c.now now rows.now.entries)) }
-    ensures tickets { IfOk result (λ found. map (λ x. x.tickets) found.candidates.items
+    ensures tickets { IfOk result (λ found. map (λ x. x.tickets) found.candidates
         ≡ map (told_tickets rows.now.entries) (chosen c.now now rows.now.entries)) }
     ensures scale { IfOk result (λ found. IsScale found.scale
-        (map standing found.candidates.items) (map (λ x. x.tickets) found.candidates.items)) }
+        (map standing found.candidates) (map (λ x. x.tickets) found.candidates)) }
 {
     let units = units_of(c);
     let mut kinds = no_kinds();
     let (mut seen, mut most) = (nothing_seen(), 0);
-    let mut candidates = Vec::with_capacity(alloc, rows.len())?;
+    let mut candidates = Candidates::new(alloc);
     for (number, row) in rows.iter() {
         if has_task(alloc, c, *number, row, now)? {
             let urgency = urgency_again(c, units, &mut kinds, &mut seen, *number, row, now);
             let candidate = candidate_by(*number, row, urgency);
             most = most.max(candidate.tickets);
-            candidates.push_reserved(candidate);
+            candidates.put(alloc, candidate)?;
         }
     }
     let scale = Scale {

@@ -4,11 +4,14 @@ ghost use Rattle.ge_model_order.specs.Amounts.{greatest as greatest_of};
 ghost use Rattle.ge_model_order.specs.Candidates.{candidates};
 ghost use Rattle.ge_model_order.specs.Priority.{prios_of};
 ghost use Rattle.ge_model_order.specs.Tickets.{tickets_of};
+ghost use Rattle.ge_order.specs.Alike.{candidates_in, candidates_of, prios_in, prios_of_lot};
 ghost use Rattle.ge_order.specs.Repeated.{prio_of_candidate};
 ghost use Rattle.ge_order.specs.Standings.{prio_of, standing_of};
 ghost use Rattle.ge_order.specs.Weighed.{IsWorked};
 
-use crate::gathering::{Candidate, gather};
+use crate::alike::{Alike, Candidates};
+use crate::gathering::{Candidate, Gathered, gather};
+use crate::lots::{Lot, Prios};
 use crate::standing::{Standing, extremes, standings};
 use crate::weighing::{Worked, work_after, work_on, work_out};
 use ge_rows::{Cluster, List, Prio, Sched};
@@ -147,22 +150,49 @@ fn prios_known(
     Ok(prios)
 }
 
+// The priorities of a candidate and of those like it.
+fn lot_after(sched: &Sched, scale: &Scale, last: &mut Worked, alike: Alike) -> Lot
+    ensures prios { IsWorked sched.now scale.now last.old → prios_of_lot result
+        ≡ map (prio_of_candidate sched.now scale.now) (candidates_of alike) }
+    ensures kept { IsWorked sched.now scale.now last.old → IsWorked sched.now scale.now last.new }
+{
+    let Alike { first, others } = alike;
+    Lot {
+        first: prio_after(sched, scale, last, &first),
+        others,
+    }
+}
+
+fn lots_of(
+    alloc: Global,
+    sched: &Sched,
+    scale: &Scale,
+    alike: Vec<Alike>,
+) -> Result<Vec<Lot>, AllocError>
+    ensures { IfOk result (λ lots. prios_in lots.items
+        ≡ map (prio_of_candidate sched.now scale.now) (candidates_in alike.items)) }
+{
+    let mut lots = Vec::with_capacity(alloc, alike.len())?;
+    let mut last = first_worked(sched, scale);
+    for lot in alike {
+        lots.push(lot_after(sched, scale, &mut last, lot))?;
+    }
+    Ok(lots)
+}
+
 // The priorities of candidates, by what their urgencies and tickets are parts of.
 fn prios_gathered(
     alloc: Global,
     sched: &Sched,
     scale: &Scale,
-    candidates: &[Candidate],
-) -> Result<List<Prio>, AllocError>
+    candidates: Candidates,
+) -> Result<Prios, AllocError>
     ensures { IfOk result (λ prios. prios
-        ≡ map (prio_of_candidate sched.now scale.now) candidates.now) }
+        ≡ map (prio_of_candidate sched.now scale.now) candidates) }
 {
-    let mut prios = Vec::with_capacity(alloc, candidates.len())?;
-    let mut last = first_worked(sched, scale);
-    for candidate in candidates {
-        prios.push_reserved(prio_after(sched, scale, &mut last, candidate));
-    }
-    Ok(List::from_vec(prios))
+    let alike = candidates.into_lots()?;
+    let lots = lots_of(alloc, sched, scale, alike)?;
+    Ok(Prios::of_lots(lots))
 }
 
 /// The priorities of jobs at a moment, in their order; the second list has the tickets of each. Urgency and tickets count by what
@@ -183,7 +213,7 @@ pub fn prios(
 
 /// The priorities of all candidates at a moment, with their functional and override tickets, where they have none of these but
 /// those that each was given: what the short rows of jobs tell, in one walk. None where jobs have others, or no short rows.
-pub fn own_prios(alloc: Global, c: &Cluster, now: u64) -> Result<Option<List<Prio>>, AllocError>
+pub fn own_prios(alloc: Global, c: &Cluster, now: u64) -> Result<Option<Prios>, AllocError>
     ensures { IfOk result (λ found. IfSome found (λ prios. prios
         ≡ prios_of c.now (candidates c.now now) (tickets_of c.now (candidates c.now now)) now)) }
 {
@@ -194,7 +224,7 @@ pub fn own_prios(alloc: Global, c: &Cluster, now: u64) -> Result<Option<List<Pri
     let Some(shorts) = c.jobs.shorts() else {
         return Ok(None);
     };
-    let found = gather(alloc, c, shorts.rows, now)?;
-    let prios = prios_gathered(alloc, &c.sched, &found.scale, found.candidates.as_slice())?;
+    let Gathered { candidates, scale } = gather(alloc, c, shorts.rows, now)?;
+    let prios = prios_gathered(alloc, &c.sched, &scale, candidates)?;
     Ok(Some(prios))
 }

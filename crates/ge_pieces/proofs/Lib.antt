@@ -1,4 +1,5 @@
 pub mod Items
 pub mod Places
 pub mod PlainLines
+pub mod ShortLines
 pub mod Worth

@@ -1,6 +1,6 @@
 // What a table of jobs keeps of them, and what a job keeps of its running tasks.
 ghost use Rattle.std.specs.Prelude.{◌≡◌, ◌≤◌, ◌^◌, ◌++◌, [], ◌∷◌, IfOk, OnOk, map, flat_map};
-ghost use Rattle.ge_rows.specs.Marks.{mark_of, project_marks, advance_marks, run_marks, grant_marks, task_marks as marks_of_task, pe_marks, attribute_mark, own_marks};
+ghost use Rattle.ge_rows.specs.Marks.{mark_of, project_marks, advance_marks, grant_marks, task_marks as marks_of_task, pe_marks, attribute_mark, own_marks};
 ghost use Rattle.ge_rows.specs.Weights.{live_tasks as live_of};
 ghost use Rattle.ge_rows.specs.JobShort.{job_facts as facts_of_job};
 ghost use Rattle.ge_collections.specs.Marked.{is_among};
@@ -109,21 +109,6 @@ fn push_grants(alloc: Global, marks: &mut Vec<JobMark>, grants: &[Grant]) -> Res
     Ok(())
 }
 
-// The mark of the host that runs a task.
-fn push_run(
-    alloc: Global,
-    marks: &mut Vec<JobMark>,
-    serial: u64,
-    grants: &[Grant],
-) -> Result<(), AllocError>
-    ensures { OnOk result (marks.new.items ≡ marks.old.items ++ run_marks serial grants.now) }
-{
-    match grants.first() {
-        Some(grant) => push(alloc, marks, MarkSort::RunsOn, &grant.at.host, serial),
-        None => Ok(()),
-    }
-}
-
 // The marks of a running task.
 fn push_task(alloc: Global, marks: &mut Vec<JobMark>, task: &Running) -> Result<(), AllocError>
     ensures { OnOk result (marks.new.items ≡ marks.old.items ++ marks_of_task task.now) }
@@ -131,13 +116,12 @@ fn push_task(alloc: Global, marks: &mut Vec<JobMark>, task: &Running) -> Result<
     let none = Text::new(alloc);
     push(alloc, marks, MarkSort::Runs, &none, 0)?;
     push(alloc, marks, MarkSort::Serial, &none, task.serial)?;
-    push_run(alloc, marks, task.serial, task.grants.items())?;
     push_grants(alloc, marks, task.grants.items())
 }
 
 // How many marks a running task has, so that room for them is made once.
 fn room_for(task: &Running) -> usize {
-    task.grants.len().saturating_mul(2).saturating_add(3)
+    task.grants.len().saturating_mul(2).saturating_add(2)
 }
 
 /// The marks that a running task gives its job. An edit that starts or ends one tells them to the table of jobs.
@@ -247,22 +231,12 @@ fn grant_bears(grant: &Grant, mark: &JobMark) -> bool
         || mark.is(MarkSort::Host, grant.at.host.bytes(), b"", 0)
 }
 
-fn run_bears(serial: u64, grants: &[Grant], mark: &JobMark) -> bool
-    ensures { result ≡ is_among (⟦<JobMark as Ord>⟧.cmp) mark.now (run_marks serial grants.now) }
-{
-    match grants.first() {
-        Some(grant) => mark.is(MarkSort::RunsOn, grant.at.host.bytes(), b"", serial),
-        None => false,
-    }
-}
-
 // Whether a running task bears a mark.
 fn task_bears(task: &Running, mark: &JobMark) -> bool
     ensures { result ≡ is_among (⟦<JobMark as Ord>⟧.cmp) mark.now (marks_of_task task.now) }
 {
     mark.is(MarkSort::Runs, b"", b"", 0)
         || mark.is(MarkSort::Serial, b"", b"", task.serial)
-        || run_bears(task.serial, task.grants.items(), mark)
         || grants_bear(task.grants.items(), mark)
 }
 
@@ -348,7 +322,7 @@ fn facts_of(job: &Job) -> JobFacts
 
 // How many marks most jobs have: a few of their own, and those of tasks that have slots at one place.
 fn room_of(job: &Job) -> usize {
-    job.running.len().saturating_mul(5).saturating_add(3)
+    job.running.len().saturating_mul(4).saturating_add(3)
 }
 
 impl Row for Job {

@@ -1,3 +1,4 @@
+pub mod AskedMarks
 pub mod Tallies
 pub mod Ends
 pub mod Bridged

@@ -1,5 +1,5 @@
 // Instances that are closed to each job of the table, since they lack a consumable that each asks for.
-ghost use Rattle.std.specs.Prelude.{◌≡◌, ◌++◌, ◌∷◌, [], true, not, codes, filter, IfOk, OnOk};
+ghost use Rattle.std.specs.Prelude.{◌≡◌, ◌==◌, ◌++◌, ◌∷◌, [], true, not, codes, filter, length, IfOk, OnOk};
 ghost use Rattle.std.specs.List.{list_any, list_all};
 ghost use Rattle.std.specs.Option.{option_copied};
 ghost use Rattle.ge_collections.specs.Keyed.{at_text};
@@ -10,7 +10,10 @@ use crate::setting::Setting;
 use ge_complex::is_consumable;
 use ge_pieces::is_word;
 use ge_queues::at_host;
-use ge_rows::{Cluster, HostRow, InstanceId, JobRow, List, QueueRow, Table, Text, Twin, Value};
+use ge_rows::{
+    Cluster, HostRow, InstanceId, JobMark, JobRow, List, MarkSort, QueueRow, Table, Text, Twin,
+    Value,
+};
 use std::alloc::{AllocError, Global};
 
 fn names(values: &Table<Text, Value>, name: &Text) -> bool
@@ -19,21 +22,29 @@ fn names(values: &Table<Text, Value>, name: &Text) -> bool
     values.get(name).is_some()
 }
 
-fn all_ask(jobs: &Table<u32, JobRow>, name: &Text) -> bool
-    ensures { result ≡ list_all (asks_itself name.now) jobs.now }
+fn are_so_many(numbers: Vec<u32>, count: usize) -> bool
+    ensures { result ≡ (length numbers.items == count) }
 {
-    for (_number, row) in jobs.iter() {
-        if !names(&row.job().request.asked, name) {
-            return false;
-        }
-    }
-    true
+    List::from_vec(numbers).len() == count
 }
 
-fn is_asked_by_all(cluster: &Cluster, name: &Text) -> bool
-    ensures { result ≡ asked_by_all cluster.now name.now }
+// Whether there are as many jobs as bear the mark of an attribute: no job is looked at.
+fn all_ask(alloc: Global, jobs: &Table<u32, JobRow>, name: &Text) -> Result<bool, AllocError>
+    ensures { IfOk result (λ all. all ≡ list_all (asks_itself name.now) jobs.now) }
 {
-    is_consumable(cluster, name) && all_ask(&cluster.jobs, name)
+    let mark = JobMark::new(alloc, MarkSort::Attribute, name.bytes(), b"", 0)?;
+    let bearers = jobs.bearers(alloc, &mark)?;
+    Ok(are_so_many(bearers, jobs.len()))
+}
+
+fn is_asked_by_all(alloc: Global, cluster: &Cluster, name: &Text) -> Result<bool, AllocError>
+    ensures { IfOk result (λ all. all ≡ asked_by_all cluster.now name.now) }
+{
+    if is_consumable(cluster, name) {
+        all_ask(alloc, &cluster.jobs, name)
+    } else {
+        Ok(false)
+    }
 }
 
 fn add_asked_by_all(
@@ -45,7 +56,7 @@ fn add_asked_by_all(
     ensures { OnOk result (names.new ≡ names.old
         ++ filter (asked_by_all cluster.now) (name.now ∷ [])) }
 {
-    if !is_asked_by_all(cluster, name) {
+    if !is_asked_by_all(alloc, cluster, name)? {
         return Ok(());
     }
     let name = name.twin(alloc)?;

@@ -89,7 +89,6 @@ module _ (owner : List ℕ) where
   job_in_range job =
       of_owner in_range (record {
         runs = λ name other n. refl;
-        runs_on = λ name other n. refl;
         queue = λ name other n. refl;
         host = λ name other n. refl;
         project = λ name other n. refl;

@@ -17,6 +17,7 @@ use ge_outside::{Failed, Sink, Source, write_all};
 use ge_rows::{Cluster, Event, Text, opening};
 use ge_script::{Script, ScriptFault};
 use std::alloc::{AllocError, Global};
+use std::mem::forget;
 
 /// The reply to an event, rendered.
 #[derive(Drop)]
@@ -105,7 +106,8 @@ fn answer_event(alloc: Global, cluster: &mut Cluster, event: &Event) -> Result<A
 }
 
 /// Answers the events of a script in order, from the opening cluster, and writes each reply before the next event is read.
-/// Behind an event that stops the master nothing more is read.
+/// Behind an event that stops the master nothing more is read. At the script's end the cluster isn't taken apart: the process
+/// ends with it, and the system takes its memory back at once.
 pub(crate) fn answer_script<S: Source, K: Sink>(
     alloc: Global,
     input: &mut S,
@@ -144,7 +146,10 @@ pub(crate) fn answer_script<S: Source, K: Sink>(
     'events: loop {
         let event = match script.next(input) {
             Ok(Some(event)) => event,
-            Ok(None) => return Ok(()),
+            Ok(None) => {
+                forget(cluster);
+                return Ok(());
+            }
             Err(ScriptFault::Read) => return Err(AnswerFault::Read),
             Err(ScriptFault::Long) => return Err(AnswerFault::Long),
             Err(ScriptFault::Memory) => return Err(AnswerFault::Memory),

@@ -17,7 +17,7 @@ use Rattle.ge_rows.specs.declared.jobs.PeRequest.{PeRequest}
 use Rattle.ge_rows.specs.declared.marks.JobMark.{JobMark}
 use Rattle.ge_rows.specs.declared.marks.MarkSort.{MarkSort}
 use Rattle.ge_rows.specs.declared.marks.MarkSort.TheVariants as sort
-use Rattle.ge_rows.specs.Marks.{mark_of, project_marks, advance_marks, pe_marks, attribute_mark, run_marks, grant_marks, task_marks, own_marks, job_marks}
+use Rattle.ge_rows.specs.Marks.{mark_of, project_marks, advance_marks, pe_marks, attribute_mark, grant_marks, task_marks, own_marks, job_marks}
 use Rattle.ge_rows.specs.contracts.marks.JobMarkOrd.TheImpl as order
 use Rattle.ge_model_config.specs.Cited.{has_name}
 use Rattle.ge_model_config.specs.Used.{asks_pe}
@@ -59,8 +59,7 @@ module _ (test : JobMark → Bool)
     (owner : (o n : List ℕ) → test (mark_of sort.Owner o n 0) ≡ false)
     (advance : (n : ℕ) → test (mark_of sort.Advance [] [] n) ≡ false)
     (runs : test (mark_of sort.Runs [] [] 0) ≡ false)
-    (serial : (n : ℕ) → test (mark_of sort.Serial [] [] n) ≡ false)
-    (runs_on : (host : List ℕ) (n : ℕ) → test (mark_of sort.RunsOn host [] n) ≡ false) where
+    (serial : (n : ℕ) → test (mark_of sort.Serial [] [] n) ≡ false) where
   abbrev passes : MarkSort → List ℕ → Bool
   passes s name = test (mark_of s name [] 0)
 
@@ -84,10 +83,6 @@ module _ (test : JobMark → Bool)
   on_attributes [] = refl
   on_attributes (name ∷ names) = (λ i. passes sort.Attribute name || on_attributes names i)
 
-  on_run : (n : ℕ) (grants : List Grant) → list_any test (run_marks n grants) ≡ false
-  on_run n [] = refl
-  on_run n (grant ∷ grants) = alone (test (mark_of sort.RunsOn grant.at.host [] n)) ∙ runs_on grant.at.host n
-
   on_grants : (grants : List Grant) → list_any test (flat_map grant_marks grants) ≡ list_any on_grant grants
   on_grants [] = refl
   on_grants (grant ∷ grants) = joined (passes sort.Queue grant.at.queue) (passes sort.Host grant.at.host) (on_grants grants)
@@ -98,12 +93,8 @@ module _ (test : JobMark → Bool)
 
   on_task : (task : Running) → list_any test (task_marks task) ≡ list_any on_grant task.grants
   on_task task =
-      list_any-append test (two ++ run_marks task.serial task.grants) (flat_map grant_marks task.grants)
-      ∙ (λ i. list_any-append test two (run_marks task.serial task.grants) i || on_grants task.grants i)
-      ∙ (λ i. ((runs i || (serial task.serial i || false)) || on_run task.serial task.grants i) || list_any on_grant task.grants)
-    where
-      two : List JobMark
-      two = mark_of sort.Runs [] [] 0 ∷ mark_of sort.Serial [] [] task.serial ∷ []
+      list_any-append test (mark_of sort.Runs [] [] 0 ∷ mark_of sort.Serial [] [] task.serial ∷ []) (flat_map grant_marks task.grants)
+      ∙ (λ i. (runs i || (serial task.serial i || false)) || on_grants task.grants i)
 
   on_tasks : (rows : List (ℕ × Running)) → list_any test (flat_map task_marks (values_of rows)) ≡ list_any (λ task. list_any on_grant task.1.grants) rows
   on_tasks [] = refl
@@ -162,7 +153,7 @@ module _ (name : List ℕ) (jobs : List (ℕ × Job)) where
   pub on_queue : is_borne order.ghosts.cmp job_marks (mark_of sort.Queue name [] 0) jobs
       ≡ list_any (λ job. list_any (λ task. list_any (λ grant. text_eq name grant.at.queue) task.1.grants) job.1.running) jobs
   on_queue =
-      borne (is_it sort.Queue) (λ o n. refl) (λ n. refl) refl (λ n. refl) (λ h n. refl)
+      borne (is_it sort.Queue) (λ o n. refl) (λ n. refl) refl (λ n. refl)
       (λ job. list_any (λ task. list_any (λ grant. text_eq name grant.at.queue) task.1.grants) job.running) jobs (λ job.
       (λ i. ((no_project job.project i || no_pe job.request.pe i) || none_of (keys_of job.request.asked) i)
       || same_any _ _ job.running (λ task. same_any _ _ task.1.grants (λ grant. alone _ ∙ by_name name grant.at.queue)) i))
@@ -170,14 +161,14 @@ module _ (name : List ℕ) (jobs : List (ℕ × Job)) where
   pub on_host : is_borne order.ghosts.cmp job_marks (mark_of sort.Host name [] 0) jobs
       ≡ list_any (λ job. list_any (λ task. list_any (λ grant. text_eq name grant.at.host) task.1.grants) job.1.running) jobs
   on_host =
-      borne (is_it sort.Host) (λ o n. refl) (λ n. refl) refl (λ n. refl) (λ h n. refl)
+      borne (is_it sort.Host) (λ o n. refl) (λ n. refl) refl (λ n. refl)
       (λ job. list_any (λ task. list_any (λ grant. text_eq name grant.at.host) task.1.grants) job.running) jobs (λ job.
       (λ i. ((no_project job.project i || no_pe job.request.pe i) || none_of (keys_of job.request.asked) i)
       || same_any _ _ job.running (λ task. same_any _ _ task.1.grants (λ grant. by_name name grant.at.host)) i))
 
   pub on_pe_asked : is_borne order.ghosts.cmp job_marks (mark_of sort.Pe name [] 0) jobs ≡ list_any (λ job. asks_pe name job.1.request.pe) jobs
   on_pe_asked =
-      borne (is_it sort.Pe) (λ o n. refl) (λ n. refl) refl (λ n. refl) (λ h n. refl) (λ job. asks_pe name job.request.pe) jobs (λ job.
+      borne (is_it sort.Pe) (λ o n. refl) (λ n. refl) refl (λ n. refl) (λ job. asks_pe name job.request.pe) jobs (λ job.
       (λ i. ((no_project job.project i || asked job.request.pe i) || none_of (keys_of job.request.asked) i) || no_tasks job.running i)
       ∙ alone _ ∙ alone _)
     where
@@ -187,7 +178,7 @@ module _ (name : List ℕ) (jobs : List (ℕ × Job)) where
 
   pub on_attribute : is_borne order.ghosts.cmp job_marks (mark_of sort.Attribute name [] 0) jobs ≡ list_any (λ job. has_name job.1.request.asked name) jobs
   on_attribute =
-      borne (is_it sort.Attribute) (λ o n. refl) (λ n. refl) refl (λ n. refl) (λ h n. refl) (λ job. has_name job.request.asked name) jobs (λ job.
+      borne (is_it sort.Attribute) (λ o n. refl) (λ n. refl) refl (λ n. refl) (λ job. has_name job.request.asked name) jobs (λ job.
       (λ i. ((no_project job.project i || no_pe job.request.pe i) || same_any _ _ (keys_of job.request.asked) (λ n. by_name name n) i) || no_tasks job.running i)
       ∙ alone _ ∙ sym (has_key job.request.asked name))
 
@@ -195,7 +186,7 @@ module _ (name : List ℕ) (jobs : List (ℕ × Job)) where
 pub on_project_named : (name : List ℕ) (jobs : List (ℕ × Job)) (empty : Bool) → (IsTrue empty ↔ (name ≡ [])) → empty ≡ false
     → is_borne order.ghosts.cmp job_marks (mark_of sort.Project name [] 0) jobs ≡ list_any (λ job. text_eq name job.1.project) jobs
 on_project_named name jobs empty is some =
-    borne (is_it name jobs sort.Project) (λ o n. refl) (λ n. refl) refl (λ n. refl) (λ h n. refl) (λ job. text_eq name job.project) jobs (λ job.
+    borne (is_it name jobs sort.Project) (λ o n. refl) (λ n. refl) refl (λ n. refl) (λ job. text_eq name job.project) jobs (λ job.
     (λ i. ((named job.project i || no_pe job.request.pe i) || none_of (keys_of job.request.asked) i) || no_tasks job.running i)
     ∙ alone _ ∙ alone _ ∙ alone _)
   where

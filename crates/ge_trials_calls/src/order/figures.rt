@@ -93,7 +93,7 @@ fn by_their_own_tickets(rt: HostRuntime) -> Result<(), Fail> {
     let found = own_prios(alloc, &c, 10)?;
     assert!(rt; found.is_some());
     if let Some(prios) = found {
-        assert!(rt; are_prios(prios.items(), OWN));
+        assert!(rt; are_prios(prios.list(alloc)?.items(), OWN));
     }
     let row = UserRow {
         fshare: 1,

@@ -52,11 +52,11 @@ fn job(alloc: Global) -> Result<Job, AllocError> {
 #[test]
 fn the_marks_of_a_task(rt: HostRuntime) -> Result<(), Fail> {
     let marks = task_marks(rt.alloc(), &running(rt.alloc())?)?;
-    assert_eq!(rt; marks.len(), 5);
+    assert_eq!(rt; marks.len(), 4);
     let serial = JobMark::new(rt.alloc(), MarkSort::Serial, b"", b"", 7)?;
     assert!(rt; marks[1] == serial);
-    let host = JobMark::new(rt.alloc(), MarkSort::RunsOn, b"local", b"", 7)?;
-    assert!(rt; marks[2] == host);
+    let host = JobMark::new(rt.alloc(), MarkSort::Host, b"local", b"", 0)?;
+    assert!(rt; marks[3] == host);
     Ok(())
 }
 
@@ -64,7 +64,7 @@ fn the_marks_of_a_task(rt: HostRuntime) -> Result<(), Fail> {
 fn a_table_of_jobs(rt: HostRuntime) -> Result<(), Fail> {
     let job = job(rt.alloc())?;
     let marks = job.marks(rt.alloc())?;
-    assert_eq!(rt; marks.len(), 8);
+    assert_eq!(rt; marks.len(), 7);
     let mut jobs = Table::new(rt.alloc());
     assert!(rt; jobs.insert(1, job)?.is_none());
     assert!(rt; jobs.totals() == (4, 3));

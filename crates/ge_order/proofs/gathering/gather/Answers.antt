@@ -1,4 +1,4 @@
-use Rattle.std.proofs.Common.{◌≡◌, ℕ, ◌++◌, ◌∷◌, [], ◌∙◌, sym, subst, ap, arith, rules, length, map, fold, max, Some, None, unwrap_or}
+use Rattle.std.proofs.Common.{◌≡◌, ℕ, ◌++◌, ◌∷◌, [], ◌∙◌, sym, subst, ap, rules, map, fold, max, Some, None, unwrap_or}
 use Rattle.ge_beside.specs.Met.{AreFound}
 use Rattle.ge_beside.proofs.Walked.{all_found}
 use Rattle.ge_model_order.specs.Amounts.{greatest}
@@ -18,9 +18,8 @@ pub loop-number-init : goal.loop-number-init
 loop-number-init c =
     let rows = c.args.rows.now.entries in
     let start : c.into_iter-number-iterator.result ≡ rows = search in
-    let whole = ap (λ entries. length entries) start in
     let seen = c.nothing_seen-seen.ensures in
-    let none = c.in_ok-candidates.ensures.items in (
+    let none = c.new-candidates.ensures in (
       (λ tell. (
         (λ i. map standing (none i) ++ map (told_standing c.args.c.now rows c.args.now) (chosen c.args.c.now c.args.now (start i))),
         record { all = c.no_kinds-kinds.ensures c.args.c.now rows; alike = none_urged c.args.c.now rows c.args.now _ (ap (λ (s : Seen). s.last) seen) },
@@ -31,14 +30,13 @@ loop-number-init c =
       ap (λ (s : Seen). s.low) seen ∙ ap (λ xs. fold with_lesser None (map standing xs)) (sym none),
       ap (λ (s : Seen). s.high) seen ∙ ap (λ xs. fold with_greater 0 (map standing xs)) (sym none),
       ap (λ xs. greatest (map (λ x. x.tickets) xs)) (sym none),
-      omega (arith, c.in_ok-candidates.ensures.len, c.in_ok-candidates.ensures.capacity, c.len.ensures.len, whole),
     )
 
 abbrev tickets : Candidate → ℕ
 tickets candidate = candidate.tickets
 
-pub loop-number-preserved-then-branch : goal.loop-number-preserved-then-branch
-loop-number-preserved-then-branch c =
+pub loop-number-preserved-in-Continue-branch-2 : goal.loop-number-preserved-in-Continue-branch-2
+loop-number-preserved-in-Continue-branch-2 c =
     let C = c.args.c.now in
     let now = c.args.now in
     let rows = c.args.rows.now.entries in
@@ -47,12 +45,11 @@ loop-number-preserved-then-branch c =
     let before = c.loop-number.invariant in
     let found = subst (λ entries. AreFound rows entries) c.in-Some.ensures.steps before.2 in
     let is = sym c.in_ok-has_task.ensures ∙ c.if-branch.true in
-    let shorter = ap (λ entries. length entries) c.in-Some.ensures.steps in
     let one = c.candidate_by-candidate.result in
     let is_one = c.candidate_by-candidate.ensures in
-    let done = c.loop-number.candidates.items in
-    let more = c.push_reserved.new.self.items in
-    let pushed : more ≡ done ++ one ∷ [] = c.push_reserved.ensures.items in
+    let done = c.loop-number.candidates in
+    let more = c.put.new.self in
+    let pushed : more ≡ done ++ one ∷ [] = c.in_ok-put.ensures in
     let greater : c.max-most.result ≡ max c.loop-number.most one.tickets = search rules in
     let told = c.urgency_again-urgency.ensures in (
       (λ tell.
@@ -68,11 +65,10 @@ loop-number-preserved-then-branch c =
       bound_more with_lesser standing None _ _ done more one before.4 (told.low before.3 ∙ ap (λ (x : Candidate). Some (lesser c.loop-number.seen.low x.urgency)) (sym is_one)) pushed,
       bound_more with_greater standing 0 _ _ done more one before.5 (told.high before.3 ∙ ap (λ (x : Candidate). max c.loop-number.seen.high x.urgency) (sym is_one)) pushed,
       bound_more (λ most n. max most n) tickets 0 _ _ done more one before.6 greater pushed,
-      omega (arith, c.push_reserved.ensures.len, c.push_reserved.ensures.capacity, before.7, shorter),
     )
 
 pub returns-clause-scale : goal.returns-clause-scale
 returns-clause-scale c =
     let found = c.loop-number.invariant in
-    let known = map standing c.loop-number.candidates.items in
+    let known = map standing c.loop-number.candidates in
     record { low = c.unwrap_or.ensures ∙ ap (λ low. unwrap_or low 0) found.4 ∙ lowest_is known; high = found.5 ∙ highest_is known; most = found.6 }

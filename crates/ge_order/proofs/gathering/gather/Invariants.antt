@@ -1,4 +1,4 @@
-use Rattle.std.proofs.Common.{◌≡◌, ◌+◌, ◌≤◌, ◌++◌, length, map, fold, None}
+use Rattle.std.proofs.Common.{◌≡◌, ◌++◌, map, fold, None}
 use Rattle.ge_beside.specs.Met.{AreFound}
 use Rattle.ge_model_order.specs.Amounts.{greatest}
 use Rattle.ge_tickets.specs.Own.{told_tickets}
@@ -11,12 +11,11 @@ use Rattle.ge_order.proofs.gathering.gather.Given as goal
 abbrev pub invariant-loop-number : goal.invariant-loop-number
 invariant-loop-number l =
     (TellJobs l.c l.rows.entries
-    → (map standing l.candidates.items ++ map (told_standing l.c l.rows.entries l.now) (chosen l.c l.now l.number-iterator) ≡ map (told_standing l.c l.rows.entries l.now) (chosen l.c l.now l.rows.entries))
+    → (map standing l.candidates ++ map (told_standing l.c l.rows.entries l.now) (chosen l.c l.now l.number-iterator) ≡ map (told_standing l.c l.rows.entries l.now) (chosen l.c l.now l.rows.entries))
     × Knows l.c l.rows.entries l.now l.kinds l.seen.last)
-    × (map (λ x. x.tickets) l.candidates.items ++ map (told_tickets l.rows.entries) (chosen l.c l.now l.number-iterator) ≡ map (told_tickets l.rows.entries) (chosen l.c l.now l.rows.entries))
+    × (map (λ x. x.tickets) l.candidates ++ map (told_tickets l.rows.entries) (chosen l.c l.now l.number-iterator) ≡ map (told_tickets l.rows.entries) (chosen l.c l.now l.rows.entries))
     × AreFound l.rows.entries l.number-iterator
     × IsWithin l.seen
-    × (l.seen.low ≡ fold with_lesser None (map standing l.candidates.items))
-    × (l.seen.high ≡ fold with_greater 0 (map standing l.candidates.items))
-    × (l.most ≡ greatest (map (λ x. x.tickets) l.candidates.items))
-    × (l.candidates.len + length l.number-iterator ≤ l.candidates.cap)
+    × (l.seen.low ≡ fold with_lesser None (map standing l.candidates))
+    × (l.seen.high ≡ fold with_greater 0 (map standing l.candidates))
+    × (l.most ≡ greatest (map (λ x. x.tickets) l.candidates))

@@ -3,7 +3,7 @@ use Rattle.ge_model_order.specs.Candidates.{candidates}
 use Rattle.ge_model_order.specs.Priority.{prios_of, prios_at}
 use Rattle.ge_model_order.specs.Tickets.{tickets_of}
 use Rattle.ge_dispatching.proofs.Ticketed.{functional_alone}
-use Rattle.ge_dispatching.proofs.prioritizing.priorities.Goals as goal
+use Rattle.ge_dispatching.proofs.prioritizing.run_prios.Goals as goal
 
 pub returns-in-Some : goal.returns-in-Some
 unfolding prios_at
