@@ -37,25 +37,25 @@ fn either(turn: u64, first: &'static [u8], second: &'static [u8]) -> &'static [u
     if turn % 2 == 0 { first } else { second }
 }
 
-/// The mark that is asked for behind the entry of a number: each sort in its turn, and of each sort another name.
+/// The mark that is asked for behind the entry of a number: each sort in its turn, serials twice, and of each sort another name.
 pub(crate) fn mark(alloc: Global, cluster: &Cluster, number: u64) -> Result<JobMark, AllocError> {
-    let turn = number / 9;
+    let turn = number / 10;
     let of = serial(cluster, number);
-    match number % 9 {
+    match number % 10 {
         0 => JobMark::new(alloc, MarkSort::Runs, b"", b"", 0),
-        1 => JobMark::new(alloc, MarkSort::Serial, b"", b"", of),
-        2 => JobMark::new(alloc, MarkSort::Queue, either(turn, b"a.q", b"b.q"), b"", 0),
-        3 => JobMark::new(alloc, MarkSort::Host, host(turn), b"", 0),
-        4 => JobMark::new(
+        1 | 2 => JobMark::new(alloc, MarkSort::Serial, b"", b"", of),
+        3 => JobMark::new(alloc, MarkSort::Queue, either(turn, b"a.q", b"b.q"), b"", 0),
+        4 => JobMark::new(alloc, MarkSort::Host, host(turn), b"", 0),
+        5 => JobMark::new(
             alloc,
             MarkSort::Owner,
             owner(turn),
             either(turn, b"sim", b"post"),
             0,
         ),
-        5 => JobMark::new(alloc, MarkSort::Project, either(turn, b"p", b"q"), b"", 0),
-        6 => JobMark::new(alloc, MarkSort::Advance, b"", b"", 1 + turn % 2),
-        7 => JobMark::new(alloc, MarkSort::Pe, either(turn, b"mpi", b"smp"), b"", 0),
+        6 => JobMark::new(alloc, MarkSort::Project, either(turn, b"p", b"q"), b"", 0),
+        7 => JobMark::new(alloc, MarkSort::Advance, b"", b"", 1 + turn % 2),
+        8 => JobMark::new(alloc, MarkSort::Pe, either(turn, b"mpi", b"smp"), b"", 0),
         _ => JobMark::new(alloc, MarkSort::Attribute, attribute(turn), b"", 0),
     }
 }
