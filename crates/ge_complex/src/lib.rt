@@ -18,6 +18,7 @@ mod reading;
 
 pub use comparing::{admits, amounts_hold, holds_between};
 pub use finding::ComplexFinder;
+pub use ge_rows::amount_in;
 pub use lookups::{complex_at, complex_named, is_consumable, is_consumed, kind_for};
 pub use printing::{amount_text, fixed_text, pair_text, value_text};
-pub use reading::{ValueError, amount_in, is_number_kind, read_value, value_of_text};
+pub use reading::{ValueError, is_number_kind, read_value, value_of_text};

@@ -38,16 +38,6 @@ pub fn is_number_kind(kind: Kind) -> bool
     }
 }
 
-/// The amount that a value stands for where an amount is needed: 0 for a flag or a word.
-pub fn amount_in(value: &Value) -> u64
-    ensures { result ≡ values.amount_in value.now }
-{
-    match value {
-        Value::Amount(amount) => *amount,
-        _ => 0,
-    }
-}
-
 fn amount_value(form: Form, text: &[u8]) -> Option<Value>
     ensures { result ≡ read_amount (reading form text.now) }
 {

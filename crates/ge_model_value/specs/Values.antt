@@ -8,6 +8,7 @@ use Rattle.ge_model_text.specs.declared.Form.TheVariants as form
 use Rattle.ge_model_text.specs.declared.ValueFault.{ValueFault}
 use Rattle.ge_model_text.specs.Reading.{reading}
 use Rattle.ge_model_value.specs.Pieces.{is_empty, lower_case}
+pub use Rattle.ge_rows.specs.Asked.{amount_in}
 
 -- whether the values of a kind are amounts (complex, type)
 abbrev pub is_number_kind : Kind → Bool
@@ -48,11 +49,6 @@ value_of Kind.Memory text = read_amount (reading form.Memory text)
 value_of Kind.Double text = read_amount (reading form.Fixed text)
 value_of Kind.Bool text = flag_of text
 value_of _ text = word_of text
-
--- the amount that a value stands for where an amount is needed: 0 for a flag or a word
-abbrev pub amount_in : Value → ℕ
-amount_in (Amount amount) = amount
-amount_in _ = 0
 
 -- the digit at the place of a unit
 abbrev pub digit_at : ℕ → ℕ → ℕ

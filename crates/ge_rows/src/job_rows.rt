@@ -6,6 +6,7 @@ ghost use Rattle.ge_rows.specs.JobShort.{job_facts as facts_of_job};
 ghost use Rattle.ge_collections.specs.Marked.{is_among};
 ghost use Rattle.std.specs.Map.{keys_of, values_of};
 
+use crate::asked::{least_amount, shortest_time};
 use crate::jobs::{Grant, Job, PeRequest, Running};
 use crate::labels::{JobFacts, JobLabel, labels_of};
 use crate::marks::{JobMark, MarkSort};
@@ -317,6 +318,8 @@ fn facts_of(job: &Job) -> JobFacts
         follows: !job.after.items().is_empty() || !job.after_each.items().is_empty(),
         runs: !job.running.is_empty(),
         parallel: job.request.pe.is_some(),
+        lasts: shortest_time(&job.request.asked),
+        least: least_amount(&job.request.asked),
     }
 }
 

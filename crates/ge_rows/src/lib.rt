@@ -5,7 +5,7 @@
 //! - `hosts`, `queues`, `quotas`, `people`, `settings`: what `qconf` configures.
 //! - `tasks`, `jobs`, `accounts`: jobs, their tasks and sets of tasks, accounting lines.
 //! - `job_row`: a job as the table of jobs keeps it.
-//! - `marks`, `labels`, `job_rows`, `plain_rows`: what a table keeps of its rows beside them.
+//! - `marks`, `labels`, `asked`, `job_rows`, `plain_rows`: what a table keeps of its rows beside them.
 //! - `cluster`: all of these together; `opening_rows`: the cluster before the first command.
 //! - `scheduling`: limits, bookings and the decisions of a run.
 //! - `entries`: what an accepted command changes; `own`: a value in memory of its own.
@@ -17,6 +17,7 @@
 #![tactic(auto)]
 
 mod accounts;
+mod asked;
 mod cluster;
 mod commands;
 mod entries;
@@ -41,6 +42,7 @@ mod tasks;
 mod values;
 
 pub use accounts::Line;
+pub use asked::{amount_in, is_time, is_time_of};
 pub use cluster::Cluster;
 pub use commands::{Command, Listing, Options, Query};
 pub use entries::{Change, Entry, Item, Key, ObjectKind, Patch, Pick};

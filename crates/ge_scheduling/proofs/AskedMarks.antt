@@ -20,7 +20,7 @@ use Rattle.ge_rows.specs.Marks.{mark_of, project_marks, advance_marks, pe_marks,
 use Rattle.ge_rows.specs.contracts.marks.JobMarkOrd.TheImpl as order
 use Rattle.ge_model_place.specs.Opening.{has_value}
 use Rattle.ge_model_rows.specs.ValueRows.{Value}
-use Rattle.ge_scheduling.specs.Closing.{asks_itself}
+use Rattle.ge_scheduling.specs.Amounts.{asks_itself}
 
 alone : (b : Bool) → (b || false) ≡ b
 alone true = refl

@@ -1,10 +1,7 @@
 -- Moments at which too little is left at an instance, and ends of windows: they stay as bookings grow and what is left is taken anew.
-use Rattle.std.proofs.Common.{◌≡◌, ℕ, ◌-◌, ◌^◌, ◌≤◌, inl, inr, Bool, true, false, ◌&&◌, ◌||◌, List, [], ◌∷◌, ◌++◌, map, fold, Option, Some, None, is_some, refl, sym, subst, ap, ◌∙◌, arith}
-use Rattle.std.specs.Prelude.{nat_lt, nat_le, cond, IfSome}
-use Rattle.std.specs.BTreeMap.{is_at}
-use Rattle.std.specs.Ordering.{nat_cmp}
+use Rattle.std.proofs.Common.{◌≡◌, ℕ, ◌≤◌, inl, inr, Bool, true, false, ◌&&◌, ◌||◌, List, [], ◌∷◌, ◌++◌, map, Option, Some, None, is_some, refl, sym, subst, ap, ◌∙◌, arith}
+use Rattle.std.specs.Prelude.{nat_lt, nat_le, IfSome}
 use Rattle.std.proofs.lemmas.Bool.{cases_Bool, cond-true, cond-false, cond_both, and_parts, and_from, or_cases, or_left, or_right, true≢false, ltb-true, leb-true, lt-ltb}
-use Rattle.ge_collections.specs.Keyed.{at_number}
 use Rattle.ge_model_bookings.specs.Bookings.{peak}
 use Rattle.ge_model_bookings.proofs.Peaks.{within_peak}
 use Rattle.ge_model_place.specs.Windows.{window_end_from, next_moment}
@@ -16,7 +13,7 @@ use Rattle.ge_timeline.specs.Looks.{window_peak}
 use Rattle.ge_scheduling.specs.declared.rests.Rest.{Rest}
 use Rattle.ge_scheduling.specs.declared.rests.Left.{Left}
 use Rattle.ge_scheduling.specs.Amounts.{IsInTable}
-use Rattle.ge_scheduling.specs.Rests.{renewed_rest, are_short, left_then, is_short_then, are_short_then, comes_before, comes_sooner, blocked_since, is_full, lesser_end, shortest_end_of, IsBlocked, LastsUntil}
+use Rattle.ge_scheduling.specs.Rests.{renewed_rest, are_short, left_then, is_short_then, are_short_then, comes_before, comes_sooner, blocked_since, is_full, IsBlocked, LastsUntil}
 use Rattle.ge_scheduling.specs.Vacant.{goes_on}
 use Rattle.ge_scheduling.proofs.Grown.{sum_grows}
 use Rattle.ge_scheduling.proofs.LeftOut.{peak_there}
@@ -108,32 +105,6 @@ module _ (c : Cluster) (groups : Groups) (now : ℕ) (booked : List Booking) whe
       let less = ltb-true moment until e in
       let last = lasts job there in
       lt-ltb moment (window_end_from c job now) (omega (arith, less, last))
-
--- the shortest end of a window
-
-module _ (c : Cluster) (now : ℕ) where
-  no_later : (jobs : List (ℕ × Job)) (end : ℕ) → fold (lesser_end c now) end jobs ≤ end
-  no_later [] end = omega arith
-  no_later (row ∷ rows) end =
-      let less = no_later rows (lesser_end c now end row) in omega (arith, less)
-
-  no_later_than_each : (jobs : List (ℕ × Job)) (end number : ℕ) (job : Job) → at_number jobs number ≡ Some job → fold (lesser_end c now) end jobs ≤ window_end_from c job now
-  no_later_than_each [] end number job there = absurd cc
-  no_later_than_each (row ∷ rows) end number job there =
-      here (is_at (nat_cmp number) row.0) there (no_later_than_each rows (lesser_end c now end row) number job)
-    where
-      here : (same : Bool) → cond same (Some row.1) (at_number rows number) ≡ Some job
-          → (at_number rows number ≡ Some job → fold (lesser_end c now) (lesser_end c now end row) rows ≤ window_end_from c job now)
-          → fold (lesser_end c now) (lesser_end c now end row) rows ≤ window_end_from c job now
-      here true is others =
-          let own : row.1 ≡ job = cc in
-          let less = no_later rows (lesser_end c now end row) in
-          subst (λ (j : Job). fold (lesser_end c now) (lesser_end c now end row) rows ≤ window_end_from c j now) own (omega (arith, less))
-      here false is others = others is
-
-  pub shortest_lasts : (groups : Groups) (booked : List Booking) (until : ℕ) → until ≤ shortest_end_of c now → LastsUntil c groups now booked until
-  shortest_lasts groups booked until within job there =
-      let each = no_later_than_each c.jobs (2 ^ 64 - 1) there.number job there.there in omega (arith, within, each)
 
 -- full where no end was known: full
 

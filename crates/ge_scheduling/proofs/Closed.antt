@@ -15,8 +15,8 @@ use Rattle.ge_model_rows.specs.ValueRows.{Value}
 use Rattle.ge_model_value.specs.Complexes.{is_consumable}
 use Rattle.ge_model_place.specs.Opening.{has_host, is_asked_for, admits_owner, admits_project, admits_no_project, admits_pe, admits_value, has_value, is_configured, consumes_what_is, meets_forced, reaches_threshold, is_open_in, is_open}
 use Rattle.ge_model_place.proofs.Same.{texts_equal}
-use Rattle.ge_scheduling.specs.Amounts.{IsInTable}
-use Rattle.ge_scheduling.specs.Closing.{asks_itself, asked_by_all, lacks_in, lacks_one, IsClosed}
+use Rattle.ge_scheduling.specs.Amounts.{IsInTable, asks_itself}
+use Rattle.ge_scheduling.specs.Closing.{asked_by_all, lacks_in, lacks_one, IsClosed}
 
 -- one more is looked at
 pub all_with : {X : Type 0} (test : X → Bool) (old new : List X) (x : X) → list_all test old ≡ true → new ≡ old ++ filter test (x ∷ []) → list_all test new ≡ true
@@ -27,7 +27,7 @@ all_with test old new x all is =
     (cond_both (test x) (x ∷ []) [] (λ xs. list_all test xs ≡ true) (λ does. and_from (test x) true does refl) (λ _. refl)))
 
 module _ (name : List ℕ) where
-  each_asks : (jobs : List (ℕ × Job)) (number : ℕ) (job : Job) → list_all (asks_itself name) jobs ≡ true → at_number jobs number ≡ Some job → has_value job.request.asked name ≡ true
+  pub each_asks : (jobs : List (ℕ × Job)) (number : ℕ) (job : Job) → list_all (asks_itself name) jobs ≡ true → at_number jobs number ≡ Some job → has_value job.request.asked name ≡ true
   each_asks [] number job all there = absurd cc
   each_asks (row ∷ rows) number job all there =
       let parts = and_parts (asks_itself name row) (list_all (asks_itself name) rows) all in

@@ -156,6 +156,18 @@ module _ (c : Cluster) (groups : Groups) (order : List InstanceId) (now : ℕ) w
       sym (may_same c decisions tally tallied job)
       ∙ and_right (job.reserve && job.advance == 0) (nat_lt tally.reserved c.sched.max_reservation) (le-ltb tally.reserved c.sched.max_reservation enough)) task
 
+  -- the tasks of a job wait, as they do where it isn't there
+  pub each_waits : (booked : List Booking) (decisions : List Decision) (tally : Tally) (number : ℕ) → IsTallied c decisions tally
+      → ((job : Job) → at_number c.jobs number ≡ Some job → Waits c groups order now booked decisions number) → Waits c groups order now booked decisions number
+  each_waits booked decisions tally number tallied there = here (at_number c.jobs number) refl
+    where
+      here : (found : Option Job) → at_number c.jobs number ≡ found → Waits c groups order now booked decisions number
+      here (Some job) is = there job is
+      here None is = λ task same.
+          sym (decision_tallied c groups order now booked decisions tally tallied task)
+          ∙ ap (λ n. decision_at c groups order now booked tally (at_number c.jobs n) task) same
+          ∙ ap (λ job. decision_at c groups order now booked tally job task) is
+
   -- a job whose tasks wait, after one more that does
   waits_still : (booked : List Booking) (decisions : List Decision) (tally : Tally) (skipped : TaskId) (passed : Option ℕ) → IsTallied c decisions tally
       → IfSome passed (Waits c groups order now booked decisions) → IfSome passed (Waits c groups order now booked (decisions ++ Skip skipped ∷ []))

@@ -11,8 +11,10 @@ pub mod Thinned
 pub mod Everywhere
 pub mod LeftOut
 pub mod Open
+pub mod Facts
 pub mod LeastAsked
 pub mod Closed
+pub mod Lasting
 pub mod Blocked
 pub mod Looked
 pub mod Remaining

@@ -36,10 +36,10 @@ use Rattle.ge_scheduling.specs.declared.holding.Hosts.{Hosts}
 use Rattle.ge_scheduling.specs.Common.{IsAsked}
 use Rattle.ge_scheduling.specs.Amounts.{IsInTable, number_in, AreLeast}
 use Rattle.ge_scheduling.specs.Closing.{asked_by_all}
-use Rattle.ge_scheduling.specs.Rests.{rest_of, host_rests, rests_at, left_first, is_full, renewed_rest, renewed_left, AreOpen, ArePassed, is_of, asks_more, is_short, is_short_now, are_short, left_then, is_short_then, are_short_then, are_short_at, comes_before, blocked_there, blocked_in, shortest_end_of, is_kept, AreKept, OutBy, AreShortLater, IsLeft, IsBlocked, IsLeftAt, AreLeft}
+use Rattle.ge_scheduling.specs.Rests.{rest_of, host_rests, rests_at, left_first, is_full, renewed_rest, renewed_left, AreOpen, ArePassed, is_of, asks_more, is_short, is_short_now, are_short, left_then, is_short_then, are_short_then, are_short_at, comes_before, blocked_there, blocked_in, EndsNoSooner, is_kept, AreKept, OutBy, AreShortLater, IsLeft, IsBlocked, IsLeftAt, AreLeft}
 use Rattle.ge_scheduling.specs.Vacant.{goes_on, slots_of}
 use Rattle.ge_scheduling.proofs.Admitting.{any_first, any_second, counts_here, slots_count, has_room_for}
-use Rattle.ge_scheduling.proofs.Blocked.{known_later, known_anew, blocked_later, blocked_anew, before_each_end, shortest_lasts, full_before}
+use Rattle.ge_scheduling.proofs.Blocked.{known_later, known_anew, blocked_later, blocked_anew, before_each_end, full_before}
 use Rattle.ge_scheduling.proofs.Closed.{closed_to_all}
 use Rattle.ge_scheduling.proofs.Grown.{sum_grows}
 use Rattle.ge_scheduling.proofs.LeftOut.{peak_there, lasts_on}
@@ -221,13 +221,13 @@ module _ (c : Cluster) (groups : Groups) (now : ℕ) (booked : List Booking) whe
       }
 
   -- where the shortest window ends is found out
-  pub until_found : (order : List InstanceId) (room : Room) (until : ℕ) → AreLeft c groups now booked order room → room.until ≡ None → until ≤ shortest_end_of c now → AreLeft c groups now booked order (record room { until = Some until })
+  pub until_found : (order : List InstanceId) (room : Room) (until : ℕ) → AreLeft c groups now booked order room → room.until ≡ None → EndsNoSooner c now until → AreLeft c groups now booked order (record room { until = Some until })
   until_found order room until are none within = record {
     number = are.number;
     hosts = are.hosts;
     long = are.long;
     each = are.each;
-    lasts = shortest_lasts c now groups booked until within;
+    lasts = within;
     later = are.later;
     others = open_on (is_full c now None) (is_full c now (Some until)) room.lefts room.lefts (length room.lefts) 0 room.vacant (λ k d e. full_before c now until (slice_index_or room.lefts k d) e)
         (subst (λ known. AreOpen (is_full c now known) room.lefts (length room.lefts) 0 room.vacant) none are.others);

@@ -7,12 +7,8 @@ use Rattle.ge_model_rows.specs.HostRows.{Groups, InstanceId}
 use Rattle.ge_model_rows.specs.JobRows.{Job}
 use Rattle.ge_model_rows.specs.QueueRows.{QueueRow}
 use Rattle.ge_model_value.specs.Complexes.{is_consumable}
-use Rattle.ge_model_place.specs.Opening.{has_value, is_configured, is_open}
-use Rattle.ge_scheduling.specs.Amounts.{IsInTable}
-
--- whether a job asks for a name itself: qsub, -l
-abbrev pub asks_itself : List ℕ → ℕ × Job → Bool
-asks_itself name row = has_value row.1.request.asked name
+use Rattle.ge_model_place.specs.Opening.{is_configured, is_open}
+use Rattle.ge_scheduling.specs.Amounts.{IsInTable, asks_itself}
 
 -- whether each job of the table asks for a consumable itself
 abbrev pub asked_by_all : Cluster → List ℕ → Bool

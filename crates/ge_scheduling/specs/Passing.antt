@@ -1,16 +1,18 @@
 -- A task that waits, and later tasks of its job.
-use Rattle.std.specs.Prelude.{◌≡◌, ℕ, List, Option, Some, None, IfSome}
+use Rattle.std.specs.Prelude.{◌≡◌, ℕ, false, List, Option, Some, None, IfSome}
 use Rattle.std.specs.BTreeSet.{BTreeSet}
+use Rattle.ge_collections.specs.Keyed.{at_number}
 use Rattle.ge_collections.specs.declared.short_row.ShortRow.{ShortRow}
 use Rattle.ge_model_rows.specs.ClusterRows.{Cluster}
 use Rattle.ge_model_rows.specs.DecisionRows.{Decision}
 use Rattle.ge_model_rows.specs.HostRows.{Groups, InstanceId}
+use Rattle.ge_model_rows.specs.JobRows.{Job}
 use Rattle.ge_model_rows.specs.ScheduleRows.{Booking}
 use Rattle.ge_model_rows.specs.TaskRows.{TaskId}
 use Rattle.ge_model_place.specs.Running.{decision_of}
 use Rattle.ge_rows.specs.declared.labels.JobFacts.{JobFacts}
 use Rattle.ge_scheduling.specs.declared.counting.Tally.{Tally}
-use Rattle.ge_scheduling.specs.Counts.{IsTallied}
+use Rattle.ge_scheduling.specs.Counts.{IsTallied, may_be_reserved}
 use Rattle.ge_scheduling.specs.KindNotes.{TellKinds, AreShut}
 use Rattle.ge_scheduling.specs.declared.rests.Room.{Room}
 use Rattle.ge_scheduling.specs.Rests.{AreLeft}
@@ -20,6 +22,10 @@ abbrev pub passed_by : ℕ → Decision → Option ℕ
 passed_by number (Decision.Start start) = None
 passed_by number (Decision.Reserve kept) = None
 passed_by number (Decision.Skip task) = Some number
+
+-- no slots may be kept for a task of the job of a number
+abbrev pub MayNotKeep : Cluster → Tally → ℕ → Type 0
+MayNotKeep c tally number = (job : Job) → at_number c.jobs number ≡ Some job → may_be_reserved c.sched tally job ≡ false
 
 module _ (c : Cluster) (groups : Groups) (order : List InstanceId) (now : ℕ) where
   -- each task of a job waits, over what is booked and was decided

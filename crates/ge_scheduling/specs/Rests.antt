@@ -3,16 +3,18 @@ use Rattle.std.specs.Prelude.{◌≡◌, ℕ, ◌+◌, ◌-◌, ◌^◌, ◌≤�
 use Rattle.std.specs.Option.{option_or}
 use Rattle.std.specs.List.{list_any}
 use Rattle.ge_collections.specs.Keyed.{text_eq, at_text}
+use Rattle.ge_collections.specs.declared.short_row.ShortRow.{ShortRow}
 use Rattle.ge_model_bookings.specs.Bookings.{plain_sum}
 use Rattle.ge_model_rows.specs.ClusterRows.{Cluster}
 use Rattle.ge_model_rows.specs.HostRows.{HostRow, Groups, InstanceId}
-use Rattle.ge_model_rows.specs.JobRows.{Job}
+use Rattle.ge_model_rows.specs.JobRows.{Job, Advance}
 use Rattle.ge_model_rows.specs.ScheduleRows.{LimitId, Instance, Host, Global, Pe, Quota, Booking}
 use Rattle.ge_model_rows.specs.ScheduleRows.{Advance as Booked}
 use Rattle.ge_model_place.specs.Demands.{counts_for}
 use Rattle.ge_model_place.specs.Limits.{greatest_demand, capacity_of, consumables, resource_of}
 use Rattle.ge_model_place.specs.Opening.{is_open}
 use Rattle.ge_model_place.specs.Windows.{next_moment, window_end_from}
+use Rattle.ge_rows.specs.declared.labels.JobFacts.{JobFacts}
 use Rattle.ge_timeline.specs.Looks.{window_peak}
 use Rattle.ge_demands.specs.declared.counting.Counted.{Counted}
 use Rattle.ge_scheduling.specs.declared.looking.Found.{Found}
@@ -172,13 +174,23 @@ renewed_left now booked kept left =
 abbrev pub is_full : Cluster → ℕ → Option ℕ → Left → Bool
 is_full c now until left = goes_on c now && (left.closed || comes_before left.blocked until || are_short [] left.rests)
 
--- the sooner of an end and that of the window of a task of a row's job that starts now
-abbrev pub lesser_end : Cluster → ℕ → ℕ → ℕ × Job → ℕ
-lesser_end c now end row = min end (window_end_from c row.1 now)
+abbrev pub shorter_time : ℕ → ℕ × ShortRow JobFacts → ℕ
+shorter_time shortest row = min shortest row.1.facts.lasts
 
--- where the first window ends of a task that starts now, of a job of the table
-abbrev pub shortest_end_of : Cluster → ℕ → ℕ
-shortest_end_of c now = fold (lesser_end c now) (2 ^ 64 - 1) c.jobs
+-- the shortest time that jobs ask for, by their short rows
+abbrev pub shortest_in : List (ℕ × ShortRow JobFacts) → ℕ
+shortest_in rows = fold shorter_time (2 ^ 32 - 1) rows
+
+abbrev pub sooner_end : ℕ → ℕ × Advance → ℕ
+sooner_end end advance = min end advance.1.until
+
+-- the sooner of a moment and the end of each advance reservation
+abbrev pub cut_at_advances : List (ℕ × Advance) → ℕ → ℕ
+cut_at_advances advances end = fold sooner_end end advances
+
+-- no window of a job of the table ends before a moment, of a task that starts now
+abbrev pub EndsNoSooner : Cluster → ℕ → ℕ → Type 0
+EndsNoSooner c now until = (job : Job) → IsInTable c job → until ≤ window_end_from c job now
 
 -- these places rise from one to an end, and at the others between them nothing is left
 abbrev pub AreOpen : (Left → Bool) → List Left → ℕ → ℕ → List ℕ → Type 0
@@ -225,7 +237,7 @@ module _ (c : Cluster) (groups : Groups) (now : ℕ) (booked : List Booking) whe
 
   -- no window of a task that starts now ends before a moment
   abbrev pub LastsUntil : ℕ → Type 0
-  LastsUntil until = (job : Job) → IsInTable c job → until ≤ window_end_from c job now
+  LastsUntil until = EndsNoSooner c now until
 
   -- for each instance what is left there, and where something may be
   pub record AreLeft (order : List InstanceId) (room : Room) : Type 0 where

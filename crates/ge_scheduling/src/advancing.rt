@@ -1,9 +1,9 @@
 // One task after the other.
-ghost use Rattle.std.specs.Prelude.{◌≡◌, ◌≤◌, [], Some, IfOk, OnOk, IsTrue, fold};
+ghost use Rattle.std.specs.Prelude.{◌≡◌, ◌≤◌, [], false, Some, IfOk, OnOk, IsTrue, fold};
 ghost use Rattle.ge_model_place.specs.Windows.{base_bookings};
 ghost use Rattle.ge_model_place.specs.Running.{decide as with_task};
 ghost use Rattle.ge_scheduling.specs.KindNotes.{TellKinds};
-ghost use Rattle.ge_scheduling.specs.Passing.{passed_by as job_passed, Waits, Follows};
+ghost use Rattle.ge_scheduling.specs.Passing.{passed_by as job_passed, MayNotKeep, Waits, Follows};
 
 use crate::bookings::book;
 use crate::counting::{Tally, count, first_tally, may_reserve};
@@ -66,6 +66,25 @@ fn is_passed(passed: Option<u32>, number: u32) -> bool
     }
 }
 
+fn all_are_kept(at: &Setting<'_>, tally: &Tally) -> bool
+    ensures { IsTrue result → at.now.cluster.now.sched.max_reservation ≤ tally.now.reserved }
+{
+    at.cluster.sched.max_reservation <= tally.reserved
+}
+
+// Whether slots may be kept for a task of a job. Once as many tasks have some as may, no job is looked at.
+fn may_keep(at: &Setting<'_>, so_far: &Progress, number: u32) -> bool
+    ensures { result ≡ false → MayNotKeep at.now.cluster.now so_far.now.tally number }
+{
+    if all_are_kept(at, &so_far.tally) {
+        return false;
+    }
+    match job_at(&at.cluster.jobs, number) {
+        Some(job) => may_reserve(&at.cluster.sched, &so_far.tally, job),
+        None => false,
+    }
+}
+
 // Whether no task of a job may have slots kept, and none can start: no instance has enough left for any job, or the job's kind
 // is noted.
 fn is_shut(at: &Setting<'_>, so_far: &Progress, number: u32) -> bool
@@ -75,10 +94,7 @@ fn is_shut(at: &Setting<'_>, so_far: &Progress, number: u32) -> bool
     ensures { IsTrue result → Waits at.now.cluster.now at.now.groups.now at.now.order.now
         at.now.moment so_far.now.booked so_far.now.decisions number }
 {
-    let Some(job) = job_at(&at.cluster.jobs, number) else {
-        return false;
-    };
-    if may_reserve(&at.cluster.sched, &so_far.tally, job) {
+    if may_keep(at, so_far, number) {
         return false;
     }
     if no_slot_is_left(at.cluster, &so_far.room.vacant) {
@@ -92,8 +108,7 @@ fn nothing_is_left(at: &Setting<'_>, so_far: &Progress) -> bool
     ensures { IsTrue result → (so_far.now.room.vacant ≡ []) × (at.now.cluster.now.advances ≡ [])
         × (at.now.cluster.now.sched.max_reservation ≤ so_far.now.tally.reserved) }
 {
-    at.cluster.sched.max_reservation <= so_far.tally.reserved
-        && no_slot_is_left(at.cluster, &so_far.room.vacant)
+    all_are_kept(at, &so_far.tally) && no_slot_is_left(at.cluster, &so_far.room.vacant)
 }
 
 // Whether the tasks of a job are known to wait.

@@ -4,7 +4,8 @@ ghost use Rattle.std.specs.List.{list_any, list_all};
 ghost use Rattle.std.specs.Option.{option_copied};
 ghost use Rattle.ge_collections.specs.Keyed.{at_text};
 ghost use Rattle.ge_model_place.specs.Opening.{has_value as is_named_in, host_names, is_configured};
-ghost use Rattle.ge_scheduling.specs.Closing.{asks_itself, asked_by_all, lacks_in, lacks_one as lacks_one_of};
+ghost use Rattle.ge_scheduling.specs.Amounts.{asks_itself};
+ghost use Rattle.ge_scheduling.specs.Closing.{asked_by_all, lacks_in, lacks_one as lacks_one_of};
 
 use crate::setting::Setting;
 use ge_complex::is_consumable;
@@ -28,7 +29,7 @@ fn are_so_many(numbers: Vec<u32>, count: usize) -> bool
     List::from_vec(numbers).len() == count
 }
 
-// Whether there are as many jobs as bear the mark of an attribute: no job is looked at.
+/// Whether each job asks for an attribute itself: as many as there are bear its mark. No job is looked at.
 fn all_ask(alloc: Global, jobs: &Table<u32, JobRow>, name: &Text) -> Result<bool, AllocError>
     ensures { IfOk result (λ all. all ≡ list_all (asks_itself name.now) jobs.now) }
 {

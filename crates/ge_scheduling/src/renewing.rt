@@ -1,15 +1,16 @@
 // What is left is taken anew as slots are given and kept.
-ghost use Rattle.std.specs.Prelude.{◌≡◌, ◌≤◌, ◌<◌, cond, length, map, IfSome};
+ghost use Rattle.std.specs.Prelude.{◌≡◌, ◌<◌, cond, length, map, IfSome};
 ghost use Rattle.std.specs.List.{remove};
-ghost use Rattle.ge_scheduling.specs.Rests.{renewed_rest, renewed_left, comes_sooner, blocked_with, blocked_since, kept_with, is_full as full_at, shortest_end_of, AreLeft};
+ghost use Rattle.ge_scheduling.specs.Rests.{renewed_rest, renewed_left, comes_sooner, blocked_with, blocked_since, kept_with, is_full as full_at, shortest_in as shortest_of, cut_at_advances as cut_at_each, EndsNoSooner, AreLeft};
 
 use crate::holding::{Hosts, place_of};
 use crate::rests::{Left, Rest, Room, are_short_then, is_full, left_then};
 use crate::setting::Setting;
-use ge_rows::{Decision, Grant, InstanceId, List};
+use ge_bookings::end_of_window;
+use ge_rows::{Advance, Decision, Grant, InstanceId, JobFacts, List, ShortRow, Table};
 use ge_timeline::Timeline;
-use ge_windows::window_end_from;
 use std::alloc::Global;
+use std::collections::BTreeMap;
 
 // Which of these rising places is that of an instance.
 fn index_of(
@@ -197,18 +198,38 @@ fn renew_granted(
     }
 }
 
-// No window of a job of the table ends before, of a task that starts now. The walk ends at a window that has no later moment.
-fn shortest_end(at: &Setting<'_>) -> u64
-    ensures { result ≤ shortest_end_of at.now.cluster.now at.now.moment }
+// No job asks for a shorter time.
+fn shortest_in(rows: &BTreeMap<u32, ShortRow<JobFacts>>) -> u32
+    ensures { result ≡ shortest_of rows.now.entries }
 {
-    let mut end = u64::MAX;
-    for (_number, row) in at.cluster.jobs.iter() {
-        end = end.min(window_end_from(at.cluster, row.job(), at.moment));
-        if end <= at.moment.saturating_add(1) {
-            return 0;
-        }
+    let mut shortest = u32::MAX;
+    for (_number, row) in rows.iter() {
+        shortest = shortest.min(row.facts.lasts);
     }
-    end
+    shortest
+}
+
+// The sooner of a moment and the end of each advance reservation, which cuts the windows of its jobs.
+fn cut_at_advances(advances: &Table<u32, Advance>, end: u64) -> u64
+    ensures { result ≡ cut_at_each advances.now end }
+{
+    let mut soonest = end;
+    for (_number, advance) in advances.iter() {
+        soonest = soonest.min(advance.until);
+    }
+    soonest
+}
+
+// No window of a job of the table ends before, of a task that starts now.
+fn shortest_end(at: &Setting<'_>) -> u64
+    ensures { EndsNoSooner at.now.cluster.now at.now.moment result }
+{
+    let Some(shorts) = at.cluster.jobs.shorts() else {
+        return 0;
+    };
+    let shortest = u64::from(shortest_in(shorts.rows)).min(at.cluster.sched.default_duration);
+    let end = end_of_window(at.moment, shortest.max(1));
+    cut_at_advances(&at.cluster.advances, end)
 }
 
 // Where the shortest window ends is found out once, when slots are kept for the first time.

@@ -274,9 +274,9 @@ pub(crate) fn room_at(
     ensures { IfOk result (λ room. AreLeft at.now.cluster.now at.now.groups.now at.now.moment
         booked.now at.now.order.now room) }
 {
-    let amounts = least_amounts(alloc, at)?;
     let hosts = hosts_of(alloc, at.order)?;
     let names = names_asked_by_all(alloc, at)?;
+    let amounts = least_amounts(alloc, at, names.items())?;
     let lefts = lefts_of_all(alloc, at, booked, &amounts, &hosts.numbers, names.items())?;
     let vacant = vacant_places(alloc, at, lefts.items())?;
     let later = none_later(alloc, lefts.len())?;

@@ -1,31 +1,14 @@
 //! Windows of tasks.
 
-ghost use Rattle.std.specs.Prelude.{◌≡◌, ◌∷◌, ◌&&◌, ◌||◌, Some, None, codes, cond};
+ghost use Rattle.std.specs.Prelude.{◌≡◌, ◌&&◌, ◌||◌, Some, None, codes, cond};
 ghost use Rattle.std.specs.Option.{option_copied, option_or};
-ghost use Rattle.std.specs.BTreeMap.{is_at};
-ghost use Rattle.ge_collections.specs.Keyed.{at_text, text_cmp, text_eq};
+ghost use Rattle.ge_collections.specs.Keyed.{at_text};
 ghost use Rattle.ge_model_place.specs.Windows.{duration_of, lasts_at, least_asked, no_later_than};
 ghost use Rattle.ge_model_place.specs.Windows as windows;
 
 use ge_bookings::end_of_window;
 use ge_complex::amount_in;
-use ge_rows::{Advance, Cluster, Job, Text, Value};
-
-// Whether a name is that of a time: a letter of its own, and what the names of both times (queue_conf h_rt, s_rt) end in.
-fn is_time(letter: u8, name: &[u8]) -> bool
-    ensures { result ≡ text_eq (letter ∷ codes "_rt") name.now }
-{
-    match name {
-        [first, b'_', b'r', b't'] => *first == letter,
-        _ => false,
-    }
-}
-
-fn is_key_of_time(letter: u8, key: &Text) -> bool
-    ensures { result ≡ is_at (text_cmp (letter ∷ codes "_rt")) key.now }
-{
-    is_time(letter, key.bytes())
-}
+use ge_rows::{Advance, Cluster, Job, Value, is_time_of};
 
 // What was met of a time, or else a value whose name is that of the time.
 fn met_or<'a>(met: Option<&'a Value>, is_named: bool, value: &'a Value) -> Option<&'a Value>
@@ -54,8 +37,8 @@ fn times_of(job: &Job) -> Times<'_>
     let mut hard: Option<&Value> = None;
     let mut soft: Option<&Value> = None;
     for (key, value) in job.request.asked.iter() {
-        hard = met_or(hard, is_key_of_time(b'h', key), value);
-        soft = met_or(soft, is_key_of_time(b's', key), value);
+        hard = met_or(hard, is_time_of(b'h', key), value);
+        soft = met_or(soft, is_time_of(b's', key), value);
     }
     Times { hard, soft }
 }

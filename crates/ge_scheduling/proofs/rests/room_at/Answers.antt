@@ -9,6 +9,6 @@ pub returns : goal.returns
 returns c =
     let C = c.args.at.now.cluster.now in
     let now = c.args.at.now.moment in
-    all_left C c.args.at.now.groups.now now c.args.booked.now c.in_ok-amounts.amounts c.in_ok-hosts.hosts.numbers c.items.result.now c.args.at.now.order.now c.in_ok-lefts.lefts c.in_ok-vacant.vacant c.in_ok-later.later c.in_ok-hosts.hosts c.len.result
-    c.in_ok-amounts.ensures (subst (λ names. list_all (asked_by_all C) names ≡ true) (sym c.items.ensures) c.in_ok-names.ensures) c.in_ok-lefts.ensures
-    (subst (λ lefts. AreOpen (is_full C now None) lefts (length lefts) 0 c.in_ok-vacant.vacant) c.items-2.ensures c.in_ok-vacant.ensures) c.len.ensures c.in_ok-later.ensures.long c.in_ok-later.ensures.none
+    all_left C c.args.at.now.groups.now now c.args.booked.now c.in_ok-amounts.amounts c.in_ok-hosts.hosts.numbers c.items-2.result.now c.args.at.now.order.now c.in_ok-lefts.lefts c.in_ok-vacant.vacant c.in_ok-later.later c.in_ok-hosts.hosts c.len.result
+    c.in_ok-amounts.ensures (subst (λ names. list_all (asked_by_all C) names ≡ true) (sym c.items-2.ensures) c.in_ok-names.ensures) c.in_ok-lefts.ensures
+    (subst (λ lefts. AreOpen (is_full C now None) lefts (length lefts) 0 c.in_ok-vacant.vacant) c.items-3.ensures c.in_ok-vacant.ensures) c.len.ensures c.in_ok-later.ensures.long c.in_ok-later.ensures.none
