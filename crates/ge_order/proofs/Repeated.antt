@@ -5,16 +5,17 @@ use Rattle.std.proofs.lemmas.List.{map-append}
 use Rattle.std.proofs.lemmas.List.Sums.{fold_push}
 use Rattle.ge_collections.specs.Keyed.{at_number}
 use Rattle.ge_collections.specs.declared.short_row.ShortRow.{ShortRow}
+use Rattle.ge_model_order.specs.Amounts.{cut_at_64}
 use Rattle.ge_model_rows.specs.ClusterRows.{Cluster}
 use Rattle.ge_model_rows.specs.SettingRows.{Sched}
 use Rattle.ge_rows.specs.declared.labels.JobFacts.{JobFacts}
 use Rattle.ge_order.specs.Kinds.{kind_in, asked_of, SameAsked, urgency_by, told_standing}
-use Rattle.ge_order.specs.Repeated.{urged_by, seen_more, IsUrged, IsWithin, candidate_of, standing, prio_of_candidate}
+use Rattle.ge_order.specs.Repeated.{urged_by, bounds_with, IsUrged, IsWithin, candidate_of, standing, prio_of_candidate}
 use Rattle.ge_order.specs.Standings.{lesser, prio_of}
 use Rattle.ge_order.proofs.OneKind.{told_some}
 use Rattle.ge_order.specs.declared.gathering.Candidate.{Candidate}
 use Rattle.ge_order.specs.declared.priority.Scale.{Scale}
-use Rattle.ge_order.specs.declared.repeating.Seen.{Seen}
+use Rattle.ge_order.specs.declared.repeating.Bounds.{Bounds}
 use Rattle.ge_order.specs.declared.repeating.Urged.{Urged}
 
 -- what is in an option that has something
@@ -29,8 +30,8 @@ module _ (c : Cluster) (rows : List (ℕ × ShortRow JobFacts)) (now : ℕ) wher
       subst (λ (u : Urged). (q : ℕ) → kind_in rows q ≡ Some u.kind → u.urgency ≡ urgency_by c (asked_of c q) u.submitted u.deadline now) (in_some (urged_by row urgency) urged told)
       (λ q of_kind. is ∙ ap (λ asked. urgency_by c asked row.facts.submitted row.facts.deadline now) (alike number q row.third here of_kind))
 
-  pub none_urged : (last : Option Urged) → last ≡ None → IsUrged c rows now last
-  none_urged last none urged told = absurd (let never : ◌≡◌ {A = Option Urged} None (Some urged) = sym none ∙ told in cc)
+  pub none_urged : IsUrged c rows now None
+  none_urged urged told = absurd cc
 
 -- what is known of a candidate is what its short row tells
 pub standing_of_row : (c : Cluster) (rows : List (ℕ × ShortRow JobFacts)) (now number : ℕ) (row : ShortRow JobFacts) (urgency : ℕ) → at_number rows number ≡ Some row
@@ -46,16 +47,19 @@ lesser_twice (Some low) urgency = omega arith
 greater_twice : (high urgency : ℕ) → max high urgency ≡ max (max high urgency) urgency
 greater_twice high urgency = omega arith
 
--- an urgency that was seen changes no bound
-pub within_more : (seen : Seen) (row : ShortRow JobFacts) (urgency : ℕ) → IsWithin (seen_more seen row urgency)
-within_more seen row urgency urged told =
-    let same : urgency ≡ urged.urgency = ap (λ (u : Urged). u.urgency) (in_some (urged_by row urgency) urged told) in (
-      ap (λ n. Some n) (lesser_twice seen.low urgency ∙ ap (λ n. min (lesser seen.low urgency) n) same),
-      greater_twice seen.high urgency ∙ ap (λ n. max (max seen.high urgency) n) same,
-    )
+-- a candidate that was taken changes no bound
+pub within_more : (bounds : Bounds) (row : ShortRow JobFacts) (urgency : ℕ) → IsWithin (bounds_with bounds urgency (cut_at_64 row.facts.oticket)) (Some (urged_by row urgency))
+within_more bounds row urgency urged told =
+    subst (λ (u : Urged). bounds_with bounds urgency (cut_at_64 row.facts.oticket) ≡ bounds_with (bounds_with bounds urgency (cut_at_64 row.facts.oticket)) u.urgency (cut_at_64 u.oticket))
+    (in_some (urged_by row urgency) urged told)
+    (λ i. record {
+      low = Some (lesser_twice bounds.low urgency i);
+      high = greater_twice bounds.high urgency i;
+      most = greater_twice bounds.most (cut_at_64 row.facts.oticket) i;
+    })
 
-pub none_within : (seen : Seen) → seen.last ≡ None → IsWithin seen
-none_within seen none urged told = absurd (let never : ◌≡◌ {A = Option Urged} None (Some urged) = sym none ∙ told in cc)
+pub none_within : (bounds : Bounds) → IsWithin bounds None
+none_within bounds urged told = absurd cc
 
 -- a bound over what was put in, with one more
 pub bound_more : {X S B : Type 0} (f : B → S → B) (g : X → S) (first before after : B) (done more : List X) (one : X) → before ≡ fold f first (map g done) → after ≡ f before (g one) → more ≡ done ++ one ∷ []

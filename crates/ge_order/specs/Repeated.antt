@@ -1,5 +1,5 @@
 -- Urgencies of jobs that are alike, and candidates by the numbers that their priorities stand on.
-use Rattle.std.specs.Prelude.{◌≡◌, ℕ, max, List, Option, Some}
+use Rattle.std.specs.Prelude.{◌≡◌, ℕ, max, List, [], ◌∷◌, ◌++◌, Option, Some}
 use Rattle.ge_collections.specs.declared.short_row.ShortRow.{ShortRow}
 use Rattle.ge_model_order.specs.Amounts.{cut_at_64, least, greatest}
 use Rattle.ge_model_order.specs.Priority.{priority_part, urgency_part, tickets_part, prio_with}
@@ -7,21 +7,24 @@ use Rattle.ge_model_rows.specs.ClusterRows.{Cluster}
 use Rattle.ge_model_rows.specs.ScheduleRows.{Prio}
 use Rattle.ge_model_rows.specs.SettingRows.{Sched}
 use Rattle.ge_rows.specs.declared.labels.JobFacts.{JobFacts}
+use Rattle.ge_order.specs.Alike.{candidate_by, gathered_in, urged_in}
 use Rattle.ge_order.specs.Kinds.{kind_in, asked_of, AreAsked, urgency_by}
 use Rattle.ge_order.specs.Standings.{lesser, urgencies_of}
 use Rattle.ge_order.specs.declared.gathering.Candidate.{Candidate}
+use Rattle.ge_order.specs.declared.gathering.Gathering.{Gathering}
 use Rattle.ge_order.specs.declared.priority.Scale.{Scale}
-use Rattle.ge_order.specs.declared.repeating.Seen.{Seen}
+use Rattle.ge_order.specs.declared.repeating.Bounds.{Bounds}
 use Rattle.ge_order.specs.declared.repeating.Urged.{Urged}
 use Rattle.ge_order.specs.declared.standing.Standing.{Standing}
 
--- the urgency of a job, with what it stands on
+-- what a candidate stands on, by its short row, and its urgency
 abbrev pub urged_by : ShortRow JobFacts → ℕ → Urged
-urged_by row urgency = record { kind = row.third; submitted = row.facts.submitted; deadline = row.facts.deadline; urgency = urgency }
+urged_by row urgency =
+    record { kind = row.third; submitted = row.facts.submitted; deadline = row.facts.deadline; oticket = row.facts.oticket; priority = row.facts.priority; urgency = urgency }
 
--- what is seen with one more job
-abbrev pub seen_more : Seen → ShortRow JobFacts → ℕ → Seen
-seen_more seen row urgency = record { last = Some (urged_by row urgency); low = Some (lesser seen.low urgency); high = max seen.high urgency }
+-- what urgencies and tickets reach with one more candidate
+abbrev pub bounds_with : Bounds → ℕ → ℕ → Bounds
+bounds_with bounds urgency tickets = record { low = Some (lesser bounds.low urgency); high = max bounds.high urgency; most = max bounds.most tickets }
 
 -- jobs have this urgency whose kind, submission and deadline are these, if it is kept
 abbrev pub IsUrged : Cluster → List (ℕ × ShortRow JobFacts) → ℕ → Option Urged → Type 0
@@ -32,13 +35,19 @@ pub record Knows (c : Cluster) (rows : List (ℕ × ShortRow JobFacts)) (now : �
   pub all : AreAsked c rows kinds
   pub alike : IsUrged c rows now last
 
--- the last urgency changes neither the least nor the greatest one
-abbrev pub IsWithin : Seen → Type 0
-IsWithin seen = (urged : Urged) → seen.last ≡ Some urged → (seen.low ≡ Some (lesser seen.low urged.urgency)) × (seen.high ≡ max seen.high urged.urgency)
+-- the last candidate changes no bound
+abbrev pub IsWithin : Bounds → Option Urged → Type 0
+IsWithin bounds last = (urged : Urged) → last ≡ Some urged → bounds ≡ bounds_with bounds urged.urgency (cut_at_64 urged.oticket)
 
 -- a candidate, by its short row and its urgency
 abbrev pub candidate_of : ℕ → ShortRow JobFacts → ℕ → Candidate
-candidate_of number row urgency = record { job = number; priority = row.facts.priority; tickets = cut_at_64 row.facts.oticket; urgency = urgency }
+candidate_of number row urgency = candidate_by number (urged_by row urgency)
+
+-- one more candidate is gathered, and bounds reach it
+pub record Takes (before after : Gathering) (number : ℕ) (row : ShortRow JobFacts) (urgency : ℕ) : Type 0 where
+  pub list : gathered_in after.lots.items after.last ≡ gathered_in before.lots.items before.last ++ candidate_of number row urgency ∷ []
+  pub bounds : IsWithin before.bounds (urged_in before.last) → after.bounds ≡ bounds_with before.bounds urgency (cut_at_64 row.facts.oticket)
+  pub within : IsWithin before.bounds (urged_in before.last) → IsWithin after.bounds (urged_in after.last)
 
 -- what is known of a candidate
 abbrev pub standing : Candidate → Standing

@@ -1,12 +1,14 @@
-// Candidates in their order. Most jobs are like the one before, so of each of those its number alone is kept.
-ghost use Rattle.std.specs.Prelude.{◌≡◌, ◌++◌, [], ◌∷◌, cond, IfOk, OnOk, IsTrue};
+// Candidates that are alike. Most jobs are like the one before, so of each of those its number alone is kept.
+ghost use Rattle.std.specs.Prelude.{◌≡◌, ◌++◌, [], ◌∷◌, cond, map, Some, IfOk, IfSome, OnOk, IsTrue};
 ghost use Rattle.std.specs.Option.{option_to_list};
-ghost use Rattle.ge_order.specs.Alike.{candidate_at, candidates_in, candidates_of};
+ghost use Rattle.ge_order.specs.Alike.{alike_of, candidate_by as candidate_urged, candidates_in, candidates_of, opened_in, urged_in};
+ghost use Rattle.ge_order.specs.Repeated.{candidate_of, urged_by};
 
 use crate::gathering::Candidate;
-use std::alloc::{AllocError, Global};
-use std::marker::Model;
-use std::mem;
+use crate::parts::cut_at_64;
+use crate::repeating::{Urged, is_like};
+use ge_rows::{JobFacts, ShortRow};
+use std::alloc::AllocError;
 
 /// A candidate, and those behind it that differ from it in their numbers alone.
 #[derive(Drop)]
@@ -17,97 +19,83 @@ pub(crate) struct Alike {
     pub others: Vec<u32>,
 }
 
-/// Candidates in their order. Contracts see their list.
+/// Candidates that are alike, which may become more.
 #[derive(Drop)]
-pub(crate) struct Candidates {
-    lots: Vec<Alike>,
-    // Those of the last lot, which may grow.
-    last: Option<Alike>,
+pub(crate) struct Open {
+    /// What they stand on.
+    pub urged: Urged,
+    /// The number of the first one.
+    pub first: u32,
+    /// The numbers of the others.
+    pub others: Vec<u32>,
 }
 
-impl Model for Candidates {
-    ghost use Rattle.std.specs.Prelude.{List};
-    ghost use Rattle.ge_order.specs.Alike.{gathered_in};
-    ghost use Rattle.ge_order.specs.declared.gathering.Candidate.{Candidate};
-
-    ghost Value = { List Candidate };
-
-    ghost view = { λ c. gathered_in c.lots.items c.last };
-}
-
-// Whether a candidate differs from another in its number alone.
-fn is_like(first: &Candidate, candidate: &Candidate) -> bool
-    ensures { IsTrue result → candidate.now ≡ candidate_at first.now candidate.now.job }
+fn candidate_by(number: u32, urged: &Urged) -> Candidate
+    ensures { result ≡ candidate_urged number urged.now }
 {
-    first.urgency == candidate.urgency
-        && first.tickets == candidate.tickets
-        && first.priority == candidate.priority
+    Candidate {
+        job: number,
+        priority: urged.priority,
+        tickets: cut_at_64(u128::from(urged.oticket)),
+        urgency: urged.urgency,
+    }
 }
 
-// One more candidate in a lot, if it is like the first.
-fn join(lot: &mut Alike, candidate: &Candidate) -> Result<bool, AllocError>
-    ensures { IfOk result (λ joined. candidates_of lot.new
-        ≡ candidates_of lot.old ++ cond joined (candidate.now ∷ []) []) }
+// One more candidate, if its short row is like theirs.
+fn join(lot: &mut Open, number: u32, row: &ShortRow<JobFacts>) -> Result<bool, AllocError>
+    ensures list { IfOk result (λ joined. candidates_of (alike_of lot.new)
+        ≡ candidates_of (alike_of lot.old)
+        ++ cond joined (candidate_of number row.now lot.old.urged.urgency ∷ []) []) }
+    ensures same { IfOk result (λ joined. lot.new.urged ≡ lot.old.urged) }
+    ensures like { IfOk result (λ joined. IsTrue joined → lot.old.urged
+        ≡ urged_by row.now lot.old.urged.urgency) }
 {
-    if !is_like(&lot.first, candidate) {
+    if !is_like(&lot.urged, row) {
         return Ok(false);
     }
-    lot.others.push(candidate.job)?;
+    lot.others.push(number)?;
     Ok(true)
 }
 
-fn join_last(last: &mut Option<Alike>, candidate: &Candidate) -> Result<bool, AllocError>
-    ensures { IfOk result (λ joined. candidates_in (option_to_list last.new)
-        ≡ candidates_in (option_to_list last.old) ++ cond joined (candidate.now ∷ []) []) }
+/// One more candidate among those that are alike, if it is like them; its urgency then.
+pub(crate) fn join_last(
+    last: &mut Option<Open>,
+    number: u32,
+    row: &ShortRow<JobFacts>,
+) -> Result<Option<u128>, AllocError>
+    ensures list { IfOk result (λ urgency. opened_in last.new ≡ opened_in last.old
+        ++ map (candidate_of number row.now) (option_to_list urgency)) }
+    ensures same { IfOk result (λ urgency. urged_in last.new ≡ urged_in last.old) }
+    ensures like { IfOk result (λ found. IfSome found (λ urgency. urged_in last.old
+        ≡ Some (urged_by row.now urgency))) }
 {
     match last {
-        None => Ok(false),
-        Some(lot) => join(lot, candidate),
+        None => Ok(None),
+        Some(lot) => {
+            if join(lot, number, row)? {
+                Ok(Some(lot.urged.urgency))
+            } else {
+                Ok(None)
+            }
+        }
     }
 }
 
-// A lot that doesn't grow any more, if there is one.
-fn close(lots: &mut Vec<Alike>, last: Option<Alike>) -> Result<(), AllocError>
-    ensures { OnOk result (lots.new.items ≡ lots.old.items ++ option_to_list last) }
+/// Candidates that don't become more, if there are some.
+pub(crate) fn close(lots: &mut Vec<Alike>, last: Option<Open>) -> Result<(), AllocError>
+    ensures { OnOk result (candidates_in lots.new.items
+        ≡ candidates_in lots.old.items ++ opened_in last) }
 {
     if let Some(lot) = last {
-        lots.push(lot)?;
+        let Open {
+            urged,
+            first,
+            others,
+        } = lot;
+        lots.push(Alike {
+            first: candidate_by(first, &urged),
+            others,
+        })?;
     }
     Ok(())
-}
-
-impl Candidates {
-    /// None.
-    pub(crate) fn new(alloc: Global) -> Candidates
-        ensures { result ≡ [] }
-    {
-        Candidates {
-            lots: Vec::new(alloc),
-            last: None,
-        }
-    }
-
-    /// Puts one more candidate at the end.
-    pub(crate) fn put(&mut self, alloc: Global, candidate: Candidate) -> Result<(), AllocError>
-        ensures { OnOk result (self.new ≡ self.old ++ candidate ∷ []) }
-    {
-        if join_last(&mut self.last, &candidate)? {
-            return Ok(());
-        }
-        let lot = Alike {
-            first: candidate,
-            others: Vec::new(alloc),
-        };
-        let last = mem::replace(&mut self.last, Some(lot));
-        close(&mut self.lots, last)
-    }
-
-    /// The candidates, lot by lot.
-    pub(crate) fn into_lots(self) -> Result<Vec<Alike>, AllocError>
-        ensures { IfOk result (λ lots. candidates_in lots.items ≡ self) }
-    {
-        let Candidates { mut lots, last } = self;
-        close(&mut lots, last)?;
-        Ok(lots)
-    }
 }

@@ -1,20 +1,27 @@
 // What short rows tell of all candidates, in one walk.
-ghost use Rattle.std.specs.Prelude.{◌≡◌, IfOk, map};
+ghost use Rattle.std.specs.Prelude.{◌≡◌, ℕ, List as Items, Some, IfOk, OnOk, map};
+ghost use Rattle.ge_collections.specs.Keyed.{at_number};
+ghost use Rattle.ge_collections.specs.declared.short_row.ShortRow.{ShortRow as Short};
+ghost use Rattle.ge_rows.specs.declared.labels.JobFacts.{JobFacts as Facts};
 ghost use Rattle.ge_tickets.specs.Own.{told_tickets};
-ghost use Rattle.ge_order.specs.Kinds.{TellJobs, told_standing};
-ghost use Rattle.ge_order.specs.Repeated.{candidate_of, standing, IsScale};
+ghost use Rattle.ge_order.specs.Alike.{candidates_in, urged_in};
+ghost use Rattle.ge_order.specs.Kinds.{asked_of, TellJobs, told_standing, urgency_by as urgency_of};
+ghost use Rattle.ge_order.specs.Repeated.{standing, IsScale, Knows, Takes};
+ghost use Rattle.ge_order.specs.Standings.{AreUnits};
 ghost use Rattle.ge_order.specs.Told.{chosen};
 
-use crate::alike::Candidates;
-use crate::asked::units_of;
+use crate::alike::{Alike, Open, close, join_last};
+use crate::asked::{Units, units_of};
 use crate::choosing::has_task;
-use crate::kinds::no_kinds;
+use crate::kinds::{Kinds, no_kinds, row_urgency};
 use crate::parts::cut_at_64;
 use crate::priority::Scale;
-use crate::repeating::{nothing_seen, urgency_again};
+use crate::repeating::{Bounds, bounds_of, no_bounds, stands_on};
+use crate::urging::urgency_by;
 use ge_rows::{Cluster, JobFacts, ShortRow};
 use std::alloc::{AllocError, Global};
 use std::collections::BTreeMap;
+use std::mem;
 
 /// A job that has an eligible task, and what its priority stands on.
 #[derive(Clone, Copy)]
@@ -32,19 +39,79 @@ pub(crate) struct Candidate {
 /// All candidates, and what their urgencies and tickets are parts of.
 #[derive(Drop)]
 pub(crate) struct Gathered {
-    pub(crate) candidates: Candidates,
+    pub(crate) lots: Vec<Alike>,
     pub(crate) scale: Scale,
 }
 
-fn candidate_by(number: u32, row: &ShortRow<JobFacts>, urgency: u128) -> Candidate
-    ensures { result ≡ candidate_of number row.now urgency }
+/// The candidates so far: those that are alike together, and of the last of these what more may join them.
+#[derive(Drop)]
+pub(crate) struct Gathering {
+    pub(crate) kinds: Kinds,
+    pub(crate) bounds: Bounds,
+    pub(crate) lots: Vec<Alike>,
+    pub(crate) last: Option<Open>,
+}
+
+// One more candidate that isn't like the last.
+fn begin(
+    alloc: Global,
+    c: &Cluster,
+    units: Units<'_>,
+    gathering: &mut Gathering,
+    number: u32,
+    row: &ShortRow<JobFacts>,
+    now: u64,
+) -> Result<u128, AllocError>
+    ensures taken { IfOk result (Takes gathering.old gathering.new number row.now) }
+    ensures urgency { (rows : Items (ℕ × Short Facts)) → AreUnits c.now units.entry
+        → at_number rows number ≡ Some row.now → TellJobs c.now rows
+        → Knows c.now rows now gathering.old.kinds (urged_in gathering.old.last)
+        → IfOk result (λ urgency. urgency ≡ urgency_of c.now (asked_of c.now number)
+        row.now.facts.submitted row.now.facts.deadline now) }
+    ensures known { (rows : Items (ℕ × Short Facts)) → AreUnits c.now units.entry
+        → at_number rows number ≡ Some row.now → TellJobs c.now rows
+        → Knows c.now rows now gathering.old.kinds (urged_in gathering.old.last)
+        → OnOk result (Knows c.now rows now gathering.new.kinds (urged_in gathering.new.last)) }
 {
-    Candidate {
-        job: number,
-        priority: row.facts.priority,
-        tickets: cut_at_64(u128::from(row.facts.oticket)),
-        urgency,
+    let asked = row_urgency(c, units, &mut gathering.kinds, number, row);
+    let urgency = urgency_by(c, asked, row.facts.submitted, row.facts.deadline, now);
+    let tickets = cut_at_64(u128::from(row.facts.oticket));
+    gathering.bounds = bounds_of(&gathering.bounds, urgency, tickets);
+    let lot = Open {
+        urged: stands_on(row, urgency),
+        first: number,
+        others: Vec::new(alloc),
+    };
+    let last = mem::replace(&mut gathering.last, Some(lot));
+    close(&mut gathering.lots, last)?;
+    Ok(urgency)
+}
+
+// One more candidate; its urgency is worked out only where it isn't like the last.
+fn take(
+    alloc: Global,
+    c: &Cluster,
+    units: Units<'_>,
+    gathering: &mut Gathering,
+    number: u32,
+    row: &ShortRow<JobFacts>,
+    now: u64,
+) -> Result<u128, AllocError>
+    ensures taken { IfOk result (Takes gathering.old gathering.new number row.now) }
+    ensures urgency { (rows : Items (ℕ × Short Facts)) → AreUnits c.now units.entry
+        → at_number rows number ≡ Some row.now → TellJobs c.now rows
+        → Knows c.now rows now gathering.old.kinds (urged_in gathering.old.last)
+        → IfOk result (λ urgency. urgency ≡ urgency_of c.now (asked_of c.now number)
+        row.now.facts.submitted row.now.facts.deadline now) }
+    ensures known { (rows : Items (ℕ × Short Facts)) → AreUnits c.now units.entry
+        → at_number rows number ≡ Some row.now → TellJobs c.now rows
+        → Knows c.now rows now gathering.old.kinds (urged_in gathering.old.last)
+        → OnOk result (Knows c.now rows now gathering.new.kinds (urged_in gathering.new.last)) }
+{
+    if let Some(urgency) = join_last(&mut gathering.last, number, row)? {
+        return Ok(urgency);
     }
+    begin(alloc, c, units, gathering, number, row, now)
 }
 
 /// What short rows tell of the jobs that have an eligible task.
@@ -55,29 +122,38 @@ pub(crate) fn gather(
     now: u64,
 ) -> Result<Gathered, AllocError>
     ensures standings { TellJobs c.now rows.now.entries → IfOk result (λ found.
-        map standing found.candidates ≡ map (told_standing c.now rows.now.entries now)
+        map standing (candidates_in found.lots.items)
+        ≡ map (told_standing c.now rows.now.entries now)
         (chosen c.now now rows.now.entries)) }
-    ensures tickets { IfOk result (λ found. map (λ x. x.tickets) found.candidates
+    ensures tickets { IfOk result (λ found. map (λ x. x.tickets) (candidates_in found.lots.items)
         ≡ map (told_tickets rows.now.entries) (chosen c.now now rows.now.entries)) }
     ensures scale { IfOk result (λ found. IsScale found.scale
-        (map standing found.candidates) (map (λ x. x.tickets) found.candidates)) }
+        (map standing (candidates_in found.lots.items))
+        (map (λ x. x.tickets) (candidates_in found.lots.items))) }
 {
     let units = units_of(c);
-    let mut kinds = no_kinds();
-    let (mut seen, mut most) = (nothing_seen(), 0);
-    let mut candidates = Candidates::new(alloc);
+    let mut gathering = Gathering {
+        kinds: no_kinds(),
+        bounds: no_bounds(),
+        lots: Vec::new(alloc),
+        last: None,
+    };
     for (number, row) in rows.iter() {
         if has_task(alloc, c, *number, row, now)? {
-            let urgency = urgency_again(c, units, &mut kinds, &mut seen, *number, row, now);
-            let candidate = candidate_by(*number, row, urgency);
-            most = most.max(candidate.tickets);
-            candidates.put(alloc, candidate)?;
+            let _urgency = take(alloc, c, units, &mut gathering, *number, row, now)?;
         }
     }
+    let Gathering {
+        kinds: _,
+        bounds,
+        mut lots,
+        last,
+    } = gathering;
+    close(&mut lots, last)?;
     let scale = Scale {
-        low: seen.low.unwrap_or(0),
-        high: seen.high,
-        most,
+        low: bounds.low.unwrap_or(0),
+        high: bounds.high,
+        most: bounds.most,
     };
-    Ok(Gathered { candidates, scale })
+    Ok(Gathered { lots, scale })
 }

@@ -9,7 +9,7 @@ ghost use Rattle.ge_order.specs.Repeated.{prio_of_candidate};
 ghost use Rattle.ge_order.specs.Standings.{prio_of, standing_of};
 ghost use Rattle.ge_order.specs.Weighed.{IsWorked};
 
-use crate::alike::{Alike, Candidates};
+use crate::alike::Alike;
 use crate::gathering::{Candidate, Gathered, gather};
 use crate::lots::{Lot, Prios};
 use crate::standing::{Standing, extremes, standings};
@@ -180,21 +180,6 @@ fn lots_of(
     Ok(lots)
 }
 
-// The priorities of candidates, by what their urgencies and tickets are parts of.
-fn prios_gathered(
-    alloc: Global,
-    sched: &Sched,
-    scale: &Scale,
-    candidates: Candidates,
-) -> Result<Prios, AllocError>
-    ensures { IfOk result (λ prios. prios
-        ≡ map (prio_of_candidate sched.now scale.now) candidates) }
-{
-    let alike = candidates.into_lots()?;
-    let lots = lots_of(alloc, sched, scale, alike)?;
-    Ok(Prios::of_lots(lots))
-}
-
 /// The priorities of jobs at a moment, in their order; the second list has the tickets of each. Urgency and tickets count by what
 /// these jobs have of them, so that all candidates of a run belong into one list. A job that isn't there has a row of zeros.
 pub fn prios(
@@ -224,7 +209,7 @@ pub fn own_prios(alloc: Global, c: &Cluster, now: u64) -> Result<Option<Prios>, 
     let Some(shorts) = c.jobs.shorts() else {
         return Ok(None);
     };
-    let Gathered { candidates, scale } = gather(alloc, c, shorts.rows, now)?;
-    let prios = prios_gathered(alloc, &c.sched, &scale, candidates)?;
-    Ok(Some(prios))
+    let Gathered { lots, scale } = gather(alloc, c, shorts.rows, now)?;
+    let lots = lots_of(alloc, &c.sched, &scale, lots)?;
+    Ok(Some(Prios::of_lots(lots)))
 }

@@ -1,18 +1,11 @@
-// The urgencies of candidates in a walk over short rows: jobs that follow each other are mostly alike.
-ghost use Rattle.std.specs.Prelude.{◌≡◌, ℕ, List as Items, Some, None, IfSome, max};
-ghost use Rattle.ge_collections.specs.Keyed.{at_number};
-ghost use Rattle.ge_collections.specs.declared.short_row.ShortRow.{ShortRow as Short};
-ghost use Rattle.ge_rows.specs.declared.labels.JobFacts.{JobFacts as Facts};
-ghost use Rattle.ge_order.specs.Kinds.{asked_of, TellJobs, urgency_by as urgency_of};
-ghost use Rattle.ge_order.specs.Repeated.{urged_by, seen_more, Knows, IsWithin};
-ghost use Rattle.ge_order.specs.Standings.{AreUnits, lesser as least_of};
+// What candidates stand on in a walk over short rows: jobs that follow each other are mostly alike.
+ghost use Rattle.std.specs.Prelude.{◌≡◌, Some, IsTrue, None};
+ghost use Rattle.ge_order.specs.Repeated.{bounds_with, urged_by};
+ghost use Rattle.ge_order.specs.Standings.{lesser as least_of};
 
-use crate::asked::Units;
-use crate::kinds::{Kinds, row_urgency};
-use crate::urging::urgency_by;
-use ge_rows::{Cluster, JobFacts, ShortRow};
+use ge_rows::{JobFacts, ShortRow};
 
-/// What the urgency of a job at one moment stands on, and that urgency.
+/// What a candidate stands on at one moment, as its short row tells, and its urgency.
 #[derive(Clone, Copy)]
 pub(crate) struct Urged {
     /// The number of its kind.
@@ -21,42 +14,58 @@ pub(crate) struct Urged {
     pub submitted: u64,
     /// Its deadline, 0 for none.
     pub deadline: u64,
+    /// The tickets that it was given.
+    pub oticket: u64,
+    /// `-p`.
+    pub priority: i32,
     /// Its urgency.
     pub urgency: u128,
 }
 
-/// What was seen of the urgencies of the jobs before.
+/// What urgencies and tickets reach.
 #[derive(Clone, Copy)]
-pub(crate) struct Seen {
-    /// That of the last job.
-    pub last: Option<Urged>,
-    /// The least one.
+pub(crate) struct Bounds {
+    /// The least urgency.
     pub low: Option<u128>,
-    /// The greatest one, 0 where there is none.
+    /// The greatest urgency, 0 where there is none.
     pub high: u128,
+    /// The most tickets.
+    pub most: u64,
 }
 
-/// What is seen before the first job.
-pub(crate) fn nothing_seen() -> Seen
-    ensures { result ≡ record { last = None; low = None; high = 0 } }
+/// What is reached before the first candidate.
+pub(crate) fn no_bounds() -> Bounds
+    ensures { result ≡ record { low = None; high = 0; most = 0 } }
 {
-    Seen {
-        last: None,
+    Bounds {
         low: None,
         high: 0,
+        most: 0,
     }
 }
 
-// The urgency of a job, if it is like the last one.
-fn of_like(last: &Option<Urged>, row: &ShortRow<JobFacts>) -> Option<u128>
-    ensures { IfSome result (λ urgency. last.now ≡ Some (urged_by row.now urgency)) }
+/// Whether the candidate of a short row differs from another in its number alone.
+pub(crate) fn is_like(known: &Urged, row: &ShortRow<JobFacts>) -> bool
+    ensures { IsTrue result → known.now ≡ urged_by row.now known.now.urgency }
 {
-    match last {
-        Some(known)
-            if known.submitted == row.facts.submitted
-                && known.kind == row.third
-                && known.deadline == row.facts.deadline => { Some(known.urgency) }
-        _ => None,
+    known.submitted == row.facts.submitted
+        && known.kind == row.third
+        && known.priority == row.facts.priority
+        && known.oticket == row.facts.oticket
+        && known.deadline == row.facts.deadline
+}
+
+/// What a candidate with this urgency stands on.
+pub(crate) fn stands_on(row: &ShortRow<JobFacts>, urgency: u128) -> Urged
+    ensures { result ≡ urged_by row.now urgency }
+{
+    Urged {
+        kind: row.third,
+        submitted: row.facts.submitted,
+        deadline: row.facts.deadline,
+        oticket: row.facts.oticket,
+        priority: row.facts.priority,
+        urgency,
     }
 }
 
@@ -69,52 +78,13 @@ fn lesser(low: Option<u128>, urgency: u128) -> u128
     }
 }
 
-// What is seen with one more job.
-fn see(seen: &Seen, row: &ShortRow<JobFacts>, urgency: u128) -> Seen
-    ensures { result ≡ seen_more seen.now row.now urgency }
+/// What is reached with one more candidate.
+pub(crate) fn bounds_of(bounds: &Bounds, urgency: u128, tickets: u64) -> Bounds
+    ensures { result ≡ bounds_with bounds.now urgency tickets }
 {
-    Seen {
-        last: Some(Urged {
-            kind: row.third,
-            submitted: row.facts.submitted,
-            deadline: row.facts.deadline,
-            urgency,
-        }),
-        low: Some(lesser(seen.low, urgency)),
-        high: seen.high.max(urgency),
-    }
-}
-
-/// The urgency of a job whose short row this is. It is worked out, and seen, only where the job isn't like the last one.
-pub(crate) fn urgency_again(
-    c: &Cluster,
-    units: Units<'_>,
-    kinds: &mut Kinds,
-    seen: &mut Seen,
-    number: u32,
-    row: &ShortRow<JobFacts>,
-    now: u64,
-) -> u128
-    ensures urgency { (rows : Items (ℕ × Short Facts)) → AreUnits c.now units.entry
-        → at_number rows number ≡ Some row.now → TellJobs c.now rows
-        → Knows c.now rows now kinds.old seen.old.last
-        → result ≡ urgency_of c.now (asked_of c.now number) row.now.facts.submitted
-        row.now.facts.deadline now }
-    ensures known { (rows : Items (ℕ × Short Facts)) → AreUnits c.now units.entry
-        → at_number rows number ≡ Some row.now → TellJobs c.now rows
-        → Knows c.now rows now kinds.old seen.old.last
-        → Knows c.now rows now kinds.new seen.new.last }
-    ensures low { IsWithin seen.old → seen.new.low ≡ Some (least_of seen.old.low result) }
-    ensures high { IsWithin seen.old → seen.new.high ≡ max seen.old.high result }
-    ensures within { IsWithin seen.old → IsWithin seen.new }
-{
-    match of_like(&seen.last, row) {
-        Some(urgency) => urgency,
-        None => {
-            let asked = row_urgency(c, units, kinds, number, row);
-            let urgency = urgency_by(c, asked, row.facts.submitted, row.facts.deadline, now);
-            *seen = see(seen, row, urgency);
-            urgency
-        }
+    Bounds {
+        low: Some(lesser(bounds.low, urgency)),
+        high: bounds.high.max(urgency),
+        most: bounds.most.max(tickets),
     }
 }
