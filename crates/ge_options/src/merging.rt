@@ -1,14 +1,12 @@
 //! The options that count.
 
-ghost use Rattle.std.specs.Prelude.{◌≡◌, ◌++◌, ◌∷◌, [], IfOk, OnOk, filter, filter_map, map};
+ghost use Rattle.std.specs.Prelude.{◌≡◌, ◌++◌, ◌∷◌, [], false, None, IfOk, OnOk, filter, filter_map, map};
 ghost use Rattle.std.specs.Option.{option_map};
 ghost use Rattle.ge_model_grammar.specs.Shapes.{words_after, words_in, is_effective, item_in, merged_by, merged_options, qrsub_shapes};
-ghost use Rattle.ge_options.specs.Lent.{texts};
 ghost use Rattle.ge_options.specs.Shown.{shape_shown, given_shown, all_shown, is_adding};
 
 use crate::reading::GivenOption;
 use crate::shapes::{OptionShape, job_shapes, reservation_shapes};
-use crate::wording::owned;
 use ge_model_grammar::Effect;
 use ge_pieces::is_word;
 use ge_rows::{List, Options, Text};
@@ -32,51 +30,62 @@ fn counts(shape: &OptionShape) -> bool
     }
 }
 
-fn push_words<'a>(words: &mut Vec<&'a [u8]>, given: &GivenOption<'a>) -> Result<(), AllocError>
-    ensures { OnOk result (texts words.new.items ≡ texts words.old.items
-        ++ (given_shown given.now).1) }
+// Whether one of these has the option's name. Most options of the table aren't given, and are passed over by this alone.
+fn is_given(shape: &OptionShape, given: &[GivenOption]) -> bool
+    ensures { result ≡ false → words_in (all_shown given.now) (shape_shown shape.now) ≡ None }
+{
+    for option in given {
+        if is_word(shape.word, option.word) {
+            return true;
+        }
+    }
+    false
+}
+
+fn push_words(alloc: Global, words: &mut Vec<Text>, given: &GivenOption) -> Result<(), AllocError>
+    ensures { OnOk result (words.new.items ≡ words.old.items ++ (given_shown given.now).1) }
 {
     if let Some(word) = given.first {
-        words.push(word)?;
+        words.push(Text::from_bytes(alloc, word)?)?;
     }
     if let Some(word) = given.second {
-        words.push(word)?;
+        words.push(Text::from_bytes(alloc, word)?)?;
     }
     Ok(())
 }
 
 // The words of an option, after one more that was given.
-fn words_with<'a>(
+fn words_with(
     alloc: Global,
     shape: &OptionShape,
-    so_far: Option<Vec<&'a [u8]>>,
-    given: &GivenOption<'a>,
-) -> Result<Option<Vec<&'a [u8]>>, AllocError>
-    ensures { IfOk result (λ after. option_map (λ words. texts words.items) after
-        ≡ words_after (shape_shown shape.now) (option_map (λ words. texts words.items) so_far.entry)
+    so_far: Option<Vec<Text>>,
+    given: &GivenOption,
+) -> Result<Option<Vec<Text>>, AllocError>
+    ensures { IfOk result (λ after. option_map (λ words. words.items) after
+        ≡ words_after (shape_shown shape.now) (option_map (λ words. words.items) so_far)
         (given_shown given.now)) }
 {
     if !is_word(shape.word, given.word) {
         return Ok(so_far);
     }
     let mut words = match so_far {
-        None => Vec::new(alloc),
+        None => Vec::with_capacity(alloc, given.count())?,
         Some(before) => before,
     };
     if !adds(shape) {
         words.clear();
     }
-    push_words(&mut words, given)?;
+    push_words(alloc, &mut words, given)?;
     Ok(Some(words))
 }
 
 // The words that count of an option.
-fn words_of<'a>(
+fn words_of(
     alloc: Global,
     shape: &OptionShape,
-    given: &[GivenOption<'a>],
-) -> Result<Option<Vec<&'a [u8]>>, AllocError>
-    ensures { IfOk result (λ words. option_map (λ ws. texts ws.items) words
+    given: &[GivenOption],
+) -> Result<Option<Vec<Text>>, AllocError>
+    ensures { IfOk result (λ words. option_map (λ ws. ws.items) words
         ≡ words_in (all_shown given.now) (shape_shown shape.now)) }
 {
     let mut words = None;
@@ -88,17 +97,17 @@ fn words_of<'a>(
 
 fn push_item(
     alloc: Global,
-    items: &mut List<(Text, List<Text>)>,
+    items: &mut Vec<(Text, List<Text>)>,
     shape: &OptionShape,
     given: &[GivenOption],
 ) -> Result<(), AllocError>
-    ensures { OnOk result (items.new ≡ items.old ++ filter_map (item_in (all_shown given.now))
-        (filter is_effective (shape_shown shape.now ∷ []))) }
+    ensures { OnOk result (items.new.items ≡ items.old.items ++ filter_map (item_in
+        (all_shown given.now)) (filter is_effective (shape_shown shape.now ∷ []))) }
 {
-    if counts(shape) {
+    if counts(shape) && is_given(shape, given) {
         if let Some(words) = words_of(alloc, shape, given)? {
-            let copy = owned(alloc, &words)?;
-            items.push((Text::from_bytes(alloc, shape.word)?, copy))?;
+            let name = Text::from_bytes(alloc, shape.word)?;
+            items.push((name, List::from_vec(words)))?;
         }
     }
     Ok(())
@@ -108,11 +117,13 @@ fn merge(alloc: Global, table: &[OptionShape], given: &[GivenOption]) -> Result<
     ensures { IfOk result (λ options. options.items
         ≡ merged_by (map shape_shown table.now) (all_shown given.now)) }
 {
-    let mut items = List::new(alloc);
+    let mut items = Vec::with_capacity(alloc, given.len())?;
     for shape in table {
         push_item(alloc, &mut items, shape, given)?;
     }
-    Ok(Options { items })
+    Ok(Options {
+        items: List::from_vec(items),
+    })
 }
 
 /// The options of a job that count, each once and with copies of its words: of the ones of a name the last that is

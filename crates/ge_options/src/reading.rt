@@ -24,7 +24,7 @@ pub struct GivenOption<'a> {
 }
 
 impl<'a> GivenOption<'a> {
-    fn count(&self) -> usize
+    pub(crate) fn count(&self) -> usize
         ensures { result ≡ length (given_shown self.now).1 }
     {
         match (self.first, self.second) {

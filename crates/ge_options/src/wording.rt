@@ -1,13 +1,13 @@
 //! The words of a line, each lent from it.
 
-ghost use Rattle.std.specs.Prelude.{◌≡◌, ◌<◌, ◌^◌, ◌++◌, map, take, drop, length, IfOk};
-ghost use Rattle.ge_model_text.specs.Words.{text_at, texts_of};
+ghost use Rattle.std.specs.Prelude.{◌≡◌, ◌<◌, ◌^◌, take, length, IfOk};
+ghost use Rattle.ge_model_text.specs.Words.{texts_of};
 ghost use Rattle.ge_model_grammar.specs.Commands.{line_words};
 ghost use Rattle.ge_options.specs.Lent.{texts, GivesAs};
 
 use ge_pieces::{ReadFault, is_a_plain_line};
 use ge_rows::{List, Text};
-use ge_text::{Span, TextFault, words};
+use ge_text::{TextFault, lent_words};
 use std::alloc::{AllocError, Global};
 
 /// Lines of this length and more aren't read. No line of a request is as long as this.
@@ -20,40 +20,12 @@ pub(crate) fn first_bytes(count: usize, text: &[u8]) -> &[u8]
     text.split_at(count.min(text.len())).0
 }
 
-fn bytes_behind(count: usize, text: &[u8]) -> &[u8]
-    ensures { result.now ≡ drop count text.now }
-{
-    text.split_at(count.min(text.len())).1
-}
-
-fn in_span(line: &[u8], span: Span) -> &[u8]
-    ensures { result.now ≡ text_at line.now span }
-{
-    first_bytes(
-        span.to.saturating_sub(span.from) as usize,
-        bytes_behind(span.from as usize, line),
-    )
-}
-
-fn words_at<'a>(alloc: Global, line: &'a [u8], spans: &[Span]) -> Result<Vec<&'a [u8]>, AllocError>
-    ensures { IfOk result (λ found. texts found.items ≡ map (text_at line.now) spans.now) }
-{
-    let mut found = Vec::with_capacity(alloc, spans.len())?;
-    for span in spans {
-        found.push(in_span(line, *span))?;
-    }
-    Ok(found)
-}
-
 fn split_line(alloc: Global, line: &[u8]) -> Result<Vec<&[u8]>, ReadFault>
     requires { length line.now < 2 ^ 32 }
     ensures { GivesAs (λ found. texts found.items) result (texts_of line.now) }
 {
-    match words(alloc, line) {
-        Ok(spans) => {
-            let found = words_at(alloc, line, spans.items())?;
-            Ok(found)
-        }
+    match lent_words(alloc, line) {
+        Ok(found) => Ok(found),
         Err(TextFault::Quote(_)) => Err(ReadFault::Syntax),
         Err(TextFault::NoMemory) => Err(ReadFault::Memory),
     }

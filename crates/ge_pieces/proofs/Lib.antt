@@ -1,3 +1,4 @@
+pub mod FirstBare
 pub mod Items
 pub mod Places
 pub mod PlainLines

@@ -121,6 +121,19 @@ pub fn behind_word(text: &[u8]) -> &[u8]
     }
 }
 
+/// What stands before and what stands behind the first blank, by one search: the whole text and nothing where there is none.
+pub fn split_word(text: &[u8]) -> (&[u8], &[u8])
+    ensures before { result.0.now ≡ before_first is_blank text.now }
+    ensures after { result.1.now ≡ after_first is_blank text.now }
+{
+    let place = blank_or_end(text);
+    if place < text.len() {
+        (text.split_at(place).0, text.split_at(place + 1).1)
+    } else {
+        (text, &[])
+    }
+}
+
 fn slices_between(alloc: Global, text: &[u8]) -> Result<Vec<&[u8]>, AllocError>
     ensures { IfOk result (λ slices. map (λ s. s.now) slices.items ≡ slice_split is_blank text.now) }
 {

@@ -7,14 +7,15 @@
 //! failure.
 //!
 //! - Cut: [`before`], [`behind`], [`has`], [`slices_at`], [`pieces`]; between blanks [`first_word`], [`behind_word`],
-//!   [`words_between`], [`trimmed_text`], [`without_first`], [`without_last`]; lists in bodies [`items_of_list`].
+//!   [`split_word`], [`words_between`], [`trimmed_text`], [`without_first`], [`without_last`]; lists in bodies
+//!   [`items_of_list`].
 //! - Digits: [`has_digits`], [`digits_worth`], [`number_up_to`].
 //! - Put together: [`append_joined`], [`join`], [`join_list`], [`or_none_text`], [`lower`].
 //! - Compared: [`is_same`], [`is_word`], [`same_key`], [`is_among`], [`is_in`], [`begins`], [`ends`].
 //! - Names: [`is_a_name`], [`is_a_job_name`], [`is_a_group_name`], [`may_stand_in_job_name`], [`has_job_name_bytes`],
 //!   [`starts_with_digit`].
-//! - Lines: [`first_line`], [`line_len`], [`bare_line`], [`bytes_from`], [`is_too_long_text`]; plain lines and the
-//!   lines of a body [`is_a_plain_line`], [`has_plain_lines`], [`lines_of_body`].
+//! - Lines: [`first_line`], [`line_len`], [`bare_line`], [`first_bare_line`], [`bytes_from`], [`is_too_long_text`]; plain
+//!   lines and the lines of a body [`is_a_plain_line`], [`has_plain_lines`], [`lines_of_body`].
 //! - Refusals: [`note`], [`earlier`], [`sooner_of`]. A reader of a grammar fails with a [`ReadFault`]; `specs/Gives`
 //!   has the forms of results that readers promise.
 #![tactic(auto)]
@@ -33,12 +34,12 @@ pub use body_lines::{has_plain_lines, is_a_plain_line, lines_of_body};
 pub use comparing::{begins, ends, is_among, is_in, is_same, is_word, same_key};
 pub use cutting::{
     before, behind, behind_word, first_word, has, is_blank_byte, items_of_list, pieces, slices_at,
-    trimmed_text, without_first, without_last, words_between,
+    split_word, trimmed_text, without_first, without_last, words_between,
 };
 pub use digits::{digits_worth, has_digits, number_up_to};
 pub use faults::{earlier, note, sooner_of};
 pub use joining::{append_joined, join, join_list, lower, or_none_text};
-pub use lines::{bare_line, bytes_from, first_line, is_too_long_text, line_len};
+pub use lines::{bare_line, bytes_from, first_bare_line, first_line, is_too_long_text, line_len};
 pub use naming::{
     has_job_name_bytes, is_a_group_name, is_a_job_name, is_a_name, may_stand_in_job_name,
     starts_with_digit,

@@ -30,6 +30,20 @@ pub fn first_line(bytes: &[u8]) -> &[u8]
     bytes.split_at(line_len(bytes)).0
 }
 
+/// The first line without its line feed, and how many bytes it takes with it, by one search.
+#[tactic(auto, using(crate::proofs::FirstBare::first_lines, crate::proofs::FirstBare::first_is_bare))]
+pub fn first_bare_line(bytes: &[u8]) -> (&[u8], usize)
+    requires { 0 < length bytes.now }
+    ensures taken { 0 < result.1 }
+    ensures within { result.1 ≤ length bytes.now }
+    ensures first { lines_of bytes.now ≡ take result.1 bytes.now
+        ∷ lines_of (drop result.1 bytes.now) }
+    ensures bare { result.0.now ≡ bare (take result.1 bytes.now) }
+{
+    let end = place_or_end(b'\n', bytes);
+    (bytes.split_at(end).0, (end + 1).min(bytes.len()))
+}
+
 /// The line's bytes without the line feed.
 pub fn bare_line(line: &[u8]) -> &[u8]
     ensures { result.now ≡ bare line.now }

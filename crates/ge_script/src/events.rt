@@ -8,7 +8,7 @@ ghost use Rattle.ge_script.specs.Shows.{says_header};
 use crate::header::{Header, read_header};
 use crate::requests::request_len;
 use crate::texts::text_of_lines;
-use ge_pieces::{bare_line, bytes_from, first_line, is_too_long_text};
+use ge_pieces::{bytes_from, first_bare_line, is_too_long_text};
 use ge_rows::{Event, Form, Text};
 use std::alloc::{AllocError, Global};
 
@@ -55,9 +55,9 @@ pub fn read_event(alloc: Global, request: &[u8]) -> Result<Event, AllocError>
     if request.is_empty() {
         return Ok(unread_event(alloc, Form::BadHeader));
     }
-    let header = first_line(request);
-    let texts = bytes_from(request, header.len());
-    event_with_header(alloc, read_header(bare_line(header)), texts)
+    let (header, taken) = first_bare_line(request);
+    let texts = bytes_from(request, taken);
+    event_with_header(alloc, read_header(header), texts)
 }
 
 /// The bytes of the first request of a script and those of the script after it, or nothing where the script is empty.

@@ -4,10 +4,10 @@ ghost use Rattle.std.specs.List.{list_all};
 ghost use Rattle.std.specs.Char.{is_ascii_digit};
 ghost use Rattle.ge_script.specs.Shows.{says_header};
 ghost use Rattle.ge_limits.specs.Limits.{moments};
-ghost use Rattle.ge_model_script.specs.Header.{is_decimal, decimal_value, moment_of, header_field, after_field, header_parts};
+ghost use Rattle.ge_model_script.specs.Header.{is_decimal, decimal_value, moment_of, header_parts};
 
 use ge_limits::MOMENTS;
-use ge_pieces::{behind_word, first_word, is_a_name};
+use ge_pieces::{is_a_name, split_word};
 
 /// The moment, the user and the group of a request.
 #[derive(Clone, Copy)]
@@ -15,14 +15,6 @@ pub(crate) struct Header<'a> {
     pub(crate) moment: u64,
     pub(crate) user: &'a [u8],
     pub(crate) group: &'a [u8],
-}
-
-/// What stands before the first blank, and what after it.
-fn split_field(text: &[u8]) -> (&[u8], &[u8])
-    ensures before { result.0.now ≡ header_field text.now }
-    ensures after { result.1.now ≡ after_field text.now }
-{
-    (first_word(text), behind_word(text))
 }
 
 fn is_digit(byte: u8) -> bool
@@ -82,8 +74,8 @@ pub(crate) fn read_header(line: &[u8]) -> Option<Header<'_>>
     if *first != b'@' {
         return None;
     }
-    let (moment_text, after) = split_field(text);
-    let (user, group) = split_field(after);
+    let (moment_text, after) = split_word(text);
+    let (user, group) = split_word(after);
     let moment = moment(moment_text)?;
     if is_a_name(user) && is_a_name(group) {
         Some(Header {

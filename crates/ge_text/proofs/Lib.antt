@@ -1,5 +1,6 @@
 pub mod AmountLemmas
 pub mod CompleteLemmas
+pub mod LentLemmas
 pub mod LineCompleteLemmas
 pub mod LineLemmas
 pub mod NumberLemmas

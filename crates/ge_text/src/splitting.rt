@@ -114,7 +114,11 @@ fn word_in_quotes(place: u32, quote: u8, rest: &[u8]) -> Result<(Option<Span>, u
 
 /// The word that begins with `first` at a place, and how many bytes of `rest` belong to it: no word where
 /// `first` is a blank.
-fn word_at(place: u32, first: u8, rest: &[u8]) -> Result<(Option<Span>, usize), TextFault>
+pub(crate) fn word_at(
+    place: u32,
+    first: u8,
+    rest: &[u8],
+) -> Result<(Option<Span>, usize), TextFault>
     requires { place + 1 + length rest.now < 2 ^ 32 }
     ensures { IsWordHere result rest.now (word_here place first rest.now) (taken_here first rest.now) }
 {
@@ -145,12 +149,15 @@ fn push_word(items: &mut Vec<Span>, found: Option<Span>) -> Result<(), TextFault
     Ok(())
 }
 
+/// Room for the words that most lines have, so that their list is asked for once.
+pub(crate) const USUAL_WORDS: usize = 8;
+
 /// Finds the words of a line.
 fn found_words(alloc: Global, line: &[u8]) -> Result<Spans, TextFault>
     requires { length line.now < 2 ^ 32 }
     ensures { SplitsInto result (words_of line.now) }
 {
-    let mut items = Vec::new(alloc);
+    let mut items = Vec::with_capacity(alloc, USUAL_WORDS)?;
     let mut place = 0;
     while place < line.len() {
         let (_, rest) = line.split_at(place + 1);

@@ -5,4 +5,4 @@ use Rattle.ge_options.specs.Shown.{shape_shown, all_shown}
 use Rattle.ge_options.proofs.merging.merge.Given as goal
 
 abbrev pub invariant-loop-shape : goal.invariant-loop-shape
-invariant-loop-shape l = l.items ++ merged_by (map shape_shown (drop l.shape-index l.table)) (all_shown l.given) ≡ merged_by (map shape_shown l.table) (all_shown l.given)
+invariant-loop-shape l = l.items.items ++ merged_by (map shape_shown (drop l.shape-index l.table)) (all_shown l.given) ≡ merged_by (map shape_shown l.table) (all_shown l.given)
