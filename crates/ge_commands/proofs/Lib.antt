@@ -1,1 +1,5 @@
+pub mod FirstLine
+pub mod NoScript
 pub mod Removal
+pub mod ShortText
+pub mod Verbs

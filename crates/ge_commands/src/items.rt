@@ -157,7 +157,7 @@ pub(crate) fn each_of<T: Drop, R: ItemReader<T>>(
 ) -> Result<List<T>, ReadFault>
     ensures { Gives result (read_each (R.read reader.now) (texts items.now)) }
 {
-    let mut list = List::new(alloc);
+    let mut list = List::from_vec(Vec::with_capacity(alloc, items.len())?);
     push_each(alloc, reader, &mut list, items)?;
     Ok(list)
 }

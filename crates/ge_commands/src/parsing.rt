@@ -2,6 +2,7 @@
 
 ghost use Rattle.std.specs.Prelude.{◌≡◌};
 ghost use Rattle.ge_model_script.specs.Lines.{lines_of, has_long_line};
+ghost use Rattle.ge_model_value.specs.Pieces.{before_byte, behind_byte};
 ghost use Rattle.ge_model_grammar.specs.Commands.{line_command, command_in, command_of};
 ghost use Rattle.ge_model_grammar.specs.Parsing.{parsed};
 ghost use Rattle.ge_pieces.specs.Gives.{Gives, IsAnswered};
@@ -16,15 +17,24 @@ use crate::targets::{HoldVerb, read_alteration, read_clearing, read_deletion, re
 use ge_base::Refusal;
 use ge_limits::LINE_BYTES;
 use ge_options::words_of_line;
-use ge_pieces::{ReadFault, bare_line, before, behind, bytes_from, first_line, is_word};
+use ge_pieces::{ReadFault, bare_line, before, bytes_from, first_line, is_word};
 use ge_rows::{Command, Text};
 use std::alloc::Global;
 
-// The commands on jobs that are one line.
+// The commands on jobs that are one line. Those that daemons send come most often, and are told first.
+#[tactic(auto, using(crate::proofs::Verbs::end_first, crate::proofs::Verbs::job_first, crate::proofs::Verbs::orders_first, crate::proofs::Verbs::load_first))]
 fn read_line_command(alloc: Global, verb: &[u8], words: &[&[u8]]) -> Result<Command, ReadFault>
     ensures { Gives result (line_command verb.now (texts words.now)) }
 {
-    if is_word(verb, b"qalter") {
+    if is_word(verb, b"end") {
+        read_end(alloc, words)
+    } else if is_word(verb, b"job") {
+        read_dispatch(words)
+    } else if is_word(verb, b"orders") {
+        read_orders(alloc, words)
+    } else if is_word(verb, b"load") {
+        read_load(alloc, words)
+    } else if is_word(verb, b"qalter") {
         read_alteration(alloc, words)
     } else if is_word(verb, b"qdel") {
         read_deletion(alloc, words)
@@ -38,14 +48,6 @@ fn read_line_command(alloc: Global, verb: &[u8], words: &[&[u8]]) -> Result<Comm
         read_showing(alloc, words)
     } else if is_word(verb, b"qacct") {
         read_accounting(alloc, words)
-    } else if is_word(verb, b"load") {
-        read_load(alloc, words)
-    } else if is_word(verb, b"end") {
-        read_end(alloc, words)
-    } else if is_word(verb, b"orders") {
-        read_orders(alloc, words)
-    } else if is_word(verb, b"job") {
-        read_dispatch(words)
     } else if is_word(verb, b"qrsub") {
         read_booking(alloc, words)
     } else if is_word(verb, b"qrdel") {
@@ -77,15 +79,27 @@ fn read_words(alloc: Global, words: &[&[u8]], text: &[u8]) -> Result<Command, Re
     }
 }
 
+// The first line without its line feed, and what stands behind it, by one search.
+#[tactic(auto, using(crate::proofs::FirstLine::behind_is))]
+fn split_line(text: &[u8]) -> (&[u8], &[u8])
+    ensures line { result.0.now ≡ before_byte 10 text.now }
+    ensures behind { result.1.now ≡ behind_byte 10 text.now }
+{
+    let line = before(b'\n', text);
+    let taken = line.len().saturating_add(1).min(text.len());
+    (line, bytes_from(text, taken))
+}
+
 #[tactic(auto, unfolding(ge_model_grammar::specs::Commands::command_of))]
 fn read_command(alloc: Global, text: &[u8]) -> Result<Command, ReadFault>
     ensures { Gives result (command_of text.now) }
 {
-    let words = words_of_line(alloc, before(b'\n', text))?;
-    read_words(alloc, &words, behind(b'\n', text))
+    let (line, behind) = split_line(text);
+    let words = words_of_line(alloc, line)?;
+    read_words(alloc, &words, behind)
 }
 
-fn has_a_long_line(text: &[u8]) -> bool
+fn holds_a_long_line(text: &[u8]) -> bool
     ensures { result ≡ has_long_line (lines_of text.now) }
 {
     let mut at = 0;
@@ -97,6 +111,17 @@ fn has_a_long_line(text: &[u8]) -> bool
         at += line.len();
     }
     false
+}
+
+// Most texts are shorter than a line may be, and aren't looked through.
+#[tactic(auto, using(crate::proofs::ShortText::no_long_line))]
+fn has_a_long_line(text: &[u8]) -> bool
+    ensures { result ≡ has_long_line (lines_of text.now) }
+{
+    if text.len() <= LINE_BYTES {
+        return false;
+    }
+    holds_a_long_line(text)
 }
 
 /// The command that a text is: its first line has the command's words, and the lines behind it are a script or a body.

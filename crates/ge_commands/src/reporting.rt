@@ -36,13 +36,25 @@ fn end_of_numbers(numbers: &[u64]) -> Result<Command, ReadFault>
     }
 }
 
-/// end: serial, exit status, cpu, mem and io.
+/// end: serial, exit status, cpu, mem and io. Five words are read without a list.
 #[tactic(auto, unfolding(ge_model_grammar::specs::Commands::end_command))]
 pub(crate) fn read_end(alloc: Global, words: &[&[u8]]) -> Result<Command, ReadFault>
     ensures { Gives result (end_command (texts words.now)) }
 {
-    let numbers = each_of(alloc, &WideNumber, words)?;
-    end_of_numbers(numbers.items())
+    match words {
+        [serial, exit, cpu, mem, io] => {
+            let serial = number_of_64_bits(serial)?;
+            let exit = number_of_64_bits(exit)?;
+            let cpu = number_of_64_bits(cpu)?;
+            let mem = number_of_64_bits(mem)?;
+            let io = number_of_64_bits(io)?;
+            Ok(Command::End(serial, exit, cpu, mem, io))
+        }
+        _ => {
+            let numbers = each_of(alloc, &WideNumber, words)?;
+            end_of_numbers(numbers.items())
+        }
+    }
 }
 
 /// orders: a host.

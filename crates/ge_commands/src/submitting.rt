@@ -85,11 +85,22 @@ fn read_lines<'a>(alloc: Global, lines: &[&'a [u8]]) -> Result<Vec<GivenOption<'
 
 // The options of a script, in the order of its lines.
 #[tactic(auto, unfolding(ge_model_grammar::specs::Commands::script_options))]
-fn read_script(alloc: Global, script: &[u8]) -> Result<Vec<GivenOption>, ReadFault>
+fn read_script_lines(alloc: Global, script: &[u8]) -> Result<Vec<GivenOption>, ReadFault>
     ensures { GivesAs (λ given. all_shown given.items) result (script_options script.now) }
 {
     let lines = slices_at(alloc, b'\n', script)?;
     read_lines(alloc, &lines)
+}
+
+// The same. Most commands have no script, and are read without a list of lines.
+#[tactic(auto, using(crate::proofs::NoScript::alone))]
+fn read_script(alloc: Global, script: &[u8]) -> Result<Vec<GivenOption>, ReadFault>
+    ensures { GivesAs (λ given. all_shown given.items) result (script_options script.now) }
+{
+    if script.is_empty() {
+        return Ok(Vec::new(alloc));
+    }
+    read_script_lines(alloc, script)
 }
 
 fn submission_with(

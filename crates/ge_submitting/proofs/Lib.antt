@@ -6,5 +6,6 @@ pub mod Noted
 pub mod Once
 pub mod Owned
 pub mod Patched
+pub mod Quoted
 pub mod Sizes
 pub mod Walked

@@ -1,6 +1,6 @@
 //! The job that a user submits, and the line that answers it (qsub).
 
-ghost use Rattle.std.specs.Prelude.{◌≡◌, ◌++◌, ◌∷◌, [], IfOk, IsTrue, Some, None, if◌then◌else◌, unwrap_or, codes, decimal};
+ghost use Rattle.std.specs.Prelude.{◌≡◌, ◌++◌, ◌∷◌, [], IfOk, OnOk, IsTrue, Some, None, if◌then◌else◌, unwrap_or, codes, decimal};
 ghost use Rattle.ge_model_tasks.specs.Ranges.{range_set};
 ghost use Rattle.ge_model_grammar.specs.Options.{has_option as option_is_there};
 ghost use Rattle.ge_model_config.specs.Requests as requests;
@@ -18,6 +18,7 @@ use ge_options::{WideRange, has_option, name_of_command, tasks_of_range};
 use ge_rows::{
     Cluster, Event, Job, List, Options, Request, Table, TaskSet, TaskSpan, Text, Twin, twins4,
 };
+use ge_wording::append_decimal;
 use std::alloc::{AllocError, Global};
 
 /// Room for the line of a submission, in bytes; that of a long name grows.
@@ -137,22 +138,22 @@ pub(crate) fn job_of_parts(
     })
 }
 
-// A text's first words, with room for those that mostly follow.
-fn begun(alloc: Global, words: &[u8]) -> Result<Text, AllocError>
-    ensures { IfOk result (λ text. text ≡ words.now) }
+// A line's first words, with room for those that mostly follow.
+fn begun(alloc: Global, words: &[u8]) -> Result<Vec<u8>, AllocError>
+    ensures { IfOk result (λ line. line.items ≡ words.now) }
 {
-    let mut text = Text::from_vec(Vec::with_capacity(alloc, LINE_ROOM)?);
-    text.append(words)?;
-    Ok(text)
+    let mut line = Vec::with_capacity(alloc, LINE_ROOM)?;
+    line.extend_from_slice(words)?;
+    Ok(line)
 }
 
-fn quoted(alloc: Global, name: &[u8]) -> Result<Text, AllocError>
-    ensures { IfOk result (λ text. text ≡ quoted_of name.now) }
+fn append_quoted(line: &mut Vec<u8>, name: &[u8]) -> Result<(), AllocError>
+    ensures { OnOk result (line.new.items ≡ line.old.items ++ quoted_of name.now) }
 {
-    let mut text = begun(alloc, b" (\"")?;
-    text.append(name)?;
-    text.append(b"\") has been submitted")?;
-    Ok(text)
+    line.extend_from_slice(b" (\"")?;
+    line.extend_from_slice(name)?;
+    line.extend_from_slice(b"\") has been submitted")?;
+    Ok(())
 }
 
 fn range_text(alloc: Global, span: &TaskSpan) -> Result<Text, AllocError>
@@ -171,11 +172,11 @@ fn array_line(alloc: Global, job: &Job) -> Result<Text, AllocError>
         ++ 46 ∷ array_range_text job.now.span ++ quoted_of job.now.name) }
 {
     let mut line = begun(alloc, b"Your job-array ")?;
-    line.append(job.number.to_string(alloc)?.as_bytes())?;
+    append_decimal(&mut line, u128::from(job.number))?;
     line.push(b'.')?;
-    line.append(range_text(alloc, &job.span)?.bytes())?;
-    line.append(quoted(alloc, job.name.bytes())?.bytes())?;
-    Ok(line)
+    line.extend_from_slice(range_text(alloc, &job.span)?.bytes())?;
+    append_quoted(&mut line, job.name.bytes())?;
+    Ok(Text::from_vec(line))
 }
 
 fn job_line(alloc: Global, job: &Job) -> Result<Text, AllocError>
@@ -183,9 +184,9 @@ fn job_line(alloc: Global, job: &Job) -> Result<Text, AllocError>
         ++ quoted_of job.now.name) }
 {
     let mut line = begun(alloc, b"Your job ")?;
-    line.append(job.number.to_string(alloc)?.as_bytes())?;
-    line.append(quoted(alloc, job.name.bytes())?.bytes())?;
-    Ok(line)
+    append_decimal(&mut line, u128::from(job.number))?;
+    append_quoted(&mut line, job.name.bytes())?;
+    Ok(Text::from_vec(line))
 }
 
 /// The line that answers a submission: `Your job N ("NAME") has been submitted`, or `Your job-array N.F-L:S ..` for an array.

@@ -1,6 +1,6 @@
 use Rattle.std.proofs.Common.{◌≡◌, ◌-◌, ◌≤◌, drop, length}
 use Rattle.ge_model_script.specs.Lines.{lines_of, has_long_line}
-use Rattle.ge_commands.proofs.parsing.has_a_long_line.Given as goal
+use Rattle.ge_commands.proofs.parsing.holds_a_long_line.Given as goal
 
 -- no line so far was long
 abbrev pub invariant-loop-at : goal.invariant-loop-at
