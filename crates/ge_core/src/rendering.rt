@@ -3,20 +3,22 @@ ghost use Rattle.std.specs.Prelude.{◌≡◌, [], ◌∷◌, ◌++◌, IfOk, On
 ghost use Rattle.ge_model_core.specs.Render.{rendered_line, rendered};
 
 use ge_rows::{Reply, Text};
+use ge_wording::append_decimal;
 use std::alloc::{AllocError, Global};
 
 /// Room for a reply of one line, in bytes; a longer one grows.
 const REPLY_ROOM: usize = 100;
 
-fn append_line(text: &mut Text, line: &Text) -> Result<(), AllocError>
-    ensures { OnOk result (text.new ≡ text.old ++ rendered_line line.now) }
+fn append_line(text: &mut Vec<u8>, line: &Text) -> Result<(), AllocError>
+    ensures { OnOk result (text.new.items ≡ text.old.items ++ rendered_line line.now) }
 {
-    text.append(line.bytes())?;
-    text.push(b'\n')
+    text.extend_from_slice(line.bytes())?;
+    text.push(b'\n')?;
+    Ok(())
 }
 
-fn append_lines(text: &mut Text, lines: &[Text]) -> Result<(), AllocError>
-    ensures { OnOk result (text.new ≡ text.old ++ flat_map rendered_line lines.now) }
+fn append_lines(text: &mut Vec<u8>, lines: &[Text]) -> Result<(), AllocError>
+    ensures { OnOk result (text.new.items ≡ text.old.items ++ flat_map rendered_line lines.now) }
 {
     for line in lines {
         append_line(text, line)?;
@@ -24,15 +26,15 @@ fn append_lines(text: &mut Text, lines: &[Text]) -> Result<(), AllocError>
     Ok(())
 }
 
-fn head(alloc: Global, code: u8, lines: usize) -> Result<Text, AllocError>
-    ensures { IfOk result (λ text. text ≡ decimal code ++ 32 ∷ [] ++ decimal lines ++ 10 ∷ []) }
+fn append_head(text: &mut Vec<u8>, code: u8, lines: usize) -> Result<(), AllocError>
+    ensures { OnOk result (text.new.items
+        ≡ text.old.items ++ decimal code ++ 32 ∷ [] ++ decimal lines ++ 10 ∷ []) }
 {
-    let mut text = Text::from_vec(Vec::with_capacity(alloc, REPLY_ROOM)?);
-    text.append(code.to_string(alloc)?.as_bytes())?;
+    append_decimal(text, u128::from(code))?;
     text.push(b' ')?;
-    text.append(lines.to_string(alloc)?.as_bytes())?;
+    append_decimal(text, lines as u128)?;
     text.push(b'\n')?;
-    Ok(text)
+    Ok(())
 }
 
 /// The reply as it is written: its code, a blank, the number of its lines and a line feed, and then each line with a line
@@ -41,7 +43,8 @@ fn head(alloc: Global, code: u8, lines: usize) -> Result<Text, AllocError>
 pub fn render(alloc: Global, reply: &Reply) -> Result<Text, AllocError>
     ensures { IfOk result (λ text. text ≡ rendered reply.now) }
 {
-    let mut text = head(alloc, reply.code, reply.lines.len())?;
+    let mut text = Vec::with_capacity(alloc, REPLY_ROOM)?;
+    append_head(&mut text, reply.code, reply.lines.len())?;
     append_lines(&mut text, reply.lines.items())?;
-    Ok(text)
+    Ok(Text::from_vec(text))
 }

@@ -4,4 +4,4 @@ use Rattle.ge_model_core.specs.Render.{rendered_line}
 use Rattle.ge_core.proofs.rendering.append_lines.Given as goal
 
 abbrev pub invariant-loop-line : goal.invariant-loop-line
-invariant-loop-line l = l.text ≡ l.fn.text ++ flat_map rendered_line (take l.line-index l.lines)
+invariant-loop-line l = l.text.items ≡ l.fn.text.items ++ flat_map rendered_line (take l.line-index l.lines)
