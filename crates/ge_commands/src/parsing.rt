@@ -1,7 +1,6 @@
 //! The command that a text is.
 
 ghost use Rattle.std.specs.Prelude.{◌≡◌};
-ghost use Rattle.ge_model_script.specs.Lines.{lines_of, has_long_line};
 ghost use Rattle.ge_model_value.specs.Pieces.{before_byte, behind_byte};
 ghost use Rattle.ge_model_grammar.specs.Commands.{line_command, command_in, command_of};
 ghost use Rattle.ge_model_grammar.specs.Parsing.{parsed};
@@ -15,9 +14,8 @@ use crate::showing::{read_accounting, read_showing, read_showing_booked};
 use crate::submitting::read_submission;
 use crate::targets::{HoldVerb, read_alteration, read_clearing, read_deletion, read_holding};
 use ge_base::Refusal;
-use ge_limits::LINE_BYTES;
 use ge_options::words_of_line;
-use ge_pieces::{ReadFault, bare_line, before, bytes_from, first_line, is_word};
+use ge_pieces::{ReadFault, before, bytes_from, has_a_long_line, is_word};
 use ge_rows::{Command, Text};
 use std::alloc::Global;
 
@@ -97,31 +95,6 @@ fn read_command(alloc: Global, text: &[u8]) -> Result<Command, ReadFault>
     let (line, behind) = split_line(text);
     let words = words_of_line(alloc, line)?;
     read_words(alloc, &words, behind)
-}
-
-fn holds_a_long_line(text: &[u8]) -> bool
-    ensures { result ≡ has_long_line (lines_of text.now) }
-{
-    let mut at = 0;
-    while at < text.len() {
-        let line = first_line(bytes_from(text, at));
-        if bare_line(line).len() > LINE_BYTES {
-            return true;
-        }
-        at += line.len();
-    }
-    false
-}
-
-// Most texts are shorter than a line may be, and aren't looked through.
-#[tactic(auto, using(crate::proofs::ShortText::no_long_line))]
-fn has_a_long_line(text: &[u8]) -> bool
-    ensures { result ≡ has_long_line (lines_of text.now) }
-{
-    if text.len() <= LINE_BYTES {
-        return false;
-    }
-    holds_a_long_line(text)
 }
 
 /// The command that a text is: its first line has the command's words, and the lines behind it are a script or a body.

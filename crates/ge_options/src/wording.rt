@@ -7,7 +7,7 @@ ghost use Rattle.ge_options.specs.Lent.{texts, GivesAs};
 
 use ge_pieces::{ReadFault, is_a_plain_line};
 use ge_rows::{List, Text};
-use ge_text::{TextFault, lent_words};
+use ge_text::{TextFault, words};
 use std::alloc::{AllocError, Global};
 
 /// Lines of this length and more aren't read. No line of a request is as long as this.
@@ -24,7 +24,7 @@ fn split_line(alloc: Global, line: &[u8]) -> Result<Vec<&[u8]>, ReadFault>
     requires { length line.now < 2 ^ 32 }
     ensures { GivesAs (λ found. texts found.items) result (texts_of line.now) }
 {
-    match lent_words(alloc, line) {
+    match words(alloc, line) {
         Ok(found) => Ok(found),
         Err(TextFault::Quote(_)) => Err(ReadFault::Syntax),
         Err(TextFault::NoMemory) => Err(ReadFault::Memory),

@@ -1,5 +1,7 @@
 -- Urgencies of jobs that are alike, and candidates by the numbers that their priorities stand on.
-use Rattle.std.specs.Prelude.{◌≡◌, ℕ, max, List, [], ◌∷◌, ◌++◌, Option, Some}
+use Rattle.std.specs.Prelude.{◌≡◌, ℕ, max, List, [], ◌∷◌, ◌++◌, Option, Some, Result, IfOk}
+use Rattle.std.specs.declared.alloc.AllocError.{AllocError}
+use Rattle.ge_collections.specs.Keyed.{at_number}
 use Rattle.ge_collections.specs.declared.short_row.ShortRow.{ShortRow}
 use Rattle.ge_model_order.specs.Amounts.{cut_at_64, least, greatest}
 use Rattle.ge_model_order.specs.Priority.{priority_part, urgency_part, tickets_part, prio_with}
@@ -8,8 +10,9 @@ use Rattle.ge_model_rows.specs.ScheduleRows.{Prio}
 use Rattle.ge_model_rows.specs.SettingRows.{Sched}
 use Rattle.ge_rows.specs.declared.labels.JobFacts.{JobFacts}
 use Rattle.ge_order.specs.Alike.{candidate_by, gathered_in, urged_in}
-use Rattle.ge_order.specs.Kinds.{kind_in, asked_of, AreAsked, urgency_by}
-use Rattle.ge_order.specs.Standings.{lesser, urgencies_of}
+use Rattle.ge_order.specs.Kinds.{kind_in, asked_of, AreAsked, TellJobs, urgency_by}
+use Rattle.ge_order.specs.Standings.{lesser, urgencies_of, AreUnits}
+use Rattle.ge_order.specs.declared.asked.Units.{Units}
 use Rattle.ge_order.specs.declared.gathering.Candidate.{Candidate}
 use Rattle.ge_order.specs.declared.gathering.Gathering.{Gathering}
 use Rattle.ge_order.specs.declared.priority.Scale.{Scale}
@@ -48,6 +51,13 @@ pub record Takes (before after : Gathering) (number : ℕ) (row : ShortRow JobFa
   pub list : gathered_in after.lots.items after.last ≡ gathered_in before.lots.items before.last ++ candidate_of number row urgency ∷ []
   pub bounds : IsWithin before.bounds (urged_in before.last) → after.bounds ≡ bounds_with before.bounds urgency (cut_at_64 row.facts.oticket)
   pub within : IsWithin before.bounds (urged_in before.last) → IsWithin after.bounds (urged_in after.last)
+
+-- one more candidate is gathered; where short rows tell of the jobs, and what is kept of those that are alike is so, it has the
+-- urgency of its job, and what is kept then is so too
+pub record Gathers (c : Cluster) (units : Units) (now : ℕ) (before after : Gathering) (number : ℕ) (row : ShortRow JobFacts) (result : Result ℕ AllocError) : Type 0 where
+  pub taken : IfOk result (Takes before after number row)
+  pub told : (rows : List (ℕ × ShortRow JobFacts)) → AreUnits c units → at_number rows number ≡ Some row → TellJobs c rows → Knows c rows now before.kinds (urged_in before.last)
+      → IfOk result (λ urgency. (urgency ≡ urgency_by c (asked_of c number) row.facts.submitted row.facts.deadline now) × Knows c rows now after.kinds (urged_in after.last))
 
 -- what is known of a candidate
 abbrev pub standing : Candidate → Standing

@@ -1,13 +1,9 @@
 // What short rows tell of all candidates, in one walk.
-ghost use Rattle.std.specs.Prelude.{◌≡◌, ℕ, List as Items, Some, IfOk, OnOk, map};
-ghost use Rattle.ge_collections.specs.Keyed.{at_number};
-ghost use Rattle.ge_collections.specs.declared.short_row.ShortRow.{ShortRow as Short};
-ghost use Rattle.ge_rows.specs.declared.labels.JobFacts.{JobFacts as Facts};
+ghost use Rattle.std.specs.Prelude.{◌≡◌, IfOk, map};
 ghost use Rattle.ge_tickets.specs.Own.{told_tickets};
-ghost use Rattle.ge_order.specs.Alike.{candidates_in, urged_in};
-ghost use Rattle.ge_order.specs.Kinds.{asked_of, TellJobs, told_standing, urgency_by as urgency_of};
-ghost use Rattle.ge_order.specs.Repeated.{standing, IsScale, Knows, Takes};
-ghost use Rattle.ge_order.specs.Standings.{AreUnits};
+ghost use Rattle.ge_order.specs.Alike.{candidates_in};
+ghost use Rattle.ge_order.specs.Kinds.{TellJobs, told_standing};
+ghost use Rattle.ge_order.specs.Repeated.{standing, Gathers, IsScale};
 ghost use Rattle.ge_order.specs.Told.{chosen};
 
 use crate::alike::{Alike, Open, close, join_last};
@@ -62,16 +58,7 @@ fn begin(
     row: &ShortRow<JobFacts>,
     now: u64,
 ) -> Result<u128, AllocError>
-    ensures taken { IfOk result (Takes gathering.old gathering.new number row.now) }
-    ensures urgency { (rows : Items (ℕ × Short Facts)) → AreUnits c.now units.entry
-        → at_number rows number ≡ Some row.now → TellJobs c.now rows
-        → Knows c.now rows now gathering.old.kinds (urged_in gathering.old.last)
-        → IfOk result (λ urgency. urgency ≡ urgency_of c.now (asked_of c.now number)
-        row.now.facts.submitted row.now.facts.deadline now) }
-    ensures known { (rows : Items (ℕ × Short Facts)) → AreUnits c.now units.entry
-        → at_number rows number ≡ Some row.now → TellJobs c.now rows
-        → Knows c.now rows now gathering.old.kinds (urged_in gathering.old.last)
-        → OnOk result (Knows c.now rows now gathering.new.kinds (urged_in gathering.new.last)) }
+    ensures { Gathers c.now units.entry now gathering.old gathering.new number row.now result }
 {
     let asked = row_urgency(c, units, &mut gathering.kinds, number, row);
     let urgency = urgency_by(c, asked, row.facts.submitted, row.facts.deadline, now);
@@ -97,16 +84,7 @@ fn take(
     row: &ShortRow<JobFacts>,
     now: u64,
 ) -> Result<u128, AllocError>
-    ensures taken { IfOk result (Takes gathering.old gathering.new number row.now) }
-    ensures urgency { (rows : Items (ℕ × Short Facts)) → AreUnits c.now units.entry
-        → at_number rows number ≡ Some row.now → TellJobs c.now rows
-        → Knows c.now rows now gathering.old.kinds (urged_in gathering.old.last)
-        → IfOk result (λ urgency. urgency ≡ urgency_of c.now (asked_of c.now number)
-        row.now.facts.submitted row.now.facts.deadline now) }
-    ensures known { (rows : Items (ℕ × Short Facts)) → AreUnits c.now units.entry
-        → at_number rows number ≡ Some row.now → TellJobs c.now rows
-        → Knows c.now rows now gathering.old.kinds (urged_in gathering.old.last)
-        → OnOk result (Knows c.now rows now gathering.new.kinds (urged_in gathering.new.last)) }
+    ensures { Gathers c.now units.entry now gathering.old gathering.new number row.now result }
 {
     if let Some(urgency) = join_last(&mut gathering.last, number, row)? {
         return Ok(urgency);

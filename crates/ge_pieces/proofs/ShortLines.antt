@@ -4,8 +4,8 @@ use Rattle.std.specs.Prelude.{nat_lt}
 use Rattle.std.specs.List.{AllByRecursion, onto_first, position_or_len}
 use Rattle.std.proofs.lemmas.List.{length-take}
 use Rattle.std.proofs.lemmas.Bool.{le-ltb}
-use Rattle.ge_limits.specs.Limits.{line_bytes, text_bytes}
-use Rattle.ge_model_script.specs.Lines.{is_line_feed, put_byte, lines_of, bare, has_long_line, is_too_long}
+use Rattle.ge_limits.specs.Limits.{line_bytes}
+use Rattle.ge_model_script.specs.Lines.{is_line_feed, put_byte, lines_of, bare, has_long_line}
 
 -- lines of at most so many bytes
 abbrev AreWithin : ℕ → List (List ℕ) → Type 0
@@ -41,5 +41,5 @@ none_long n (line ∷ lines) few all =
     let short : length (bare line) ≤ line_bytes = let within = bare_within n line all.0 in omega (arith, within, few) in
     (λ i. le-ltb line_bytes (length (bare line)) short i || none_long n lines few all.1 i)
 
-pub is_short : (bytes : List ℕ) → length bytes ≤ line_bytes → is_too_long bytes ≡ false
-is_short bytes few = (λ i. le-ltb text_bytes (length bytes) (omega (arith, few)) i || none_long (length bytes) (lines_of bytes) few (all_within bytes) i)
+pub no_long_line : (bytes : List ℕ) → length bytes ≤ line_bytes → has_long_line (lines_of bytes) ≡ false
+no_long_line bytes few = none_long (length bytes) (lines_of bytes) few (all_within bytes)

@@ -14,8 +14,9 @@
 //! - Compared: [`is_same`], [`is_word`], [`same_key`], [`is_among`], [`is_in`], [`begins`], [`ends`].
 //! - Names: [`is_a_name`], [`is_a_job_name`], [`is_a_group_name`], [`may_stand_in_job_name`], [`has_job_name_bytes`],
 //!   [`starts_with_digit`].
-//! - Lines: [`first_line`], [`line_len`], [`bare_line`], [`first_bare_line`], [`bytes_from`], [`is_too_long_text`]; plain
-//!   lines and the lines of a body [`is_a_plain_line`], [`has_plain_lines`], [`lines_of_body`].
+//! - Lines: [`first_line`], [`line_len`], [`bare_line`], [`first_bare_line`], [`bytes_from`], [`has_a_long_line`],
+//!   [`is_too_long_text`]; plain lines and the lines of a body [`is_a_plain_line`], [`has_plain_lines`],
+//!   [`lines_of_body`].
 //! - Refusals: [`note`], [`earlier`], [`sooner_of`]. A reader of a grammar fails with a [`ReadFault`]; `specs/Gives`
 //!   has the forms of results that readers promise.
 #![tactic(auto)]
@@ -39,7 +40,9 @@ pub use cutting::{
 pub use digits::{digits_worth, has_digits, number_up_to};
 pub use faults::{earlier, note, sooner_of};
 pub use joining::{append_joined, join, join_list, lower, or_none_text};
-pub use lines::{bare_line, bytes_from, first_bare_line, first_line, is_too_long_text, line_len};
+pub use lines::{
+    bare_line, bytes_from, first_bare_line, first_line, has_a_long_line, is_too_long_text, line_len,
+};
 pub use naming::{
     has_job_name_bytes, is_a_group_name, is_a_job_name, is_a_name, may_stand_in_job_name,
     starts_with_digit,

@@ -80,14 +80,21 @@ fn holds_long_line(text: &[u8]) -> bool
     false
 }
 
-/// Whether a text, or one of its lines, has more bytes than a request may have. Most texts are shorter than a line may be, and
-/// aren't looked through.
-#[tactic(auto, using(crate::proofs::ShortLines::is_short))]
-pub fn is_too_long_text(text: &[u8]) -> bool
-    ensures { result ≡ is_too_long text.now }
+/// Whether one of a text's lines has more bytes than a line may have. Most texts are shorter than a line may be, and aren't
+/// looked through.
+#[tactic(auto, using(crate::proofs::ShortLines::no_long_line))]
+pub fn has_a_long_line(text: &[u8]) -> bool
+    ensures { result ≡ has_long_line (lines_of text.now) }
 {
     if text.len() <= LINE_BYTES {
         return false;
     }
-    text.len() > TEXT_BYTES || holds_long_line(text)
+    holds_long_line(text)
+}
+
+/// Whether a text, or one of its lines, has more bytes than a request may have.
+pub fn is_too_long_text(text: &[u8]) -> bool
+    ensures { result ≡ is_too_long text.now }
+{
+    text.len() > TEXT_BYTES || has_a_long_line(text)
 }

@@ -1,5 +1,5 @@
 // A script that is read in pieces.
-ghost use Rattle.std.specs.Prelude.{◌≡◌, ◌+◌, ◌-◌, ◌<◌, ◌≤◌, ◌++◌, ◌∷◌, [], ℕ, List, length, take, drop, true, false, vec_len, cond, Option, option_map, IfOk, IfSome, MatchOption, OnOk, IsErrOf};
+ghost use Rattle.std.specs.Prelude.{◌≡◌, ◌+◌, ◌-◌, ◌<◌, ◌≤◌, ◌++◌, ◌∷◌, [], ℕ, List, length, take, drop, true, false, vec_len, cond, Option, option_map, Some, ⊤, IfOk, IfSome, MatchOption, OnOk, IsErrOf};
 ghost use Rattle.ge_limits.specs.Limits.{script_bytes, text_bytes};
 ghost use Rattle.ge_outside.specs.Faults.{Rose};
 ghost use Rattle.ge_model_script.specs.Lines.{requests_of};
@@ -183,6 +183,38 @@ impl Script {
         Ok(())
     }
 
+    /// The next event of the script, where all of its request is held, without a look at the source; or none. Nothing is given
+    /// where memory runs out.
+    pub fn next_held(&mut self) -> Result<Option<Event>, AllocError>
+        requires within { self.old.start ≤ vec_len self.old.bytes }
+        requires passed { HasPassed self.old.passed (held self.old) }
+        requires below { read_count self.old < script_bytes }
+        ensures next { IfOk result (λ next. MatchOption next (held self.new ≡ held self.old)
+            (λ event. (rest : Option (List ℕ)) → IsOver self.old rest
+            → GivesNext (coming self.old rest) (coming self.new rest) (Some event))) }
+        ensures over { (rest : Option (List ℕ)) → IsOver self.old rest → IsOver self.new rest }
+        ensures count { read_count self.new ≡ read_count self.old }
+        ensures given { given_count self.old ≤ given_count self.new }
+        ensures goes_on { IfOk result (λ next. MatchOption next ⊤
+            (λ event. given_count self.old < given_count self.new)) }
+        ensures ended { self.new.ended ≡ self.old.ended }
+        ensures all { IfOk result (λ next. MatchOption next
+            (self.new.ended ≡ true → held self.new ≡ []) (λ event. ⊤)) }
+        ensures looked { IfOk result (λ next. MatchOption next
+            (self.new.ended ≡ false → length (held self.new) ≤ self.new.passed + 2) (λ event. ⊤)) }
+    {
+        let bytes = bytes_from(self.bytes.as_slice(), self.start);
+        let Some(size) = whole_len(bytes, &mut self.passed, self.ended) else {
+            return Ok(None);
+        };
+        let (request, _) = bytes.split_at(size);
+        let event = read_event(self.alloc, request)?;
+        self.start += size;
+        self.given += size;
+        self.passed = 0;
+        Ok(Some(event))
+    }
+
     /// The next event of the script, or none where the input has ended and all were given. An event is given once the next
     /// header or the end was read. `Read` comes only where a read failed, and `Long` exactly where [`SCRIPT_BYTES`] bytes
     /// were read and the end was not.
@@ -203,13 +235,7 @@ impl Script {
             → Rose (S.read_faults s.old) (S.read_faults s.new) }
     {
         'reading: loop {
-            let bytes = bytes_from(self.bytes.as_slice(), self.start);
-            if let Some(size) = whole_len(bytes, &mut self.passed, self.ended) {
-                let (request, _) = bytes.split_at(size);
-                let event = read_event(self.alloc, request)?;
-                self.start += size;
-                self.given += size;
-                self.passed = 0;
+            if let Some(event) = self.next_held()? {
                 return Ok(Some(event));
             }
             if self.ended {

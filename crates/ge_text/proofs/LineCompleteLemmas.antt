@@ -1,15 +1,14 @@
 -- The words of a line are found.
-use Rattle.std.proofs.Common.{◌≡◌, ℕ, ◌+◌, ◌<◌, ◌≤◌, ◌==◌, Bool, true, false, cond, nat_lt, List, [], ◌∷◌, length, get_or, drop, refl, ap, sym, subst, ◌∙◌, arith, Option, Some, None, Result, Ok, Err, ◌⊎◌, inl, inr, unwrap_or}
+use Rattle.std.proofs.Common.{◌≡◌, ℕ, ◌+◌, ◌<◌, ◌≤◌, ◌==◌, Bool, true, false, cond, nat_lt, List, [], ◌∷◌, length, get_or, drop, refl, ap, sym, subst, ◌∙◌, arith, Option, Some, None, Result, Ok, Err, ◌⊎◌, inl, inr, unwrap_or, map}
 use Rattle.std.specs.List.{position, position_or_len}
 use Rattle.std.proofs.lemmas.Bool.{cond-true, cond-false, lt-ltb, le-ltb, ne_eqb, eq-eqb, cases_lt}
 use Rattle.std.proofs.lemmas.List.Sums.{position_or_len_is}
 use Rattle.ge_model_text.specs.declared.Span.{Span}
-use Rattle.ge_model_text.specs.Words.{is_blank, is_quote, ends_word, before_blank, word_here, taken_here, joined, words_from, words_of}
+use Rattle.ge_model_text.specs.Words.{is_blank, is_quote, ends_word, before_blank, word_here, taken_here, joined, words_from, words_of, text_at}
 use Rattle.ge_model_text.specs.Line.{Encloses, GoesOn, HasWords, NoMore, Blank, Plain, Quoted, HasOpenQuote, Here, BehindBlank, BehindPlain, BehindQuoted}
-use Rattle.ge_text.specs.Splitting.{SplitsInto}
-use Rattle.ge_text.specs.declared.splitting.TextFault.{TextFault}
+use Rattle.ge_text.specs.Lending.{texts_at, SplitsInto}
 use Rattle.ge_text.proofs.WordsLemmas.{words_from-turn}
-use Rattle.ge_text.proofs.LineLemmas.{at_drop, from_place, word_quoted, taken_quoted, encloses_at}
+use Rattle.ge_text.proofs.LineLemmas.{Answer, at_drop, from_place, word_quoted, taken_quoted, encloses_at}
 
 -- the first place that passes a test
 first_place : (test : ℕ → Bool) (xs : List ℕ) (k : ℕ) → k < length xs → ((j : ℕ) → j < k → test (get_or xs j 0) ≡ false) → test (get_or xs k 0) ≡ true → position test xs ≡ Some k
@@ -115,8 +114,9 @@ found_open place bytes there (BehindQuoted p b more size rest at quote encloses 
     behind_quoted p b more size rest quote encloses
     ∙ ap (λ r. joined (Ok (record { from = p + 1; to = p + 1 + size } ∷ [])) r) (found_open (p + 1 + (size + 1)) rest at opened)
 
-pub splits_found : (answer : Result (List Span) TextFault) (line : List ℕ) (spans : List Span) → SplitsInto answer (words_of line) → HasWords 0 line spans → SplitsInto answer (Ok spans)
-splits_found answer line spans is words = subst (λ (r : Result (List Span) ℕ). SplitsInto answer r) (found 0 line spans words) is
+pub splits_found : (answer : Answer) (line : List ℕ) (spans : List Span) → SplitsInto answer (texts_at line (words_of line)) → HasWords 0 line spans
+    → SplitsInto answer (Ok (map (text_at line) spans))
+splits_found answer line spans splits words = subst (λ (r : Result (List Span) ℕ). SplitsInto answer (texts_at line r)) (found 0 line spans words) splits
 
-pub splits_open : (answer : Result (List Span) TextFault) (line : List ℕ) (place : ℕ) → SplitsInto answer (words_of line) → HasOpenQuote 0 line place → SplitsInto answer (Err place)
-splits_open answer line place is opened = subst (λ (r : Result (List Span) ℕ). SplitsInto answer r) (found_open 0 line place opened) is
+pub splits_open : (answer : Answer) (line : List ℕ) (place : ℕ) → SplitsInto answer (texts_at line (words_of line)) → HasOpenQuote 0 line place → SplitsInto answer (Err place)
+splits_open answer line place splits opened = subst (λ (r : Result (List Span) ℕ). SplitsInto answer (texts_at line r)) (found_open 0 line place opened) splits

@@ -1,15 +1,17 @@
 -- The words that are found are the words of the line.
-use Rattle.std.proofs.Common.{◌≡◌, ℕ, suc, zero, ◌+◌, ◌<◌, ◌≤◌, ◌==◌, Bool, true, false, cond, not, ◌||◌, nat_lt, List, [], ◌∷◌, ◌++◌, length, get_or, drop, refl, ap, sym, subst, ◌∙◌, arith, add-one, drop-cons, length-drop, Option, Some, None, Result, Ok, Err, ◌⊎◌, inl, inr, IfOk, unwrap_or}
+use Rattle.std.proofs.Common.{◌≡◌, ℕ, suc, zero, ◌+◌, ◌<◌, ◌≤◌, ◌==◌, Bool, true, false, cond, not, ◌||◌, nat_lt, List, [], ◌∷◌, ◌++◌, length, get_or, drop, refl, ap, sym, subst, ◌∙◌, arith, add-one, drop-cons, length-drop, Option, Some, None, Result, Ok, Err, ◌⊎◌, inl, inr, IfOk, unwrap_or, map, Vec}
 use Rattle.std.specs.List.{position, position_or_len}
 use Rattle.std.proofs.lemmas.Bool.{cond-true, cond-false, eqb-true, eq-eqb, ltb-false, both_ways, cases_order}
 use Rattle.std.proofs.lemmas.List.Quantifiers.{position-Some}
 use Rattle.std.proofs.Math.ListN.{drop_of_length-le}
 use Rattle.ge_model_text.specs.declared.Span.{Span}
-use Rattle.ge_model_text.specs.Words.{is_blank, is_quote, ends_word, before_blank, quoted_word, quoted_taken, word_here, taken_here, joined, words_from, words_of}
+use Rattle.ge_model_text.specs.Words.{is_blank, is_quote, ends_word, before_blank, quoted_word, quoted_taken, word_here, taken_here, joined, words_from, words_of, text_at, texts_of}
 use Rattle.ge_model_text.specs.Line.{Encloses, GoesOn, HasWords, NoMore, Blank, Plain, Quoted, HasOpenQuote, Here, BehindBlank, BehindPlain, BehindQuoted}
-use Rattle.ge_text.specs.Splitting.{SplitsInto}
+use Rattle.std.specs.declared.alloc.Global.{Global}
+use Rattle.std.specs.Borrow.{Bor}
+use Rattle.ge_text.specs.Lending.{lent_texts, texts_at, SplitsInto, Lends, AreItsWords}
 use Rattle.ge_text.specs.declared.splitting.TextFault.{TextFault}
-use Rattle.ge_text.specs.declared.splitting.TextFault.TheVariants.{Quote}
+use Rattle.ge_text.specs.declared.splitting.TextFault.TheVariants.{Quote, NoMemory}
 use Rattle.ge_text.proofs.WordsLemmas.{words_from-turn}
 
 -- where a test passes nowhere
@@ -197,10 +199,44 @@ words_are line spans is = subst (λ (r : Result (List Span) ℕ). Says 0 line r)
 pub quote_is_open : (line : List ℕ) (place : ℕ) → words_of line ≡ Err place → HasOpenQuote 0 line place
 quote_is_open line place is = subst (λ (r : Result (List Span) ℕ). Says 0 line r) is (words_of_says line)
 
-pub splits_spans : (answer : Result (List Span) TextFault) (line : List ℕ) → SplitsInto answer (words_of line) → IfOk answer (λ spans. HasWords 0 line spans)
-splits_spans (Ok spans) line is = words_are line spans is
-splits_spans (Err fault) line is = tt
+-- what lending the words of a line answers
+abbrev pub Answer : Type 0
+Answer = Result (Vec (Bor (List ℕ)) Global) TextFault
 
-pub splits_quote : (answer : Result (List Span) TextFault) (line : List ℕ) (place : ℕ) → SplitsInto answer (words_of line) → answer ≡ Err (Quote place) → HasOpenQuote 0 line place
-splits_quote answer line place is quote =
-    quote_is_open line place (subst (λ (r : Result (List Span) TextFault). SplitsInto r (words_of line)) quote is)
+-- the texts at spans, if there are any
+abbrev told : List ℕ → Result (List Span) ℕ → Option (List (List ℕ))
+told line found = elim found [ Ok spans ↦ Some (map (text_at line) spans) | Err place ↦ None ]
+
+texts_by : (answer : Answer) (line : List ℕ) (found : Result (List Span) ℕ) → words_of line ≡ found → SplitsInto answer (texts_at line found) → Lends answer (texts_of line)
+texts_by (Ok words) line (Ok spans) is splits =
+    let both : Ok (map (text_at line) spans) ≡ Ok (lent_texts words.items) = splits in
+    let same : map (text_at line) spans ≡ lent_texts words.items = cc in
+    ap (told line) is ∙ ap Some same
+texts_by (Ok words) line (Err place) is splits = let both : Err place ≡ Ok (lent_texts words.items) = splits in absurd (cc)
+texts_by (Err (Quote place)) line (Ok spans) is splits = let both : Ok (map (text_at line) spans) ≡ Err place = splits in absurd (cc)
+texts_by (Err (Quote place)) line (Err there) is splits = ap (told line) is
+texts_by (Err NoMemory) line found is splits = tt
+
+pub splits_texts : (answer : Answer) (line : List ℕ) → SplitsInto answer (texts_at line (words_of line)) → Lends answer (texts_of line)
+splits_texts answer line splits = texts_by answer line (words_of line) refl splits
+
+spans_by : (line : List ℕ) (texts : List (List ℕ)) (found : Result (List Span) ℕ) → words_of line ≡ found → texts_at line found ≡ Ok texts → AreItsWords line texts
+spans_by line texts (Ok spans) is same =
+    let both : Ok (map (text_at line) spans) ≡ Ok texts = same in
+    record { spans = spans; words = words_are line spans is; same = cc }
+spans_by line texts (Err place) is same = let both : Err place ≡ Ok texts = same in absurd (cc)
+
+pub splits_spans : (answer : Answer) (line : List ℕ) → SplitsInto answer (texts_at line (words_of line)) → IfOk answer (λ words. AreItsWords line (lent_texts words.items))
+splits_spans (Ok words) line splits = spans_by line (lent_texts words.items) (words_of line) refl splits
+splits_spans (Err fault) line splits = tt
+
+quote_by : (line : List ℕ) (place : ℕ) (found : Result (List Span) ℕ) → words_of line ≡ found → texts_at line found ≡ Err place → HasOpenQuote 0 line place
+quote_by line place (Ok spans) is same = let both : Ok (map (text_at line) spans) ≡ Err place = same in absurd (cc)
+quote_by line place (Err there) is same =
+    let both : Err there ≡ Err place = same in
+    let here : there ≡ place = cc in
+    quote_is_open line place (is ∙ ap (λ n. Err n) here)
+
+pub splits_quote : (answer : Answer) (line : List ℕ) (place : ℕ) → SplitsInto answer (texts_at line (words_of line)) → answer ≡ Err (Quote place) → HasOpenQuote 0 line place
+splits_quote answer line place splits quote =
+    quote_by line place (words_of line) refl (subst (λ (r : Answer). SplitsInto r (texts_at line (words_of line))) quote splits)

@@ -1,13 +1,18 @@
 //! The words of a line, each lent from it.
 
-ghost use Rattle.std.specs.Prelude.{◌≡◌, ◌<◌, ◌^◌, ◌++◌, length, map, take, drop, IfErr, OnOk};
+ghost use Rattle.std.specs.Prelude.{◌≡◌, ℕ, List, ◌<◌, ◌^◌, ◌++◌, length, map, take, drop, Ok, Err, IfOk, IfErr, OnOk};
 ghost use Rattle.std.specs.Option.{option_to_list};
-ghost use Rattle.ge_model_text.specs.Words.{text_at, texts_of};
-ghost use Rattle.ge_text.specs.Lending.{lent_texts, Lends};
+ghost use Rattle.ge_model_text.specs.declared.Span.{Span};
+ghost use Rattle.ge_model_text.specs.Words.{text_at, texts_of, words_of};
+ghost use Rattle.ge_model_text.specs.Line.{HasWords, HasOpenQuote};
+ghost use Rattle.ge_text.specs.Lending.{lent_texts, texts_at, SplitsInto, Lends, AreItsWords};
 
-use crate::splitting::{TextFault, USUAL_WORDS, word_at};
+use crate::splitting::{TextFault, word_at};
 use ge_model_text::Span;
 use std::alloc::Global;
+
+/// Room for the words that most lines have, so that their list is asked for once.
+const USUAL_WORDS: usize = 8;
 
 fn first_bytes(count: usize, text: &[u8]) -> &[u8]
     ensures { result.now ≡ take count text.now }
@@ -46,10 +51,10 @@ fn push_lent<'a>(
     Ok(())
 }
 
-/// The words of a line in their order, as parts of it; a fault where [`words`](crate::words) tells one.
-pub fn lent_words<'a>(alloc: Global, line: &'a [u8]) -> Result<Vec<&'a [u8]>, TextFault>
+/// Lends the words of a line.
+fn lent_words<'a>(alloc: Global, line: &'a [u8]) -> Result<Vec<&'a [u8]>, TextFault>
     requires { length line.now < 2 ^ 32 }
-    ensures { Lends result (texts_of line.now) }
+    ensures { SplitsInto result (texts_at line.now (words_of line.now)) }
 {
     let mut words = Vec::with_capacity(alloc, USUAL_WORDS)?;
     let mut place = 0;
@@ -60,4 +65,26 @@ pub fn lent_words<'a>(alloc: Global, line: &'a [u8]) -> Result<Vec<&'a [u8]>, Te
         place += 1 + taken;
     }
     Ok(words)
+}
+
+/// The words of a line in their order, as parts of it, or the first quote that begins a word and isn't
+/// closed, with the quotes of a command line (qsub, the command line) and no escapes.
+///
+/// They are those that `words_of` computes (`computed`). The other clauses say by the cases of a line alone
+/// what these are: which texts and which quote are answered, and that each line's words or open quote are.
+/// Only [`TextFault::NoMemory`] is left open.
+#[tactic(auto, using(crate::proofs::LineLemmas::splits_texts, crate::proofs::LineLemmas::splits_spans, crate::proofs::LineLemmas::splits_quote, crate::proofs::LineCompleteLemmas::splits_found, crate::proofs::LineCompleteLemmas::splits_open))]
+pub fn words<'a>(alloc: Global, line: &'a [u8]) -> Result<Vec<&'a [u8]>, TextFault>
+    requires { length line.now < 2 ^ 32 }
+    ensures computed { SplitsInto result (texts_at line.now (words_of line.now)) }
+    ensures texts { Lends result (texts_of line.now) }
+    ensures spans { IfOk result (λ words. AreItsWords line.now (lent_texts words.items)) }
+    ensures quote { (place : ℕ) → result ≡ Err (TextFault.Quote place)
+        → HasOpenQuote 0 line.now place }
+    ensures all_spans { (spans : List Span) → HasWords 0 line.now spans
+        → SplitsInto result (Ok (map (text_at line.now) spans)) }
+    ensures each_quote { (place : ℕ) → HasOpenQuote 0 line.now place
+        → SplitsInto result (Err place) }
+{
+    lent_words(alloc, line)
 }

@@ -2,10 +2,10 @@
 //! text is worth.
 //!
 //! Commands, bodies and spooled lines all come as bytes, and everything above reads them by these calls.
-//! What each gives is defined in `ge_model_text`, in the grammar's own words. Only [`words`] and
-//! [`lent_words`] take memory, for their lists: a pattern is tried in place, and an amount is read byte by byte.
+//! What each gives is defined in `ge_model_text`, in the grammar's own words. Only [`words`] takes memory,
+//! for its list: a pattern is tried in place, and an amount is read byte by byte.
 //!
-//! - [`words`], [`Spans`], [`Span`], [`TextFault`]: the words of a line; [`lent_words`]: lent from it.
+//! - [`words`], [`TextFault`]: the words of a line, lent from it.
 //! - [`matches`]: whether a pattern stands for a name.
 //! - [`read_int`], [`read_time`], [`read_memory`], [`read_fixed`], [`ValueFault`]: amounts below 2^48.
 //! - [`amount`], [`Form`]: the same of a text of any length, without telling why it has none.
@@ -15,12 +15,10 @@ mod amounts;
 mod lending;
 mod patterns;
 mod progress;
-mod spans;
 mod splitting;
 
 pub use amounts::{amount, read_fixed, read_int, read_memory, read_time};
-pub use ge_model_text::{Form, Span, ValueFault};
-pub use lending::lent_words;
+pub use ge_model_text::{Form, ValueFault};
+pub use lending::words;
 pub use patterns::matches;
-pub use spans::Spans;
-pub use splitting::{TextFault, words};
+pub use splitting::TextFault;

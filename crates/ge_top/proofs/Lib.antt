@@ -1,4 +1,5 @@
 pub mod Told
+pub mod Held
 pub mod Traces
 pub mod SoFar
 pub mod Written

@@ -16,7 +16,7 @@ use Rattle.ge_spool.specs.Opening.{Tells}
 use Rattle.ge_master.specs.Areas.{Areas}
 use Rattle.ge_top.proofs.Fitting.{nothing-fits}
 use Rattle.ge_top.proofs.Told.{no_some, same_some, on-some}
-use Rattle.ge_top.proofs.Traces.{Gains-nothing}
+use Rattle.ge_top.proofs.Held.{Gains-nothing}
 
 -- the areas of a view
 abbrev pub areas_in : View → Areas

@@ -16,7 +16,7 @@ use Rattle.ge_model_replay.specs.Runs.{written_of, EachStandsFor, EachStandsForO
 use Rattle.ge_model_replay.specs.Keeping.{Ledger, FitsBatch, IsNextLedger, BatchesFit}
 use Rattle.ge_master.proofs.Staged.{onto-onto, onto-end}
 use Rattle.ge_top.proofs.Fitting.{nothing-fits, last-fits, full-fits}
-use Rattle.ge_top.proofs.Traces.{Gains-nothing}
+use Rattle.ge_top.proofs.Held.{Gains-nothing}
 use Rattle.ge_top.proofs.TracedBatches.{traced-batch, traced-alone}
 
 -- one batch more than some

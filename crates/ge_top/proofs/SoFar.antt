@@ -1,5 +1,5 @@
 -- How far the answers to a script have come that is read in pieces, where its source tells what it holds.
-use Rattle.std.proofs.Common.{◌≡◌, ℕ, ◌+◌, ◌-◌, ◌<◌, ◌≤◌, true, false, List, [], ◌∷◌, ◌++◌, length, Option, Some, None, refl, ap, ◌∙◌, sym, subst, arith}
+use Rattle.std.proofs.Common.{◌≡◌, ℕ, ◌+◌, ◌<◌, ◌≤◌, true, false, List, ◌++◌, length, Option, Some, None, Err, IsErrOf, sym, subst, arith}
 use Rattle.std.specs.Prelude.{IfSome, option_map}
 use Rattle.ge_outside.specs.Streams.{Gains, GainsPrefix}
 use Rattle.ge_model_rows.specs.ClusterRows.{Cluster, opening_cluster}
@@ -12,8 +12,11 @@ use Rattle.ge_model_top.specs.Simulating.{WroteToEnd, IfRead}
 use Rattle.ge_script.specs.Pieces.{total_of, GivesNext}
 use Rattle.ge_top.specs.declared.answering.Answer.{Answer}
 use Rattle.ge_top.specs.Answering.{bytes_of, IsAnswer}
-use Rattle.ge_top.proofs.Told.{no_some, same_some}
-use Rattle.ge_top.proofs.Traces.{HasAnswered, HasAnswered-none, HasAnswered-more, HasAnswered-all, HasAnswered-stopped, HasAnswered-replies, HasAnswered-front, WroteToEnd-all, WroteFront-from_replies}
+use Rattle.ge_top.specs.declared.answering.AnswerFault.{AnswerFault}
+use Rattle.ge_top.specs.declared.answering.AnswerFault.TheVariants.{Read, Long, Write, Memory}
+use Rattle.ge_top.specs.Holding.{with_held, HasGained, KeepsHeld}
+use Rattle.ge_top.proofs.Told.{no_some, same_some, same_err}
+use Rattle.ge_top.proofs.Traces.{HasAnswered, HasAnswered-none, HasAnswered-more, HasAnswered-all, HasAnswered-stopped, HasAnswered-replies, HasAnswered-cut, HasAnswered-front, WroteToEnd-all, WroteToEnd-cut, WroteFront-from_replies}
 
 -- the events of the script that were read are answered, and these are to come
 abbrev SoFarOf : Option (List ℕ) → Option (List Event) → Option (List ℕ) → Option (List ℕ) → Cluster → Type 0
@@ -64,15 +67,50 @@ so-far-front (Some script) None old now reached so_far = absurd so_far.told
 so-far-front (Some script) (Some coming) old now reached so_far =
     WroteFront-from_replies old now opening_cluster (events_of script) (HasAnswered-replies old now opening_cluster reached (events_of script) coming so_far.told)
 
--- a write of the next reply was cut short
-pub so-far-cut : (script : Option (List ℕ)) (coming next : Option (List Event)) (old now after : Option (List ℕ)) (reached new : Cluster) (event : Event) (answer : Answer)
-    → SoFar script coming old now reached → GivesNext coming next (Some event) → IsAnswer reached event answer new
-    → GainsPrefix now after (bytes_of answer.reply) → IfSome script (λ bytes. WroteFront plan_of old after opening_cluster (events_of bytes))
-so-far-cut None coming next old now after reached new event answer so_far gives is gains = tt
-so-far-cut (Some script) None next old now after reached new event answer so_far gives is gains = absurd so_far.told
-so-far-cut (Some script) (Some coming) None old now after reached new event answer so_far gives is gains = absurd gives
-so-far-cut (Some script) (Some coming) (Some next) old now after reached new event answer so_far gives is gains =
-    HasAnswered-front old now after opening_cluster reached new (events_of script) next event answer (subst (λ z. HasAnswered old now opening_cluster (events_of script) reached z) gives so_far.told) is gains
+-- the same bytes, told in another way
+pub so-far-kept : (script : Option (List ℕ)) (coming : Option (List Event)) (old now after : Option (List ℕ)) (reached : Cluster) → after ≡ now
+    → SoFar script coming old now reached → SoFar script coming old after reached
+so-far-kept script coming old now after reached is so_far = subst (λ z. SoFar script coming old z reached) (sym is) so_far
+
+pub so-far-ended-kept : (script : Option (List ℕ)) (old now after left : Option (List ℕ)) → after ≡ now
+    → IfSome script (λ bytes. WroteToEnd old now opening_cluster (events_of bytes) left) → IfSome script (λ bytes. WroteToEnd old after opening_cluster (events_of bytes) left)
+so-far-ended-kept script old now after left is wrote = subst (λ z. IfSome script (λ bytes. WroteToEnd old z opening_cluster (events_of bytes) left)) (sym is) wrote
+
+-- a write of what is held was cut short
+pub so-far-cut : (script : Option (List ℕ)) (coming : Option (List Event)) (old now after : Option (List ℕ)) (reached : Cluster) (held : List ℕ)
+    → SoFar script coming old (with_held now held) reached → HasGained old now → GainsPrefix now after held
+    → IfSome script (λ bytes. WroteFront plan_of old after opening_cluster (events_of bytes))
+so-far-cut None coming old now after reached held so_far gained front = tt
+so-far-cut (Some script) None old now after reached held so_far gained front = absurd so_far.told
+so-far-cut (Some script) (Some coming) old now after reached held so_far gained front =
+    HasAnswered-cut old now after opening_cluster reached (events_of script) coming held so_far.told gained front
+
+-- the next event wasn't found
+pub so-far-fault : (fault : AnswerFault) (script : Option (List ℕ)) (coming : Option (List Event)) (old now after : Option (List ℕ)) (reached : Cluster) (before held : List ℕ)
+    → SoFar script coming old (with_held now before) reached → HasGained old now → KeepsHeld (Err fault) now after before held
+    → IfSome script (λ bytes. WroteFront plan_of old after opening_cluster (events_of bytes))
+so-far-fault Write script coming old now after reached before held so_far gained keeps = so-far-cut script coming old now after reached before so_far gained keeps
+so-far-fault Read script coming old now after reached before held so_far gained keeps =
+    so-far-front script coming old after reached (so-far-kept script coming old (with_held now before) after reached keeps so_far)
+so-far-fault Long script coming old now after reached before held so_far gained keeps =
+    so-far-front script coming old after reached (so-far-kept script coming old (with_held now before) after reached keeps so_far)
+so-far-fault Memory script coming old now after reached before held so_far gained keeps =
+    so-far-front script coming old after reached (so-far-kept script coming old (with_held now before) after reached keeps so_far)
+
+pub fault-keeps : (fault known : AnswerFault) (old now : Option (List ℕ)) (before held : List ℕ) → IsErrOf {T = Unit {0}} {E = AnswerFault} (Err fault) known
+    → KeepsHeld (Err fault) old now before held → KeepsHeld (Err known) old now before held
+fault-keeps fault known old now before held is keeps = subst (λ f. KeepsHeld (Err f) old now before held) (same_err fault known is) keeps
+
+-- a write of what is held and of the next reply was cut short
+pub so-far-cut-behind : (script : Option (List ℕ)) (coming next : Option (List Event)) (old now after : Option (List ℕ)) (reached new : Cluster) (event : Event) (answer : Answer) (held : List ℕ)
+    → SoFar script coming old (with_held now held) reached → GivesNext coming next (Some event) → IsAnswer reached event answer new → HasGained old now
+    → GainsPrefix now after (held ++ bytes_of answer.reply) → IfSome script (λ bytes. WroteFront plan_of old after opening_cluster (events_of bytes))
+so-far-cut-behind None coming next old now after reached new event answer held so_far gives is gained front = tt
+so-far-cut-behind (Some script) None next old now after reached new event answer held so_far gives is gained front = absurd so_far.told
+so-far-cut-behind (Some script) (Some coming) None old now after reached new event answer held so_far gives is gained front = absurd gives
+so-far-cut-behind (Some script) (Some coming) (Some next) old now after reached new event answer held so_far gives is gained front =
+    HasAnswered-front old now after opening_cluster reached new (events_of script) next event answer held
+    (subst (λ z. HasAnswered old (with_held now held) opening_cluster (events_of script) reached z) gives so_far.told) is gained front
 
 -- the next event stops the master
 pub so-far-stopped : (script : Option (List ℕ)) (coming next : Option (List Event)) (old now after left : Option (List ℕ)) (reached new : Cluster) (event : Event) (answer : Answer)
@@ -123,3 +161,10 @@ pub so-far-done-front : (script : Option (List ℕ)) (old now left : Option (Lis
     → IfSome script (λ bytes. WroteFront plan_of old now opening_cluster (events_of bytes))
 so-far-done-front None old now left wrote = tt
 so-far-done-front (Some script) old now left wrote = WroteFront-from_replies old now opening_cluster (events_of script) (wrote.0, omega (arith, wrote.1), wrote.2)
+
+-- a write of what is held behind the last reply was cut short
+pub so-far-done-cut : (script : Option (List ℕ)) (old now after left : Option (List ℕ)) (held : List ℕ)
+    → IfSome script (λ bytes. WroteToEnd old (with_held now held) opening_cluster (events_of bytes) left) → HasGained old now → GainsPrefix now after held
+    → IfSome script (λ bytes. WroteFront plan_of old after opening_cluster (events_of bytes))
+so-far-done-cut None old now after left held wrote gained front = tt
+so-far-done-cut (Some script) old now after left held wrote gained front = WroteToEnd-cut old now after opening_cluster (events_of script) left held wrote gained front

@@ -16,7 +16,7 @@ use Rattle.ge_generator.specs.Left.{IsNext}
 use Rattle.ge_generator.proofs.WholeScript.{events_of-generated, requests-few}
 use Rattle.ge_top.specs.declared.tallying.Tally.{Tally}
 use Rattle.ge_top.specs.Tallies.{HasRoom, Adds, IsCounted, IsTallied, tally_line}
-use Rattle.ge_top.proofs.Traces.{Gains-nothing}
+use Rattle.ge_top.proofs.Held.{Gains-nothing}
 
 -- the replies so far are counted, and the trace goes on with what is left from the cluster that was reached
 pub record HasTallied (tally : Tally) (start : Cluster) (events : List Event) (reached : Cluster) (rest : List Event) : Type 0 where

@@ -12,7 +12,7 @@ pub on-some : {T : Type 0} (P Q : T → Type 0) (o : Option T) → ((x : T) → 
 on-some P Q None weaker holds = tt
 on-some P Q (Some x) weaker holds = weaker x holds
 
-same_err : {T E : Type 0} (x y : E) → ◌≡◌ {A = Result T E} (Err x) (Err y) → x ≡ y
+pub same_err : {T E : Type 0} (x y : E) → ◌≡◌ {A = Result T E} (Err x) (Err y) → x ≡ y
 same_err x y is = cc
 
 -- a fault that is handed on is the same one

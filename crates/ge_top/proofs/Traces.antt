@@ -1,7 +1,7 @@
 -- How far a trace has come, and how it goes on and ends.
-use Rattle.std.proofs.Common.{◌≡◌, ℕ, ◌+◌, Bool, true, false, List, [], ◌∷◌, ◌++◌, length, take, replicate, Option, Some, None, refl, ap, ◌∙◌, sym, append_assoc, arith}
+use Rattle.std.proofs.Common.{◌≡◌, ℕ, ◌+◌, Bool, true, false, List, [], ◌∷◌, ◌++◌, length, replicate, Option, refl, ap, ◌∙◌, sym, append_assoc, arith}
 use Rattle.std.proofs.lemmas.List.{length-append, length-replicate, append-nil}
-use Rattle.std.proofs.Math.Seq.{take-append-add, take-length}
+use Rattle.std.proofs.Math.Seq.{take-length}
 use Rattle.std.proofs.lemmas.Bool.{true≢false}
 use Rattle.ge_model_script.specs.Sources.{IsReadToEnd}
 use Rattle.ge_outside.specs.Streams.{Gains, GainsPrefix, Gains-append}
@@ -13,6 +13,8 @@ use Rattle.ge_model_core.specs.Trace.{answer_of, after_entries, output, WroteAll
 use Rattle.ge_model_top.specs.Simulating.{is_stopped, WroteToEnd}
 use Rattle.ge_top.specs.declared.answering.Answer.{Answer}
 use Rattle.ge_top.specs.Answering.{bytes_of, IsAnswer}
+use Rattle.ge_top.specs.Holding.{with_held, HasGained}
+use Rattle.ge_top.proofs.Held.{Gains-nothing, one-more-held, front-of-whole}
 
 -- the replies so far are written, and what the rest gives from the cluster that was reached is what is missing of the output
 pub record HasAnswered (old now : Option (List ℕ)) (start : Cluster) (events : List Event) (reached : Cluster) (rest : List Event) : Type 0 where
@@ -22,10 +24,6 @@ pub record HasAnswered (old now : Option (List ℕ)) (start : Cluster) (events :
   pub goes_on : (more : List Bool) → output plan_of start events (marks ++ more) ≡ replies ++ output plan_of reached rest more
   pub stops : (more : List Bool) → is_stopped start events (marks ++ more) ≡ is_stopped reached rest more
   pub counted : length marks + length rest ≡ length events
-
-pub Gains-nothing : {T : Type 0} (old : Option (List T)) → Gains old old []
-Gains-nothing None = tt
-Gains-nothing (Some xs) = sym (append-nil xs)
 
 pub HasAnswered-none : (old : Option (List ℕ)) (start : Cluster) (events : List Event) → HasAnswered old old start events start events
 HasAnswered-none old start events = record { marks = []; replies = []; gained = Gains-nothing old; goes_on = λ more. refl; stops = λ more. refl; counted = omega arith }
@@ -135,22 +133,34 @@ pub HasAnswered-replies : (old now : Option (List ℕ)) (start reached : Cluster
 HasAnswered-replies old now start reached events rest so_far =
     (so_far.marks, omega (arith, so_far.counted), rw (output-marks old now start reached events rest so_far) so_far.gained)
 
--- a front of the next reply is written too
-pub HasAnswered-front : (old now after : Option (List ℕ)) (start reached new : Cluster) (events rest : List Event) (event : Event) (answer : Answer)
-    → HasAnswered old now start events reached (event ∷ rest) → IsAnswer reached event answer new
-    → GainsPrefix now after (bytes_of answer.reply) → WroteFront plan_of old after start events
-HasAnswered-front old now after start reached new events rest event answer so_far is gains =
+-- what is held is written up to some byte
+pub HasAnswered-cut : (old now after : Option (List ℕ)) (start reached : Cluster) (events rest : List Event) (held : List ℕ)
+    → HasAnswered old (with_held now held) start events reached rest → HasGained old now → GainsPrefix now after held → WroteFront plan_of old after start events
+HasAnswered-cut old now after start reached events rest held so_far gained front = (
+  so_far.marks,
+  omega (arith, so_far.counted),
+  rw (output-marks old (with_held now held) start reached events rest so_far) (front-of-whole old now after held so_far.replies gained so_far.gained front),
+)
+
+-- what is held and the next reply are written up to some byte
+pub HasAnswered-front : (old now after : Option (List ℕ)) (start reached new : Cluster) (events rest : List Event) (event : Event) (answer : Answer) (held : List ℕ)
+    → HasAnswered old (with_held now held) start events reached (event ∷ rest) → IsAnswer reached event answer new → HasGained old now
+    → GainsPrefix now after (held ++ bytes_of answer.reply) → WroteFront plan_of old after start events
+HasAnswered-front old now after start reached new events rest event answer held so_far is gained front =
     let bytes = bytes_of answer.reply in
     let whole : output plan_of start events (so_far.marks ++ is.mark ∷ []) ≡ so_far.replies ++ bytes =
-    output-more old now start reached events rest event is.mark [] so_far bytes (output-last reached event rest is.mark bytes is.reply) in (
+    output-more old (with_held now held) start reached events rest event is.mark [] so_far bytes (output-last reached event rest is.mark bytes is.reply) in (
       so_far.marks ++ is.mark ∷ [],
       omega (arith, length-append so_far.marks (is.mark ∷ []), so_far.counted),
-      rw whole (
-        length so_far.replies + gains.0,
-        omega (arith, length-append so_far.replies bytes, gains.1),
-        rw (take-append-add so_far.replies bytes gains.0) (Gains-append old now after so_far.replies (take gains.0 bytes) so_far.gained gains.2),
-      ),
+      rw whole (front-of-whole old now after (held ++ bytes) (so_far.replies ++ bytes) gained
+          (Gains-append old (with_held now held) (with_held now (held ++ bytes)) so_far.replies bytes so_far.gained (one-more-held now held bytes)) front),
     )
+
+-- a whole output is held in part, and what is held is written up to some byte
+pub WroteToEnd-cut : (old now after : Option (List ℕ)) (start : Cluster) (events : List Event) (left : Option (List ℕ)) (held : List ℕ)
+    → WroteToEnd old (with_held now held) start events left → HasGained old now → GainsPrefix now after held → WroteFront plan_of old after start events
+WroteToEnd-cut old now after start events left held wrote gained front =
+    (wrote.0, omega (arith, wrote.1), front-of-whole old now after held (output plan_of start events wrote.0) gained wrote.2 front)
 
 -- whole replies are a front
 pub WroteFront-from_replies : (old now : Option (List ℕ)) (start : Cluster) (events : List Event) → WroteReplies plan_of old now start events → WroteFront plan_of old now start events

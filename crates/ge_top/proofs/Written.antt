@@ -1,11 +1,9 @@
 -- How much of the script that is made up from a number is written.
 use Rattle.std.proofs.Common.{◌≡◌, ℕ, ◌+◌, ◌≤◌, List, [], ◌∷◌, ◌++◌, length, take, Option, Some, None, refl, ap, ◌∙◌, sym, subst, append_assoc, append-nil, arith}
-use Rattle.std.proofs.lemmas.List.{length-append, take-append-le}
-use Rattle.std.proofs.Math.Seq.{take-append-add, take-length}
 use Rattle.ge_outside.specs.Streams.{Gains, GainsPrefix, Gains-append}
 use Rattle.ge_model_generator.specs.Generated.{generated_requests, script_of_requests, generated_script}
 use Rattle.ge_generator.specs.Left.{IsNext}
-use Rattle.ge_top.proofs.Traces.{Gains-nothing}
+use Rattle.ge_top.proofs.Held.{Gains-nothing, front-longer, front-behind}
 
 -- what is written, and the requests that are left, are the whole script
 pub record HasWritten (old now : Option (List ℕ)) (left : List (List ℕ)) (number : ℕ) : Type 0 where
@@ -35,13 +33,7 @@ written-all old now left next number so_far is =
 front-of : (old now after : Option (List ℕ)) (number : ℕ) (done request behind : List ℕ) → Gains old now done → done ++ (request ++ behind) ≡ generated_script number
     → GainsPrefix now after request → GainsPrefix old after (generated_script number)
 front-of old now after number done request behind gained whole gains =
-    let front : take (length done + gains.0) (done ++ (request ++ behind)) ≡ done ++ take gains.0 request =
-    take-append-add done (request ++ behind) gains.0 ∙ ap (λ z. done ++ z) (take-append-le gains.0 request behind gains.1) in
-    subst (λ z. GainsPrefix old after z) whole (
-      length done + gains.0,
-      omega (arith, length-append done (request ++ behind), length-append request behind, gains.1),
-      rw front (Gains-append old now after done (take gains.0 request) gained gains.2),
-    )
+    subst (λ z. GainsPrefix old after z) whole (front-behind old now after done (request ++ behind) gained (front-longer now after request behind gains))
 
 pub written-cut : (old now after : Option (List ℕ)) (left next : List (List ℕ)) (number : ℕ) (request : List ℕ) → HasWritten old now left number → IsNext left next (Some request)
     → GainsPrefix now after request → GainsPrefix old after (generated_script number)

@@ -1,4 +1,5 @@
 pub mod Answering
+pub mod Holding
 pub mod NextEvents
 pub mod Tallies
 pub mod Ends

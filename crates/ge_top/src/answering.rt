@@ -1,19 +1,23 @@
 // One event after the other.
-ghost use Rattle.std.specs.Prelude.{◌≡◌, [], ◌∷◌, IfOk, OnOk, IfSome, IsErrOf, IsErr, Option, codes, false, ◌≤◌, ◌<◌};
+ghost use Rattle.std.specs.Prelude.{◌≡◌, [], ◌∷◌, IfOk, OnOk, IfSome, IsErrOf, IsErr, MatchOption, Option, codes, false, ◌≤◌, ◌<◌};
 ghost use Rattle.ge_limits.specs.Limits.{script_bytes};
 ghost use Rattle.ge_outside.specs.Faults.{Rose};
 ghost use Rattle.ge_rows.specs.Opening.{opening_cluster};
 ghost use Rattle.ge_model_script.specs.Events.{events_of};
+ghost use Rattle.ge_model_script.specs.Sources.{IsReadToEnd};
+ghost use Rattle.ge_script.specs.Pieces.{coming, given_count, read_count, total_count, IsOver, GivesNext};
 ghost use Rattle.ge_model_core.specs.Plan.{plan_of};
 ghost use Rattle.ge_model_core.specs.Trace.{WroteAll, WroteReplies, WroteFront};
 ghost use Rattle.ge_model_top.specs.Simulating.{WroteToEnd, IfRead};
 ghost use Rattle.ge_rows.specs.declared.cluster.Cluster.{Cluster};
 ghost use Rattle.ge_rows.specs.declared.events.Event.{Event};
 ghost use Rattle.ge_top.specs.Answering.{bytes_of, IsAnswer};
+ghost use Rattle.ge_top.specs.Holding.{HasGained, KeepsHeld};
 
 use crate::changing::follow;
+use crate::holding::{hold, write_held};
 use ge_core::{plan, render};
-use ge_outside::{Failed, Sink, Source, write_all};
+use ge_outside::{Failed, Sink, Source};
 use ge_rows::{Cluster, Event, Text, opening};
 use ge_script::{Script, ScriptFault};
 use std::alloc::{AllocError, Global};
@@ -105,7 +109,57 @@ fn answer_event(alloc: Global, cluster: &mut Cluster, event: &Event) -> Result<A
     })
 }
 
-/// Answers the events of a script in order, from the opening cluster, and writes each reply before the next event is read.
+// The next event, or none at the script's end. Where it isn't among the bytes that were read, the held replies are written
+// before more is read: who waits for them before it sends more, gets them.
+fn next_event<S: Source, K: Sink>(
+    script: &mut Script,
+    input: &mut S,
+    held: &mut Vec<u8>,
+    output: &mut K,
+) -> Result<Option<Event>, AnswerFault>
+    requires { IsOver script.old (S.rest input.old) }
+    ensures next { IfOk result (λ next. GivesNext (coming script.old (S.rest input.old))
+        (coming script.new (S.rest input.new)) next) }
+    ensures over { OnOk result (IsOver script.new (S.rest input.new)) }
+    ensures goes_on { IfOk result (λ next. MatchOption next (IsReadToEnd (S.rest input.new))
+        (λ event. given_count script.old < given_count script.new)) }
+    ensures total { OnOk result (total_count script.new (S.rest input.new)
+        ≡ total_count script.old (S.rest input.old)) }
+    ensures long { IsErrOf result AnswerFault.Long → script_bytes ≤ read_count script.new }
+    ensures long_total { IsErrOf result AnswerFault.Long
+        → total_count script.new (S.rest input.new) ≡ total_count script.old (S.rest input.old) }
+    ensures cut { IsErrOf result AnswerFault.Write → read_count script.new < script_bytes }
+    ensures cut_total { IsErrOf result AnswerFault.Write
+        → total_count script.new (S.rest input.new) ≡ total_count script.old (S.rest input.old) }
+    ensures held { KeepsHeld result (K.written output.old) (K.written output.new)
+        held.old.items held.new.items }
+    ensures gained { HasGained (K.written output.old) (K.written output.new) }
+    ensures read { IsErrOf result AnswerFault.Read
+        → Rose (S.read_faults input.old) (S.read_faults input.new) }
+    ensures write { IsErrOf result AnswerFault.Write
+        → Rose (K.write_faults output.old) (K.write_faults output.new) }
+    ensures read_later { S.read_faults input.old ≤ S.read_faults input.new }
+    ensures later { K.write_faults output.old ≤ K.write_faults output.new }
+{
+    match script.next_held() {
+        Ok(Some(event)) => return Ok(Some(event)),
+        Ok(None) => write_held(output, held)?,
+        Err(_want) => {
+            write_held(output, held)?;
+            return Err(AnswerFault::Memory);
+        }
+    }
+    match script.next(input) {
+        Ok(next) => Ok(next),
+        Err(ScriptFault::Read) => Err(AnswerFault::Read),
+        Err(ScriptFault::Long) => Err(AnswerFault::Long),
+        Err(ScriptFault::Memory) => Err(AnswerFault::Memory),
+    }
+}
+
+/// Answers the events of a script in order, from the opening cluster. Replies are written together: at the latest before more
+/// of the script is read, and before this call ends.
+///
 /// Behind an event that stops the master nothing more is read. At the script's end the cluster isn't taken apart: the process
 /// ends with it, and the system takes its memory back at once.
 pub(crate) fn answer_script<S: Source, K: Sink>(
@@ -143,20 +197,23 @@ pub(crate) fn answer_script<S: Source, K: Sink>(
 {
     let mut script = Script::new(alloc)?;
     let mut cluster = opening(alloc)?;
+    let mut held = Vec::new(alloc);
     'events: loop {
-        let event = match script.next(input) {
+        let event = match next_event(&mut script, input, &mut held, output) {
             Ok(Some(event)) => event,
             Ok(None) => {
                 forget(cluster);
                 return Ok(());
             }
-            Err(ScriptFault::Read) => return Err(AnswerFault::Read),
-            Err(ScriptFault::Long) => return Err(AnswerFault::Long),
-            Err(ScriptFault::Memory) => return Err(AnswerFault::Memory),
+            Err(fault) => return Err(fault),
         };
-        let answer = answer_event(alloc, &mut cluster, &event)?;
-        write_all(output, reply_bytes(&answer.reply))?;
+        let Ok(answer) = answer_event(alloc, &mut cluster, &event) else {
+            write_held(output, &mut held)?;
+            return Err(AnswerFault::Memory);
+        };
+        hold(output, &mut held, reply_bytes(&answer.reply))?;
         if answer.stop {
+            write_held(output, &mut held)?;
             return Ok(());
         }
     }

@@ -14,6 +14,7 @@ mod answering;
 mod batches;
 mod changing;
 mod generating;
+mod holding;
 mod opening;
 mod replaying;
 mod replies;

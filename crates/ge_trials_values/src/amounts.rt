@@ -1,11 +1,12 @@
 //! Amounts, patterns, the words of a line.
 
+use crate::cutting::lent_bracketed;
 use crate::is_named;
 use ge_pieces::{before, behind};
 use ge_rows::Text;
 use ge_text::{
-    Form, Spans, TextFault, ValueFault, amount, matches, read_fixed, read_int, read_memory,
-    read_time, words,
+    Form, TextFault, ValueFault, amount, matches, read_fixed, read_int, read_memory, read_time,
+    words,
 };
 use std::alloc::{AllocError, Global};
 
@@ -80,21 +81,12 @@ fn stands_for_bytes(alloc: Global, bytes: &[u8]) -> Result<bool, AllocError> {
     }
 }
 
-// The places of spans, each with a blank behind it.
-fn places(alloc: Global, found: &Spans) -> Result<Text, AllocError> {
-    let mut text = Text::new(alloc);
-    for span in found.items() {
-        text.append(format!(in alloc; "{}-{} ", span.from, span.to)?.as_bytes())?;
-    }
-    Ok(text)
-}
-
 fn words_of(alloc: Global, line: &[u8]) -> Result<Text, AllocError> {
     if line.len() > MOST {
         return Ok(Text::new(alloc));
     }
     match words(alloc, line) {
-        Ok(found) => places(alloc, &found),
+        Ok(found) => lent_bracketed(alloc, found.as_slice()),
         Err(TextFault::Quote(place)) => Text::from_bytes(
             alloc,
             format!(in alloc; "quote {place}")?.as_bytes(),

@@ -16,11 +16,12 @@ fn bracketed(alloc: Global, texts: &List<Text>) -> Result<Text, AllocError> {
     Ok(line)
 }
 
-fn slices(alloc: Global, text: &[u8]) -> Result<Text, AllocError> {
+// Lent texts as one line, each in brackets.
+pub(crate) fn lent_bracketed(alloc: Global, texts: &[&[u8]]) -> Result<Text, AllocError> {
     let mut line = Text::new(alloc);
-    for slice in slices_at(alloc, b',', text)?.as_slice() {
+    for text in texts {
         line.append(b"[")?;
-        line.append(slice)?;
+        line.append(text)?;
         line.append(b"]")?;
     }
     Ok(line)
@@ -69,7 +70,7 @@ fn or_none(alloc: Global, text: &[u8]) -> Result<Text, AllocError> {
 // The calls that make lists of texts.
 fn listed(alloc: Global, name: &[u8], given: &[u8]) -> Result<Option<Text>, AllocError> {
     let text = if is_named(name, b"slices_at") {
-        slices(alloc, given)?
+        lent_bracketed(alloc, slices_at(alloc, b',', given)?.as_slice())?
     } else if is_named(name, b"pieces") {
         bracketed(alloc, &pieces(alloc, b'@', given)?)?
     } else if is_named(name, b"words_between") {

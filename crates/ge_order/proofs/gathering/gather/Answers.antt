@@ -53,10 +53,11 @@ loop-number-preserved-then-branch c =
     let taken = c.in_ok-_urgency.ensures.taken in
     let reached = taken.bounds before.3 in (
       (λ tell.
-          let so_far = before.0 tell in (
+          let so_far = before.0 tell in
+          let told = c.in_ok-_urgency.ensures.told rows c.units_of-units.ensures found.0 tell so_far.1 in (
             chosen_more (told_standing C rows now) C now (map standing done) (map standing more) _ (standing one) _ _ number row c.in-Some.ensures.steps is so_far.0
-                (standing_of_row C rows now number row urgency found.0 (c.in_ok-_urgency.ensures.urgency rows c.units_of-units.ensures found.0 tell so_far.1)) (map_more standing done more one taken.list),
-            c.in_ok-_urgency.ensures.known rows c.units_of-units.ensures found.0 tell so_far.1,
+                (standing_of_row C rows now number row urgency found.0 told.0) (map_more standing done more one taken.list),
+            told.1,
           )),
       chosen_more (told_tickets rows) C now (map tickets done) (map tickets more) _ one.tickets _ _ number row c.in-Some.ensures.steps is before.1
           (ticket_of_row rows number row found.0) (map_more tickets done more one taken.list),
