@@ -1,5 +1,5 @@
 -- How much of the script that is made up from a number is written.
-use Rattle.std.proofs.Common.{◌≡◌, ℕ, List, [], ◌++◌, Option, Some, None, ap, ◌∙◌, sym, subst, append_assoc, append-nil}
+use Rattle.std.proofs.Common.{◌≡◌, ℕ, List, [], ◌++◌, Option, Some, None, ap, ◌∙◌, sym, subst, append_assoc, append-nil, arith}
 use Rattle.ge_outside.specs.Streams.{Gains, GainsPrefix, Gains-append}
 use Rattle.ge_model_generator.specs.Generated.{generated_requests, script_of_requests, generated_script}
 use Rattle.ge_generator.specs.Left.{IsNext}
