@@ -1,3 +1,0 @@
-mod GroupRows
-mod Rows
-pub mod OverrideLaws

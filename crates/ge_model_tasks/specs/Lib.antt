@@ -1,4 +1,0 @@
-pub mod Spans
-pub mod Sets
-pub mod Ranges
-pub mod SetText

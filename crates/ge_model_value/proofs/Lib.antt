@@ -1,3 +1,0 @@
-pub mod FaultLaws
-mod Rows
-mod PieceRows

@@ -1,5 +1,0 @@
-pub mod Faults
-pub mod Pieces
-pub mod Values
-pub mod Relops
-pub mod Complexes
