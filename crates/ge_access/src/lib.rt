@@ -1,6 +1,6 @@
 //! Who may: managers, operators, and the users whom user sets admit (sge_types, access_list).
 //!
-//! Nothing here takes memory. Contracts see the cluster's row, and say by the definitions of `ge_model_site` what each
+//! Nothing here takes memory. Contracts see the cluster's row, and say by the definitions of `ge_model_rows` what each
 //! call answers.
 //!
 //! - [`is_manager`], [`is_operator`]: the two roles. A manager is an operator too.

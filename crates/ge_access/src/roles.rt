@@ -1,7 +1,7 @@
 //! Managers and operators.
 
 ghost use Rattle.std.specs.Prelude.{◌≡◌};
-ghost use Rattle.ge_model_site.specs.Access as access;
+ghost use Rattle.ge_model_rows.specs.Access as access;
 
 use ge_pieces::is_among;
 use ge_rows::{Cluster, Text};

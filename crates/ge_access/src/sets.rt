@@ -2,9 +2,9 @@
 
 ghost use Rattle.std.specs.Prelude.{◌≡◌, ◌∷◌};
 ghost use Rattle.ge_collections.specs.Keyed.{text_eq};
-ghost use Rattle.ge_model_value.specs.Pieces.{is_one_of};
-ghost use Rattle.ge_model_site.specs.Access.{set_entries, in_user_set, in_user_sets};
-ghost use Rattle.ge_model_site.specs.Access as access;
+ghost use Rattle.ge_model_rows.specs.Pieces.{is_one_of};
+ghost use Rattle.ge_model_rows.specs.Access.{set_entries, in_user_set, in_user_sets};
+ghost use Rattle.ge_model_rows.specs.Access as access;
 
 use ge_pieces::{is_among, is_word};
 use ge_rows::{Cluster, List, Text};

@@ -3,7 +3,7 @@ ghost use Rattle.std.specs.Prelude.{◌≡◌};
 ghost use Rattle.ge_ask.specs.Endings.{fault_status, ending_status};
 
 /// Why there is no reply.
-#[derive(Clone, Copy, Debug, PartialEq, Eq)]
+#[derive(Clone, Copy, PartialEq, Eq)]
 pub(crate) enum AskFault {
     /// The words are no question, or what would be sent is longer than a request may be.
     Usage,
@@ -16,7 +16,7 @@ pub(crate) enum AskFault {
 }
 
 /// How a question ends.
-#[derive(Clone, Copy, Debug, PartialEq, Eq)]
+#[derive(Clone, Copy, PartialEq, Eq)]
 pub(crate) enum Ending {
     /// The reply accepts, and was written.
     Accepted,

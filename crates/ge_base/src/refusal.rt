@@ -6,7 +6,7 @@ ghost use Rattle.ge_base.specs.Refusal.{reply_code};
 use std::alloc::AllocError;
 
 /// Why a command was refused.
-#[derive(Clone, Copy, Debug, PartialEq, Eq, PartialOrd, Ord)]
+#[derive(Clone, Copy, PartialEq, Eq, PartialOrd, Ord)]
 pub enum Refusal {
     /// The text is no command of the grammar.
     Syntax,

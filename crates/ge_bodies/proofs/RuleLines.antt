@@ -2,7 +2,7 @@
 use Rattle.std.proofs.Common.{◌≡◌, ℕ, Bool, true, false, List, [], ◌∷◌, ◌++◌, Option, Some, None, refl}
 use Rattle.std.specs.Prelude.{codes}
 use Rattle.ge_collections.specs.Keyed.{text_eq}
-use Rattle.ge_model_value.specs.Pieces.{trimmed}
+use Rattle.ge_model_rows.specs.Pieces.{trimmed}
 use Rattle.ge_model_grammar.specs.declared.RuleLine.{RuleLine}
 use Rattle.ge_model_grammar.specs.declared.Body.{Body}
 use Rattle.ge_model_grammar.specs.Rules.{rule_line_of}

@@ -2,7 +2,7 @@
 
 ghost use Rattle.std.specs.Prelude.{◌≡◌, ◌++◌, ◌∷◌, [], OnOk, IfOk, not, map, filter, drop};
 ghost use Rattle.std.specs.List.{list_all};
-ghost use Rattle.ge_model_value.specs.Pieces.{pieces_at};
+ghost use Rattle.ge_model_rows.specs.Pieces.{pieces_at};
 ghost use Rattle.ge_model_grammar.specs.Rules.{is_without, is_element, filter_with, between_braces, filter_of};
 ghost use Rattle.ge_pieces.specs.Gives.{Gives};
 

@@ -2,7 +2,7 @@
 
 ghost use Rattle.std.specs.Prelude.{◌≡◌, ◌++◌, ◌∷◌, [], ◌&&◌, not, map, length, option_map, codes};
 ghost use Rattle.ge_collections.specs.Keyed.{text_eq};
-ghost use Rattle.ge_model_value.specs.Pieces.{is_empty, trimmed};
+ghost use Rattle.ge_model_rows.specs.Pieces.{is_empty, trimmed};
 ghost use Rattle.ge_model_grammar.specs.Bodies.{attribute_line, with_attribute, has_attribute, rule_set_attributes, finished_rules, is_limit, rule_set_from, rule_set_body};
 ghost use Rattle.ge_model_grammar.specs.Rules.{rule_line_of};
 ghost use Rattle.ge_pieces.specs.Gives.{Gives, Leaves};

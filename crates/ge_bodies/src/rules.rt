@@ -2,7 +2,7 @@
 
 ghost use Rattle.std.specs.Prelude.{◌≡◌, [], IfOk, map, codes};
 ghost use Rattle.std.specs.List.{list_all};
-ghost use Rattle.ge_model_value.specs.Pieces.{list_items, joined_by};
+ghost use Rattle.ge_model_rows.specs.Pieces.{list_items, joined_by};
 ghost use Rattle.ge_model_grammar.specs.Rules.{bare_rule, with_filter, filtered_by, has_equals, written_resource, with_resources, rule_with_rest, rule_in, rule_line_of};
 ghost use Rattle.ge_pieces.specs.Gives.{Gives, Leaves};
 

@@ -4,7 +4,7 @@ use Rattle.std.proofs.lemmas.List.{length-take, drop_min}
 use Rattle.std.proofs.lemmas.List.Sums.{prefix_len-le-length}
 use Rattle.std.specs.Prelude.{◌==◌}
 use Rattle.std.specs.List.{position_or_len}
-use Rattle.ge_model_value.specs.Pieces.{before_byte, behind_byte}
+use Rattle.ge_model_rows.specs.Pieces.{before_byte, behind_byte}
 
 within : (b : ℕ) (text : List ℕ) → position_or_len (λ c. c == b) text ≤ length text
 within b text = prefix_len-le-length _ text

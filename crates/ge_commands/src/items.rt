@@ -1,7 +1,7 @@
 //! Readers of items, one by one and joined by commas.
 
 ghost use Rattle.std.specs.Prelude.{◌≡◌, ℕ, ◌++◌, ◌∷◌, [], List as Items, Option as Perhaps, option_map, IfOk, OnOk};
-ghost use Rattle.ge_model_value.specs.Pieces.{pieces_at};
+ghost use Rattle.ge_model_rows.specs.Pieces.{pieces_at};
 ghost use Rattle.ge_model_grammar.specs.Lines.{read_after, read_each};
 ghost use Rattle.ge_model_grammar.specs.Targets.{job_number_of, wide_number, target_of, items_of, read_items};
 ghost use Rattle.ge_model_grammar.specs.Commands.{reported_pair};

@@ -1,7 +1,7 @@
 //! The command that a text is.
 
 ghost use Rattle.std.specs.Prelude.{◌≡◌};
-ghost use Rattle.ge_model_value.specs.Pieces.{before_byte, behind_byte};
+ghost use Rattle.ge_model_rows.specs.Pieces.{before_byte, behind_byte};
 ghost use Rattle.ge_model_grammar.specs.Commands.{line_command, command_in, command_of};
 ghost use Rattle.ge_model_grammar.specs.Parsing.{parsed};
 ghost use Rattle.ge_pieces.specs.Gives.{Gives, IsAnswered};

@@ -3,9 +3,9 @@
 ghost use Rattle.std.specs.Prelude.{◌≡◌};
 ghost use Rattle.std.specs.Bool.{beq};
 ghost use Rattle.ge_collections.specs.Keyed.{text_eq};
-ghost use Rattle.ge_model_value.specs.Pieces.{lower_case};
-ghost use Rattle.ge_model_value.specs.Relops.{numbers_hold, sameness_holds, same_words};
-ghost use Rattle.ge_model_value.specs.Relops as relops;
+ghost use Rattle.ge_model_rows.specs.Pieces.{lower_case};
+ghost use Rattle.ge_model_rows.specs.Relops.{numbers_hold, sameness_holds, same_words};
+ghost use Rattle.ge_model_rows.specs.Relops as relops;
 
 use ge_pieces::is_word;
 use ge_rows::{ComplexDef, Kind, Relop, Value};

@@ -5,8 +5,8 @@ ghost use Rattle.std.specs.BTreeMap.{is_at};
 ghost use Rattle.std.specs.Map.Iter.{deref_pair};
 ghost use Rattle.std.specs.Option.{option_map};
 ghost use Rattle.ge_collections.specs.Keyed.{text_cmp};
-ghost use Rattle.ge_model_value.specs.Complexes.{complex_by_shortcut};
-ghost use Rattle.ge_model_value.specs.Complexes as complexes;
+ghost use Rattle.ge_model_rows.specs.Complexes.{complex_by_shortcut};
+ghost use Rattle.ge_model_rows.specs.Complexes as complexes;
 ghost use Rattle.ge_complex.specs.ByShortcut.{lent_at, LendsFirst};
 
 use crate::lookups::complex_at;

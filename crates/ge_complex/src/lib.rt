@@ -1,6 +1,6 @@
 //! Values of resources and the table of complexes (complex, sge_types).
 //!
-//! Contracts see the rows of `ge_rows`, and say by the definitions of `ge_model_value` what each call gives. Texts may
+//! Contracts see the rows of `ge_rows`, and say by the definitions of `ge_model_rows` what each call gives. Texts may
 //! have any length. Reading and printing want memory; what compares or looks up takes none, and lends rows of the table.
 //!
 //! - Read: [`value_of_text`], [`read_value`] with [`ValueError`].

@@ -4,8 +4,8 @@ ghost use Rattle.std.specs.Prelude.{◌≡◌};
 ghost use Rattle.std.specs.Option.{option_copied, option_map};
 ghost use Rattle.std.specs.Map.Iter.{deref_pair};
 ghost use Rattle.ge_collections.specs.Keyed.{text_eq};
-ghost use Rattle.ge_model_value.specs.Complexes.{complex_by_shortcut, has_consumable};
-ghost use Rattle.ge_model_value.specs.Complexes as complexes;
+ghost use Rattle.ge_model_rows.specs.Complexes.{complex_by_shortcut, has_consumable};
+ghost use Rattle.ge_model_rows.specs.Complexes as complexes;
 
 use ge_pieces::{is_same, is_word};
 use ge_rows::{Cluster, ComplexDef, Consumable, Kind, Text};

@@ -1,9 +1,9 @@
 //! Values as they are printed (complex, sge_types).
 
 ghost use Rattle.std.specs.Prelude.{◌≡◌, ◌<◌, ◌∷◌, [], IfOk, map, decimal};
-ghost use Rattle.ge_model_value.specs.Values.{digit_at, clock_text, flag_text};
-ghost use Rattle.ge_model_value.specs.Values as values;
-ghost use Rattle.ge_model_value.specs.Complexes as complexes;
+ghost use Rattle.ge_model_rows.specs.Values.{digit_at, clock_text, flag_text};
+ghost use Rattle.ge_model_rows.specs.Values as values;
+ghost use Rattle.ge_model_rows.specs.Complexes as complexes;
 
 use crate::lookups::kind_for;
 use ge_pieces::or_none_text;

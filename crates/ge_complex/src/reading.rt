@@ -5,9 +5,9 @@ ghost use Rattle.std.specs.List.{list_all};
 ghost use Rattle.std.specs.Int.{is_in_range};
 ghost use Rattle.ge_collections.specs.Keyed.{text_eq};
 ghost use Rattle.ge_model_text.specs.Reading.{reading};
-ghost use Rattle.ge_model_value.specs.Pieces.{lower_case};
-ghost use Rattle.ge_model_value.specs.Values.{value_of, read_amount, flag_of, word_of, is_word_byte};
-ghost use Rattle.ge_model_value.specs.Values as values;
+ghost use Rattle.ge_model_rows.specs.Pieces.{lower_case};
+ghost use Rattle.ge_model_rows.specs.Values.{value_of, read_amount, flag_of, word_of, is_word_byte};
+ghost use Rattle.ge_model_rows.specs.Values as values;
 ghost use Rattle.ge_complex.specs.Read.{IsRead};
 
 use crate::comparing::is_same_but_for_case;
@@ -17,7 +17,7 @@ use ge_text::{Form, amount};
 use std::alloc::{AllocError, Global};
 
 /// Why a text gives no value.
-#[derive(Clone, Copy, Debug, PartialEq, Eq)]
+#[derive(Clone, Copy, PartialEq, Eq)]
 pub enum ValueError {
     /// It is no value of its kind.
     Bad,

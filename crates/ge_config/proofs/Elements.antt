@@ -3,7 +3,7 @@ use Rattle.std.proofs.Common.{◌≡◌, ℕ, Bool, not, ◌||◌, List, [], ◌
 use Rattle.std.specs.Prelude.{◌==◌}
 use Rattle.ge_model_rows.specs.ClusterRows.{Cluster}
 use Rattle.ge_model_script.specs.Names.{is_name}
-use Rattle.ge_model_site.specs.Groups.{is_group}
+use Rattle.ge_model_rows.specs.Groups.{is_group}
 use Rattle.ge_model_config.specs.Cited.{has_name}
 use Rattle.ge_model_config.specs.Quotas.{is_known_host, is_rule_name}
 

@@ -2,7 +2,7 @@
 use Rattle.std.proofs.Common.{◌≡◌, List, ◌++◌, Option, sym, ap, ◌∙◌, append_assoc}
 use Rattle.std.proofs.lemmas.List.Sums.{fold-append}
 use Rattle.ge_base.specs.declared.refusal.Refusal.{Refusal}
-use Rattle.ge_model_value.specs.Faults.{earlier_fault, after_faults}
+use Rattle.ge_model_rows.specs.Faults.{earlier_fault, after_faults}
 
 pub after_both : (old first last : Option Refusal) (xs ys : List Refusal) → first ≡ after_faults old xs → last ≡ after_faults first ys
     → last ≡ after_faults old (xs ++ ys)

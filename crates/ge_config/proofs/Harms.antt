@@ -9,8 +9,8 @@ use Rattle.ge_collections.specs.Keyed.{text_cmp, text_eq, at_text}
 use Rattle.ge_model_rows.specs.ClusterRows.{Cluster}
 use Rattle.ge_model_rows.specs.QueueRows.{Attr, QueueRow}
 use Rattle.ge_model_rows.specs.ValueRows.{Value, ComplexDef}
-use Rattle.ge_model_value.specs.Pieces.{is_one_of, with_text}
-use Rattle.ge_model_value.specs.Complexes.{is_consumed, opening_complexes}
+use Rattle.ge_model_rows.specs.Pieces.{is_one_of, with_text}
+use Rattle.ge_model_rows.specs.Complexes.{is_consumed, opening_complexes}
 use Rattle.ge_model_config.specs.Cited.{has_name}
 use Rattle.ge_model_config.specs.Columns.{is_same_kind}
 use Rattle.ge_model_config.specs.Complexes.{breaks_use, use_faults}
@@ -20,7 +20,7 @@ use Rattle.ge_config.specs.declared.uses.Harm.TheVariants.{Lost, Freed}
 use Rattle.ge_config.specs.Uses.{is_harmed, with_harmed, harmed_names, has_some, host_has_some, queue_has_some, set_has_some, rules_have_some, is_some_used}
 use Rattle.ge_base.specs.declared.refusal.Refusal.{Refusal}
 use Rattle.ge_base.specs.declared.refusal.Refusal.TheVariants.{InUse}
-use Rattle.ge_model_value.specs.Faults.{when, after_faults}
+use Rattle.ge_model_rows.specs.Faults.{when, after_faults}
 use Rattle.ge_config.proofs.Noted.{each_noted}
 use Rattle.ge_config.proofs.Lists.{or_true, or_false, or_joined, any_same, any_or, any_swap, passed_with}
 

@@ -4,7 +4,7 @@ use Rattle.std.specs.List.{list_any, list_all}
 use Rattle.std.specs.Cmp.Lexicographic.{nat_list_eq_equiv, same_text}
 use Rattle.std.proofs.lemmas.List.Folds.{list_any-append}
 use Rattle.ge_collections.specs.Keyed.{text_eq}
-use Rattle.ge_model_value.specs.Pieces.{is_one_of, with_text}
+use Rattle.ge_model_rows.specs.Pieces.{is_one_of, with_text}
 
 pub or_true : (b : Bool) → (b || true) ≡ true
 or_true true = refl

@@ -4,8 +4,8 @@ use Rattle.std.specs.Prelude.{Option, Some, None, is_some, nat_lt, flat_map}
 use Rattle.std.specs.List.{list_any}
 use Rattle.ge_base.specs.declared.refusal.Refusal.{Refusal}
 use Rattle.ge_model_rows.specs.PeopleRows.{ShareNode}
-use Rattle.ge_model_value.specs.Faults.{turn_of, when, earlier_fault, first_fault, after_faults, sooner}
-use Rattle.ge_model_value.proofs.FaultLaws.{after_faults-sooner}
+use Rattle.ge_model_rows.specs.Faults.{turn_of, when, earlier_fault, first_fault, after_faults, sooner}
+use Rattle.ge_model_rows.proofs.FaultLaws.{after_faults-sooner}
 use Rattle.ge_model_config.specs.Shares.{tree_faults}
 
 either : (b : Bool) (answer : Option Refusal) → cond b answer answer ≡ answer

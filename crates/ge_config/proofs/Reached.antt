@@ -6,7 +6,7 @@ use Rattle.std.specs.Cmp.{nat_eq_equiv}
 use Rattle.std.proofs.lemmas.Bool.{eqb-true, or_cases, or_parts, or_from, or_left, or_right, cases_lt}
 use Rattle.std.proofs.lemmas.List.Folds.{list_any-append}
 use Rattle.std.proofs.lemmas.Option.{slice_get_within, slice_get_past}
-use Rattle.ge_model_value.specs.Pieces.{lists_number, with_one_number}
+use Rattle.ge_model_rows.specs.Pieces.{lists_number, with_one_number}
 use Rattle.ge_config.specs.ShareTree.{walked}
 
 -- ---- numbers in a list

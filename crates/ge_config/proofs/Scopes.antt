@@ -11,7 +11,7 @@ use Rattle.std.specs.Ordering.{nat_cmp}
 use Rattle.std.proofs.lemmas.List.Folds.{list_any-append}
 use Rattle.ge_collections.specs.Keyed.{text_eq}
 use Rattle.ge_model_rows.specs.PeopleRows.{ShareNode}
-use Rattle.ge_model_value.specs.Pieces.{is_one_of, with_text, lists_number, with_one_number, each_number_once}
+use Rattle.ge_model_rows.specs.Pieces.{is_one_of, with_text, lists_number, with_one_number, each_number_once}
 use Rattle.ge_model_config.specs.Complexes.{are_distinct}
 use Rattle.ge_model_config.specs.Shares.{all_children, children_at, reached_nodes, nodes_below, user_name, names_differ}
 use Rattle.ge_config.specs.ShareTree.{walked, below_past, part_below, root_scope, fits_beside, part_differs}

@@ -17,8 +17,8 @@ use Rattle.std.proofs.lemmas.List.Concat.{flat_map-append}
 use Rattle.ge_collections.specs.Keyed.{at_number, put_number}
 use Rattle.ge_model_rows.specs.PeopleRows.{ShareNode}
 use Rattle.ge_model_rows.specs.ValueRows.{Value, Kind}
-use Rattle.ge_model_value.specs.Values.{amount_in, value_of}
-use Rattle.ge_model_value.specs.Pieces.{lists_number, with_one_number}
+use Rattle.ge_model_rows.specs.Values.{amount_in, value_of}
+use Rattle.ge_model_rows.specs.Pieces.{lists_number, with_one_number}
 use Rattle.ge_model_grammar.specs.declared.NodeLines.{NodeLines}
 use Rattle.ge_model_config.specs.Shares.{id_within, id_of, put_node, node_from_lines, nodes_of, children_at, reached_nodes, has_one_parent, user_name}
 use Rattle.ge_config.specs.ShareTree.{has_short_ids, with_child, met_children}

@@ -6,8 +6,8 @@ use Rattle.ge_base.specs.declared.refusal.Refusal.TheVariants.{Exists, Limit}
 use Rattle.ge_limits.specs.Limits as limit
 use Rattle.ge_model_rows.specs.ClusterRows.{Cluster}
 use Rattle.ge_model_rows.specs.PeopleRows.{ShareNode}
-use Rattle.ge_model_value.specs.Faults.{when}
-use Rattle.ge_model_value.specs.Pieces.{is_empty, is_one_of, lists_number, with_one_number, each_number_once}
+use Rattle.ge_model_rows.specs.Faults.{when}
+use Rattle.ge_model_rows.specs.Pieces.{is_empty, is_one_of, lists_number, with_one_number, each_number_once}
 use Rattle.ge_model_grammar.specs.declared.NodeLines.{NodeLines}
 use Rattle.ge_model_config.specs.Shares.{all_children, children_at, nodes_below, user_name, names_differ, line_faults, node_faults, tree_faults, below_projects}
 

@@ -7,8 +7,8 @@ use Rattle.ge_model_rows.specs.HostRows.{HostRow}
 use Rattle.ge_model_rows.specs.QueueRows.{QueueRow}
 use Rattle.ge_model_rows.specs.QuotaRows.{QuotaRow}
 use Rattle.ge_model_rows.specs.ValueRows.{ComplexDef}
-use Rattle.ge_model_value.specs.Pieces.{is_one_of, with_text}
-use Rattle.ge_model_value.specs.Complexes.{is_consumed, opening_complexes}
+use Rattle.ge_model_rows.specs.Pieces.{is_one_of, with_text}
+use Rattle.ge_model_rows.specs.Complexes.{is_consumed, opening_complexes}
 use Rattle.ge_model_config.specs.Cited.{has_name}
 use Rattle.ge_model_config.specs.Columns.{is_same_kind}
 use Rattle.ge_model_config.specs.Used.{attr_where}

@@ -2,8 +2,8 @@
 
 ghost use Rattle.std.specs.Prelude.{◌≡◌, ◌++◌, OnOk, IfOk, [], if◌then◌else◌, fold, map, flat_map, unwrap_or};
 ghost use Rattle.ge_model_rows.specs.ValueRows.{Kind, Relop, Consumable};
-ghost use Rattle.ge_model_value.specs.Complexes.{complex_at};
-ghost use Rattle.ge_model_value.specs.Faults.{after_faults};
+ghost use Rattle.ge_model_rows.specs.Complexes.{complex_at};
+ghost use Rattle.ge_model_rows.specs.Faults.{after_faults};
 ghost use Rattle.ge_model_config.specs.Complexes.{unknown_complex, fits_relop, is_for_jobs, fits_use, kind_in, relop_in, consumable_in, urgency_read, complex_row, row_faults, put_complex, are_distinct, names_of_complex, complexes_item};
 ghost use Rattle.ge_pieces.specs.Gives.{Reads};
 ghost use Rattle.ge_config.specs.Words.{word_faults, table_faults};

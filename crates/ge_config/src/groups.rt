@@ -2,7 +2,7 @@
 
 ghost use Rattle.std.specs.Prelude.{◌≡◌, OnOk};
 ghost use Rattle.ge_collections.specs.Keyed.{put_text};
-ghost use Rattle.ge_model_value.specs.Faults.{after_faults};
+ghost use Rattle.ge_model_rows.specs.Faults.{after_faults};
 ghost use Rattle.ge_model_config.specs.Groups.{group_item, loops_among};
 ghost use Rattle.ge_pieces.specs.Gives.{Reads};
 

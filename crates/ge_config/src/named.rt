@@ -2,7 +2,7 @@
 
 ghost use Rattle.std.specs.Prelude.{◌≡◌, IfOk};
 ghost use Rattle.ge_model_rows.specs.EntryRows.{ObjectKind};
-ghost use Rattle.ge_model_value.specs.Faults.{after_faults};
+ghost use Rattle.ge_model_rows.specs.Faults.{after_faults};
 ghost use Rattle.ge_model_grammar.specs.Configuring.{is_name_of};
 ghost use Rattle.ge_model_config.specs.Cited.{given};
 ghost use Rattle.ge_model_config.specs.Named.{added_faults, changed_faults, name_faults, is_left_out, absent_faults};

@@ -6,7 +6,7 @@ ghost use Rattle.ge_model_text.specs.Words.{is_blank};
 ghost use Rattle.ge_model_config.specs.Overrides.{behind_byte_first, begins_overrides, plain_part, bracket_part, key_and_value, override_of, overrides_between, overrides_of, filled, override_read, attr_with, attr_read};
 ghost use Rattle.ge_pieces.specs.Gives.{Gives, Reads};
 ghost use Rattle.ge_model_rows.specs.ClusterRows.{plain_attr};
-ghost use Rattle.ge_model_value.specs.Faults.{after_faults};
+ghost use Rattle.ge_model_rows.specs.Faults.{after_faults};
 ghost use Rattle.ge_base.specs.declared.refusal.Refusal.TheVariants.{BadValue};
 
 use crate::values::{Reader, is_a_host_or_group};

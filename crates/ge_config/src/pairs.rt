@@ -1,7 +1,7 @@
 //! Lists of name=value over the complexes: complex_values, load_thresholds, the resources of a rule.
 
 ghost use Rattle.std.specs.Prelude.{◌≡◌, OnOk, Some, [], fold};
-ghost use Rattle.ge_model_value.specs.Faults.{after_faults};
+ghost use Rattle.ge_model_rows.specs.Faults.{after_faults};
 ghost use Rattle.ge_model_config.specs.Pairs.{value_for, pair_read, item_read, put_value, with_pair, values_read};
 ghost use Rattle.ge_pieces.specs.Gives.{Reads};
 ghost use Rattle.ge_config.specs.Fitting.{fits_by};
@@ -14,7 +14,7 @@ use ge_rows::{Cluster, ComplexDef, Table, Text, Value};
 use std::alloc::{AllocError, Global};
 
 /// Which complexes may be named.
-#[derive(Clone, Copy, Debug, PartialEq, Eq)]
+#[derive(Clone, Copy, PartialEq, Eq)]
 pub(crate) enum Fitting {
     /// All.
     Any,

@@ -4,7 +4,7 @@ ghost use Rattle.std.specs.Prelude.{◌≡◌, OnOk, IfOk, codes, map};
 ghost use Rattle.ge_collections.specs.Keyed.{put_text};
 ghost use Rattle.ge_model_rows.specs.ClusterRows.{plain_attr, limit_names};
 ghost use Rattle.ge_model_rows.specs.ValueRows.{infinity};
-ghost use Rattle.ge_model_value.specs.Faults.{after_faults};
+ghost use Rattle.ge_model_rows.specs.Faults.{after_faults};
 ghost use Rattle.ge_model_config.specs.Cited.{number_read};
 ghost use Rattle.ge_model_config.specs.Overrides.{attr_read};
 ghost use Rattle.ge_model_config.specs.Pairs.{values_read, number_fits};

@@ -2,7 +2,7 @@
 
 ghost use Rattle.std.specs.Prelude.{◌≡◌, ◌∷◌, OnOk, IfOk, [], fold, map, flat_map};
 ghost use Rattle.std.specs.List.{list_all};
-ghost use Rattle.ge_model_value.specs.Faults.{after_faults};
+ghost use Rattle.ge_model_rows.specs.Faults.{after_faults};
 ghost use Rattle.ge_model_config.specs.Cited.{cited};
 ghost use Rattle.ge_model_config.specs.Pairs.{pair_read};
 ghost use Rattle.ge_model_config.specs.Quotas.{elements_of, is_known_user, is_known_host, consumable_fits, put_limit, with_rule_limit, is_rule_name, rule_read, enabled_of, description_of, quota_item};

@@ -3,7 +3,7 @@
 ghost use Rattle.std.specs.Prelude.{◌≡◌, [], ◌∷◌};
 ghost use Rattle.ge_base.specs.declared.refusal.Refusal.TheVariants.{Syntax};
 ghost use Rattle.ge_model_rows.specs.EntryRows.{Managers};
-ghost use Rattle.ge_model_value.specs.Faults.{after_faults};
+ghost use Rattle.ge_model_rows.specs.Faults.{after_faults};
 ghost use Rattle.ge_model_grammar.specs.declared.Body.TheVariants.{Attributes, RuleSet, Nodes, ComplexRows};
 ghost use Rattle.ge_model_config.specs.Cited.{answered};
 ghost use Rattle.ge_model_config.specs.Reading.{item_of, body_read};

@@ -1,7 +1,7 @@
 //! Different texts and different numbers, in the order in which they came, and whether something comes twice.
 
 ghost use Rattle.std.specs.Prelude.{◌≡◌, [], OnOk, IfOk, map, fold, not, slice_get};
-ghost use Rattle.ge_model_value.specs.Pieces.{is_empty, is_one_of, with_text, lists_number, with_one_number};
+ghost use Rattle.ge_model_rows.specs.Pieces.{is_empty, is_one_of, with_text, lists_number, with_one_number};
 ghost use Rattle.ge_model_config.specs.Complexes.{are_distinct};
 ghost use Rattle.ge_model_config.specs.Shares.{are_different};
 

@@ -3,10 +3,10 @@
 ghost use Rattle.std.specs.Prelude.{◌≡◌, ◌++◌, OnOk, IfOk, [], codes, fold, not};
 ghost use Rattle.ge_collections.specs.Keyed.{put_text};
 ghost use Rattle.ge_base.specs.declared.refusal.Refusal.TheVariants.{BadValue};
-ghost use Rattle.ge_model_value.specs.Faults.{after_faults, when};
+ghost use Rattle.ge_model_rows.specs.Faults.{after_faults, when};
 ghost use Rattle.ge_model_rows.specs.SettingRows.{Load};
-ghost use Rattle.ge_model_value.specs.Complexes.{complex_at};
-ghost use Rattle.ge_model_value.specs.Pieces.{before_byte};
+ghost use Rattle.ge_model_rows.specs.Complexes.{complex_at};
+ghost use Rattle.ge_model_rows.specs.Pieces.{before_byte};
 ghost use Rattle.ge_model_config.specs.Settings.{setting, sort_read, formula_faults, formula_read, is_weight, weight_read, with_weight_item, weights_read, weight_at, sched_item};
 ghost use Rattle.ge_pieces.specs.Gives.{Reads};
 ghost use Rattle.ge_config.specs.Settings.{amount_setting, count_setting, plain_weights, first_settings, priority_weights, ticket_weights, last_settings};

@@ -4,8 +4,8 @@ ghost use Rattle.std.specs.Prelude.{◌≡◌, ◌&&◌, ◌++◌, [], ◌∷◌
 ghost use Rattle.std.specs.List.{list_all, list_any};
 ghost use Rattle.std.specs.Option.{option_to_list};
 ghost use Rattle.ge_collections.specs.Keyed.{at_number};
-ghost use Rattle.ge_model_value.specs.Faults.{after_faults};
-ghost use Rattle.ge_model_value.specs.Pieces.{is_digits, number_of};
+ghost use Rattle.ge_model_rows.specs.Faults.{after_faults};
+ghost use Rattle.ge_model_rows.specs.Pieces.{is_digits, number_of};
 ghost use Rattle.ge_model_config.specs.Shares.{id_within, id_of, child_numbers, id_cut, is_project_line, shares_of, node_from_lines, put_node, nodes_of, line_faults};
 ghost use Rattle.ge_model_config.specs.Cited.{cited, has_name};
 ghost use Rattle.ge_pieces.specs.Gives.{Reads};

@@ -6,7 +6,7 @@
 
 ghost use Rattle.std.specs.Prelude.{◌≡◌, [], OnOk, IfOk, fold, filter_map};
 ghost use Rattle.std.specs.List.{list_all};
-ghost use Rattle.ge_model_value.specs.Pieces.{with_text};
+ghost use Rattle.ge_model_rows.specs.Pieces.{with_text};
 ghost use Rattle.ge_model_config.specs.Shares.{all_children, children_at as all_children_at, nodes_below, names_differ as are_names_different, scopes_differ as are_scopes_different, user_name as name_of_user};
 ghost use Rattle.ge_config.specs.ShareTree.{walked, below_past, part_below as all_of_part, root_scope as all_of_root, fits_beside as is_fitting, part_differs as are_parts_different};
 

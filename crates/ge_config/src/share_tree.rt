@@ -4,7 +4,7 @@ ghost use Rattle.std.specs.Prelude.{◌≡◌, if◌then◌else◌, IfOk, OnOk, 
 ghost use Rattle.std.specs.List.{list_all, list_any};
 ghost use Rattle.std.specs.Map.{keys_of};
 ghost use Rattle.std.specs.Option.{option_map, option_to_list};
-ghost use Rattle.ge_model_value.specs.Pieces.{is_empty, lists_number, each_number_once};
+ghost use Rattle.ge_model_rows.specs.Pieces.{is_empty, lists_number, each_number_once};
 ghost use Rattle.ge_model_config.specs.Complexes.{are_distinct};
 ghost use Rattle.ge_model_config.specs.Shares.{children_at, is_project_at, all_children, reached_nodes, below_all, has_one_parent, projects_in, has_no_project, user_name, names_differ, ids_outside, goes_round, level_below, is_deep};
 ghost use Rattle.ge_config.specs.ShareTree.{with_child, met_children};

@@ -1,8 +1,8 @@
 //! The share tree: share_tree(5).
 
 ghost use Rattle.std.specs.Prelude.{◌≡◌, OnOk, IfOk, IsTrue, ◌++◌, [], not, flat_map};
-ghost use Rattle.ge_model_value.specs.Faults.{first_fault, after_faults};
-ghost use Rattle.ge_model_value.specs.Pieces.{is_empty};
+ghost use Rattle.ge_model_rows.specs.Faults.{first_fault, after_faults};
+ghost use Rattle.ge_model_rows.specs.Pieces.{is_empty};
 ghost use Rattle.ge_model_config.specs.Shares.{all_children, depth_faults, line_faults, node_faults, tree_faults, below_projects as all_below_projects, shares_item};
 ghost use Rattle.ge_pieces.specs.Gives.{Reads};
 ghost use Rattle.ge_config.specs.ShareTree.{has_short_ids, nodes_refused, share_faults};

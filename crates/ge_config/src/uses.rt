@@ -6,9 +6,9 @@ ghost use Rattle.std.specs.List.{list_any};
 ghost use Rattle.std.specs.Map.{keys_of};
 ghost use Rattle.std.specs.Option.{option_copied};
 ghost use Rattle.ge_collections.specs.Keyed.{at_text};
-ghost use Rattle.ge_model_value.specs.Complexes.{opening_complexes};
-ghost use Rattle.ge_model_value.specs.Faults.{after_faults};
-ghost use Rattle.ge_model_value.specs.Pieces.{is_one_of};
+ghost use Rattle.ge_model_rows.specs.Complexes.{opening_complexes};
+ghost use Rattle.ge_model_rows.specs.Faults.{after_faults};
+ghost use Rattle.ge_model_rows.specs.Pieces.{is_one_of};
 ghost use Rattle.ge_model_config.specs.Complexes.{use_faults};
 ghost use Rattle.ge_model_config.specs.Used.{attr_where, is_complex_used};
 ghost use Rattle.ge_config.specs.declared.uses.Harm.{Harm};
@@ -27,7 +27,7 @@ use ge_rows::{
 use std::alloc::{AllocError, Global};
 
 /// What a new table may do to a complex.
-#[derive(Clone, Copy, Debug, PartialEq, Eq)]
+#[derive(Clone, Copy, PartialEq, Eq)]
 pub(crate) enum Harm {
     /// It is gone, or of another type.
     Lost,

@@ -4,7 +4,7 @@ ghost use Rattle.std.specs.Prelude.{◌≡◌, ℕ, List as Items};
 ghost use Rattle.std.specs.Int.{is_in_range};
 ghost use Rattle.std.specs.List.{list_all};
 ghost use Rattle.ge_base.specs.declared.refusal.Refusal.{Refusal as Fault};
-ghost use Rattle.ge_model_value.specs.Faults.{after_faults};
+ghost use Rattle.ge_model_rows.specs.Faults.{after_faults};
 ghost use Rattle.ge_model_rows.specs.ValueRows.{infinity};
 ghost use Rattle.ge_model_config.specs.Cited.{amount_within, number_read, names_read, has_name, is_host_or_group};
 ghost use Rattle.ge_pieces.specs.Gives.{Reads};

@@ -3,7 +3,7 @@ ghost use Rattle.std.specs.Prelude.{◌≡◌, IfOk};
 ghost use Rattle.ge_model_core.specs.Answers.{changed, done_lines};
 ghost use Rattle.ge_model_core.specs.Configuring.{manager_faults};
 ghost use Rattle.ge_model_core.specs.Refusals.{unless_refused};
-ghost use Rattle.ge_model_value.specs.Faults.{first_fault};
+ghost use Rattle.ge_model_rows.specs.Faults.{first_fault};
 
 use ge_access::is_manager;
 use ge_answers::{done, refuse};

@@ -2,7 +2,7 @@
 ghost use Rattle.std.specs.Prelude.{◌≡◌, ◌++◌, IfOk};
 ghost use Rattle.ge_model_core.specs.Configuring as plans;
 ghost use Rattle.ge_model_core.specs.Configuring.{manager_faults, enlist_faults};
-ghost use Rattle.ge_model_value.specs.Faults.{after_faults, first_fault};
+ghost use Rattle.ge_model_rows.specs.Faults.{after_faults, first_fault};
 
 use crate::deciding::role_fault;
 use ge_base::Refusal;

@@ -3,7 +3,7 @@ ghost use Rattle.std.specs.Prelude.{◌≡◌, ◌++◌, IfOk, OnOk};
 ghost use Rattle.std.specs.List.{list_all};
 ghost use Rattle.ge_collections.specs.Keyed.{text_eq};
 ghost use Rattle.ge_model_core.specs.Configuring.{delist_faults, object_faults, remove_faults, manager_faults, remove_plan};
-ghost use Rattle.ge_model_value.specs.Faults.{after_faults, first_fault};
+ghost use Rattle.ge_model_rows.specs.Faults.{after_faults, first_fault};
 
 use crate::deciding::role_fault;
 use ge_answers::{done, refuse};

@@ -13,8 +13,8 @@ use Rattle.ge_model_rows.specs.EventRows.{Event}
 use Rattle.ge_model_rows.specs.JobRows.{Request}
 use Rattle.ge_model_grammar.specs.Options.{Given}
 use Rattle.ge_model_config.specs.Requests.{no_request, request_of}
-use Rattle.ge_model_value.specs.Faults.{when, after_faults}
-use Rattle.ge_model_value.proofs.FaultLaws.{after_faults-append}
+use Rattle.ge_model_rows.specs.Faults.{when, after_faults}
+use Rattle.ge_model_rows.proofs.FaultLaws.{after_faults-append}
 use Rattle.ge_model_core.specs.Booking.{is_booked_out, book_plan}
 use Rattle.ge_core.specs.Booked.{asked_with, no_time_is, plan_with}
 

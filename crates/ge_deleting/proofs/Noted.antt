@@ -2,8 +2,8 @@
 use Rattle.std.proofs.Common.{◌≡◌, ℕ, ◌+◌, ◌<◌, List, ◌∷◌, drop, get_or, length, drop-cons, add-one, sym, ap, ◌∙◌}
 use Rattle.std.specs.Prelude.{Option, flat_map}
 use Rattle.ge_base.specs.declared.refusal.Refusal.{Refusal}
-use Rattle.ge_model_value.specs.Faults.{after_faults}
-use Rattle.ge_model_value.proofs.FaultLaws.{after_faults-append}
+use Rattle.ge_model_rows.specs.Faults.{after_faults}
+use Rattle.ge_model_rows.proofs.FaultLaws.{after_faults-append}
 
 pub noted_further : {A : Type 0} (f : A → List Refusal) (xs : List A) (i : ℕ) (d : A) (old new total : Option Refusal) → i < length xs
     → new ≡ after_faults old (f (get_or xs i d)) → after_faults old (flat_map f (drop i xs)) ≡ total

@@ -2,7 +2,7 @@
 ghost use Rattle.std.specs.Prelude.{◌≡◌};
 ghost use Rattle.std.specs.Option.{option_copied};
 ghost use Rattle.ge_collections.specs.Keyed.{at_number};
-ghost use Rattle.ge_model_site.specs.Access as access;
+ghost use Rattle.ge_model_rows.specs.Access as access;
 ghost use Rattle.ge_model_core.specs.Altering as altering;
 
 use ge_access::{is_manager, is_operator};
@@ -23,7 +23,7 @@ impl<'a> Model for Asker<'a> {
     ghost use Rattle.std.specs.Prelude.{◌≡◌};
     ghost use Rattle.ge_model_rows.specs.ClusterRows.{Cluster as ClusterRow};
     ghost use Rattle.ge_model_rows.specs.EventRows.{Event as EventRow};
-    ghost use Rattle.ge_model_site.specs.Access as access;
+    ghost use Rattle.ge_model_rows.specs.Access as access;
 
     ghost Value = { ClusterRow × EventRow };
 

@@ -1,7 +1,7 @@
 // Tasks that are named, counted.
 ghost use Rattle.std.specs.Prelude.{◌≡◌, ◌+◌, IfOk, filter, length, sum_by};
-ghost use Rattle.ge_model_tasks.specs.Sets.{count_of};
-ghost use Rattle.ge_model_tasks.specs.Sets as sets;
+ghost use Rattle.ge_model_rows.specs.Sets.{count_of};
+ghost use Rattle.ge_model_rows.specs.Sets as sets;
 ghost use Rattle.ge_model_core.specs.Deleting.{task_runs_in};
 ghost use Rattle.ge_deleting.specs.Counts.{count_of_part, shown};
 

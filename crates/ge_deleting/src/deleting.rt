@@ -2,8 +2,8 @@
 ghost use Rattle.std.specs.Prelude.{◌≡◌, ◌++◌, ◌∷◌, [], ◌&&◌, not, IfOk, codes, decimal, flat_map};
 ghost use Rattle.ge_base.specs.declared.refusal.Refusal.TheVariants.{NotPermitted};
 ghost use Rattle.ge_model_rows.specs.EntryRows.{Delete, Clear};
-ghost use Rattle.ge_model_site.specs.Access.{is_operator};
-ghost use Rattle.ge_model_value.specs.Faults.{first_fault, when};
+ghost use Rattle.ge_model_rows.specs.Access.{is_operator};
+ghost use Rattle.ge_model_rows.specs.Faults.{first_fault, when};
 ghost use Rattle.ge_model_core.specs.Answers.{changed};
 ghost use Rattle.ge_model_core.specs.Targets.{target_faults, named_jobs};
 ghost use Rattle.ge_model_core.specs.Deleting.{delete_plan, clear_plan};

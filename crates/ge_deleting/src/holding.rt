@@ -1,8 +1,8 @@
 // The plans of qhold and qrls.
 ghost use Rattle.std.specs.Prelude.{◌≡◌, ◌++◌, ◌&&◌, not, IfOk, codes, decimal, flat_map, length};
 ghost use Rattle.ge_collections.specs.Keyed.{at_number};
-ghost use Rattle.ge_model_site.specs.Access.{is_manager, is_operator};
-ghost use Rattle.ge_model_value.specs.Faults.{after_faults, first_fault};
+ghost use Rattle.ge_model_rows.specs.Access.{is_manager, is_operator};
+ghost use Rattle.ge_model_rows.specs.Faults.{after_faults, first_fault};
 ghost use Rattle.ge_model_core.specs.Holding.{has_user_bit, has_operator_bit, has_system_bit, job_hold_faults, hold_plan_faults, hold_plan, release_plan};
 
 use crate::asker::Asker;

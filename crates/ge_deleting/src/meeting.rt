@@ -1,6 +1,6 @@
 // Numbers, each once.
 ghost use Rattle.std.specs.Prelude.{◌≡◌, IfOk, OnOk};
-ghost use Rattle.ge_model_value.specs.Pieces.{with_one_number, each_number_once};
+ghost use Rattle.ge_model_rows.specs.Pieces.{with_one_number, each_number_once};
 ghost use Rattle.ge_deleting.specs.Once.{HasMet};
 
 use ge_rows::List;

@@ -1,6 +1,6 @@
 // The targets of qdel and qmod: what refuses them, and the jobs that they name.
 ghost use Rattle.std.specs.Prelude.{◌≡◌, ◌++◌, IfOk, OnOk, flat_map};
-ghost use Rattle.ge_model_value.specs.Faults.{after_faults};
+ghost use Rattle.ge_model_rows.specs.Faults.{after_faults};
 ghost use Rattle.ge_model_core.specs.Targets.{target_faults, live_named, named_jobs};
 ghost use Rattle.ge_deleting.specs.Counts.{shown};
 

@@ -10,8 +10,8 @@ use Rattle.std.proofs.lemmas.List.Sums.{fold-append}
 use Rattle.std.proofs.lemmas.Grind.{flat_map-append}
 use Rattle.ge_collections.specs.Keyed.{text_eq}
 use Rattle.ge_model_bookings.specs.Bookings.{same_limit}
-use Rattle.ge_model_value.specs.Complexes.{complex_at, is_consumable, has_consumable}
-use Rattle.ge_model_site.specs.Queues.{attr_at}
+use Rattle.ge_model_rows.specs.Complexes.{complex_at, is_consumable, has_consumable}
+use Rattle.ge_model_rows.specs.Queues.{attr_at}
 use Rattle.ge_model_rows.specs.ClusterRows.{Cluster}
 use Rattle.ge_model_rows.specs.HostRows.{HostRow, Groups, InstanceId}
 use Rattle.ge_model_rows.specs.JobRows.{Job}

@@ -14,8 +14,8 @@ use Rattle.std.proofs.lemmas.List.Kept.{IsStrictlySortedBy-filter}
 use Rattle.std.proofs.lemmas.List.Sums.{fold-append}
 use Rattle.ge_collections.specs.Keyed.{text_cmp, text_eq, at_text}
 use Rattle.ge_model_bookings.specs.Bookings.{same_limit}
-use Rattle.ge_model_value.specs.Complexes.{is_consumable}
-use Rattle.ge_model_site.specs.Queues.{attr_at}
+use Rattle.ge_model_rows.specs.Complexes.{is_consumable}
+use Rattle.ge_model_rows.specs.Queues.{attr_at}
 use Rattle.ge_model_rows.specs.ClusterRows.{Cluster}
 use Rattle.ge_model_rows.specs.HostRows.{HostRow, Groups, InstanceId}
 use Rattle.ge_model_rows.specs.JobRows.{Job, PeRequest}

@@ -8,7 +8,7 @@ use Rattle.std.specs.declared.cmp.Ordering.TheVariants.{Less}
 use Rattle.std.proofs.lemmas.Cmp.{eq_by_cmp_equiv, nat_list_cmp_total}
 use Rattle.std.proofs.lemmas.Bool.{cond-false}
 use Rattle.ge_collections.specs.Keyed.{text_cmp, text_eq, at_text}
-use Rattle.ge_model_site.specs.Queues.{attr_at, slots_at}
+use Rattle.ge_model_rows.specs.Queues.{attr_at, slots_at}
 use Rattle.ge_model_rows.specs.ClusterRows.{Cluster}
 use Rattle.ge_model_rows.specs.HostRows.{HostRow, Groups, InstanceId}
 use Rattle.ge_model_rows.specs.QueueRows.{QueueRow}

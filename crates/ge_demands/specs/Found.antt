@@ -5,7 +5,7 @@ use Rattle.std.specs.List.{list_any}
 use Rattle.std.specs.List.Sorted.{IsStrictlySortedBy}
 use Rattle.ge_collections.specs.Keyed.{text_eq, text_cmp, at_text}
 use Rattle.ge_model_bookings.specs.Bookings.{same_limit}
-use Rattle.ge_model_value.specs.Values.{amount_in}
+use Rattle.ge_model_rows.specs.Values.{amount_in}
 use Rattle.ge_model_rows.specs.ClusterRows.{Cluster}
 use Rattle.ge_model_rows.specs.HostRows.{Groups, HostRow, InstanceId}
 use Rattle.ge_model_rows.specs.JobRows.{Job}
@@ -14,7 +14,7 @@ use Rattle.ge_model_rows.specs.ScheduleRows.{LimitId, Instance, Host, Global, De
 use Rattle.ge_model_rows.specs.ValueRows.{Value, ComplexDef}
 use Rattle.ge_model_place.specs.Limits.{Counted as Limited, capacity_of, counted, instance_limits, host_limits, pe_limits}
 use Rattle.ge_model_place.specs.Opening.{global_name, slots_name}
-use Rattle.ge_model_site.specs.Queues.{attr_at}
+use Rattle.ge_model_rows.specs.Queues.{attr_at}
 
 -- what is asked of a consumable for one slot, or else its default
 abbrev pub amount_or_default : ComplexDef → Option Value → ℕ

@@ -5,7 +5,7 @@ ghost use Rattle.std.specs.Map.{keys_of};
 ghost use Rattle.std.specs.Option.{option_copied};
 ghost use Rattle.ge_collections.specs.Keyed.{at_text, at_number};
 ghost use Rattle.ge_model_rows.specs.ScheduleRows.{Advance as Reserved, Global as Everywhere, Host, Instance, Pe};
-ghost use Rattle.ge_model_site.specs.Queues.{attr_at};
+ghost use Rattle.ge_model_rows.specs.Queues.{attr_at};
 ghost use Rattle.ge_model_place.specs.Opening.{global_name, slots_name};
 ghost use Rattle.ge_model_place.specs.Limits.{advance_capacity, configured_limits, counted, counted_at, each_limit_once, host_limits, instance_limits, pe_limits};
 ghost use Rattle.ge_demands.specs.Counts.{all_counted, counted_as};

@@ -1,1 +1,2 @@
 pub mod Loopback
+pub mod Times

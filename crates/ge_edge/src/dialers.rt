@@ -1,39 +1,63 @@
 // A door that dials.
-ghost use Rattle.std.specs.Prelude.{◌≡◌, None};
+ghost use Rattle.std.specs.Prelude.{◌≡◌, None, IfOk, OnOk};
+ghost use Rattle.ge_edge.specs.Times.{HasTimes};
 
 use crate::links::TcpLink;
 use crate::loopback::{counted, link_over, loopback};
+use crate::timed::TimedStream;
+use crate::waits::Waits;
 use ge_outside::{Door, Failed};
-use std::net::Net;
+use std::io;
+use std::net::{Net, TcpStream};
+use std::time::Clock;
 
 /// A door that makes connections to a port of 127.0.0.1: each `accept` dials it. Each failing one raises its count of
 /// faults by one.
 #[derive(Drop)]
-pub struct TcpDialer<'a, R: Net> {
+pub struct TcpDialer<'a, R: Net<Stream = TcpStream>, C: Clock> {
     net: &'a R,
+    clock: &'a C,
     port: u16,
+    waits: Waits,
     door_faults: u64,
     link_faults: u64,
 }
 
-impl<'a, R: Net> TcpDialer<'a, R> {
-    /// A door that dials this port.
-    pub fn new(net: &'a R, port: u16) -> Self
+impl<'a, R: Net<Stream = TcpStream>, C: Clock> TcpDialer<'a, R, C> {
+    /// A door that dials this port, and whose connections wait this long.
+    pub fn new(net: &'a R, clock: &'a C, port: u16, waits: Waits) -> Self
         ensures port { result.port ≡ port }
+        ensures waits { result.waits ≡ waits }
         ensures door_faults { result.door_faults ≡ 0 }
         ensures link_faults { result.link_faults ≡ 0 }
     {
         TcpDialer {
             net,
+            clock,
             port,
+            waits,
             door_faults: 0,
             link_faults: 0,
         }
     }
 }
 
-impl<'a, R: Net> Door for TcpDialer<'a, R> {
-    type Link = TcpLink<R::Stream>;
+// A new connection to a port.
+fn new_link<'a, R: Net<Stream = TcpStream>, C: Clock>(
+    net: &R,
+    clock: &'a C,
+    port: u16,
+    waits: Waits,
+) -> io::Result<TcpLink<TimedStream<'a, C>>>
+    ensures times { OnOk result (HasTimes waits) }
+    ensures read_faults { IfOk result (λ link. link.read_faults ≡ 0) }
+    ensures write_faults { IfOk result (λ link. link.write_faults ≡ 0) }
+{
+    link_over(net.connect(loopback(port))?, clock, waits)
+}
+
+impl<'a, R: Net<Stream = TcpStream>, C: Clock> Door for TcpDialer<'a, R, C> {
+    type Link = TcpLink<TimedStream<'a, C>>;
 
     ghost coming = { λ _. None };
 
@@ -44,9 +68,9 @@ impl<'a, R: Net> Door for TcpDialer<'a, R> {
     ghost link_faults = { λ d. d.link_faults };
 
     /// A new connection to the port.
-    fn accept(&mut self) -> Result<TcpLink<R::Stream>, Failed> {
-        match self.net.connect(loopback(self.port)) {
-            Ok(stream) => Ok(link_over(stream)),
+    fn accept(&mut self) -> Result<TcpLink<TimedStream<'a, C>>, Failed> {
+        match new_link(self.net, self.clock, self.port, self.waits) {
+            Ok(link) => Ok(link),
             Err(_) => {
                 self.door_faults = self.door_faults.saturating_add(1);
                 Err(Failed)
@@ -55,7 +79,7 @@ impl<'a, R: Net> Door for TcpDialer<'a, R> {
     }
 
     /// Closes the connection. It doesn't fail.
-    fn close(&mut self, link: TcpLink<R::Stream>) -> Result<(), Failed> {
+    fn close(&mut self, link: TcpLink<TimedStream<'a, C>>) -> Result<(), Failed> {
         self.link_faults = counted(self.link_faults, &link);
         Ok(())
     }

@@ -6,25 +6,30 @@ ghost use Rattle.ge_outside.specs.Faults.{Rose};
 use crate::sinks::write_once;
 use crate::sources::read_once;
 use ge_outside::{Disk, Failed};
-use std::fs::{Files, OpenFile};
+use std::fs::{File, Files};
 use std::io::{ErrorKind, Read, Seek, SeekFrom, Write};
+use std::os::unix::fs::OpenOptionsExt;
 use std::{fs, io};
 
 /// A length above this is none that a disk has.
 const LONGEST: u64 = 1 << 63;
 
-/// A file as a disk. It is opened at the first call, and made where it is missing. Each call that fails raises its count
-/// of faults by one.
+/// The mode of a file that is made: its owner alone may read and write it.
+const OWNERS: u32 = 0o600;
+
+/// A file as a disk. It is opened at the first call, and made where it is missing. From then on it is locked for this disk
+/// alone, as long as the disk is held, and no longer than the process runs: where another has the lock the call fails, and
+/// has read and written nothing. Each call that fails raises its count of faults by one.
 #[derive(Drop)]
-pub struct FileDisk<'a, R: Files> {
+pub struct FileDisk<'a, R: Files<File = File>> {
     files: &'a R,
     path: String,
-    file: Option<R::File>,
+    file: Option<File>,
     faults: u64,
     syncs: u64,
 }
 
-impl<'a, R: Files> FileDisk<'a, R> {
+impl<'a, R: Files<File = File>> FileDisk<'a, R> {
     /// The file at a path, which no call has touched yet.
     pub fn new(files: &'a R, path: String) -> Self
         ensures path { result.path ≡ path }
@@ -41,11 +46,13 @@ impl<'a, R: Files> FileDisk<'a, R> {
     }
 }
 
-// Opens a file, and makes it where it is missing. Its name outlasts a stop from then on, so the folder is synced too.
-fn open_file<R: Files>(files: &R, path: &str) -> io::Result<R::File> {
+// Opens a file, and makes it where it is missing, and locks it. Its name outlasts a stop from then on, so the folder is
+// synced too.
+fn open_file<R: Files<File = File>>(files: &R, path: &str) -> io::Result<File> {
     let mut options = fs::OpenOptions::new();
-    options.read(true).write(true).create(true);
+    options.read(true).write(true).create(true).mode(OWNERS);
     let file = options.open(files, path)?;
+    file.try_lock()?;
     let folder = fs::open(files, folder_of(path))?;
     folder.sync_all()?;
     Ok(file)
@@ -61,7 +68,11 @@ fn folder_of(path: &str) -> &str {
 }
 
 // Opens the file, unless an earlier call has.
-fn open_once<R: Files>(files: &R, path: &str, file: &mut Option<R::File>) -> io::Result<()> {
+fn open_once<R: Files<File = File>>(
+    files: &R,
+    path: &str,
+    file: &mut Option<File>,
+) -> io::Result<()> {
     if file.is_none() {
         *file = Some(open_file(files, path)?);
     }
@@ -73,7 +84,11 @@ fn no_file() -> io::Error {
     io::Error::from(ErrorKind::NotFound)
 }
 
-fn measure<R: Files>(files: &R, path: &str, file: &mut Option<R::File>) -> io::Result<u64> {
+fn measure<R: Files<File = File>>(
+    files: &R,
+    path: &str,
+    file: &mut Option<File>,
+) -> io::Result<u64> {
     open_once(files, path, file)?;
     let Some(file) = file else {
         return Err(no_file());
@@ -102,10 +117,10 @@ fn fill<F: Read>(file: &mut F, buf: &mut [u8]) -> io::Result<usize>
     Ok(filled)
 }
 
-fn read_from<R: Files>(
+fn read_from<R: Files<File = File>>(
     files: &R,
     path: &str,
-    file: &mut Option<R::File>,
+    file: &mut Option<File>,
     at: u64,
     buf: &mut [u8],
 ) -> io::Result<usize>
@@ -136,10 +151,10 @@ fn put<F: Write>(file: &mut F, piece: &[u8]) -> io::Result<()>
     Ok(())
 }
 
-fn write_to<R: Files>(
+fn write_to<R: Files<File = File>>(
     files: &R,
     path: &str,
-    file: &mut Option<R::File>,
+    file: &mut Option<File>,
     at: u64,
     piece: &[u8],
 ) -> io::Result<()> {
@@ -151,7 +166,11 @@ fn write_to<R: Files>(
     put(file, piece)
 }
 
-fn sync_file<R: Files>(files: &R, path: &str, file: &mut Option<R::File>) -> io::Result<()> {
+fn sync_file<R: Files<File = File>>(
+    files: &R,
+    path: &str,
+    file: &mut Option<File>,
+) -> io::Result<()> {
     open_once(files, path, file)?;
     let Some(file) = file else {
         return Err(no_file());
@@ -168,7 +187,7 @@ fn failed(faults: &mut u64) -> Failed
     Failed
 }
 
-impl<R: Files> Disk for FileDisk<'_, R> {
+impl<R: Files<File = File>> Disk for FileDisk<'_, R> {
     ghost use Rattle.std.specs.Prelude.{[]};
 
     ghost told = { λ _. [] };

@@ -1,7 +1,7 @@
 -- A day of a small site: hosts, a group, an environment, two queues and a quota, and what is answered to twelve jobs.
 use Rattle.std.specs.Prelude.{◌≡◌, ◌++◌, ℕ, List, [], ◌∷◌, codes, refl}
 use Rattle.ge_model_rows.specs.ClusterRows.{Cluster}
-use Rattle.ge_model_site.specs.Groups.{expanded}
+use Rattle.ge_model_rows.specs.Groups.{expanded}
 use Rattle.ge_model_jobs.proofs.Samples.{task, instance}
 use Rattle.ge_model_order.specs.Priority.{prios_at, order_of, order_of_runs}
 use Rattle.ge_model_place.specs.InstanceOrder.{instance_order}

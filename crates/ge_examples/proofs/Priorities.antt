@@ -1,7 +1,7 @@
 -- Priority, urgency and tickets.
 use Rattle.std.specs.Prelude.{◌≡◌, ◌++◌, ℕ, List, ◌∷◌, [], codes, refl}
 use Rattle.ge_model_rows.specs.ClusterRows.{Cluster}
-use Rattle.ge_model_value.specs.Complexes.{opening}
+use Rattle.ge_model_rows.specs.Complexes.{opening}
 use Rattle.ge_model_jobs.specs.Usage.{usage_at}
 use Rattle.ge_model_order.specs.Candidates.{candidates}
 use Rattle.ge_model_order.specs.Priority.{all_tickets_of, order_of_runs}

@@ -1,6 +1,6 @@
 -- Each refusal, by one command that meets it; and that each leaves the cluster as it was.
 use Rattle.std.specs.Prelude.{◌≡◌, ◌++◌, replicate, codes, refl}
-use Rattle.ge_model_value.specs.Complexes.{opening}
+use Rattle.ge_model_rows.specs.Complexes.{opening}
 use Rattle.ge_model_core.specs.Scripts.{written_for, left_by}
 
 -- -N has a word

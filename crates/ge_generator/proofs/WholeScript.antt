@@ -3,8 +3,8 @@ use Rattle.std.proofs.Common.{◌≡◌, ℕ, zero, suc, ◌+◌, ◌*◌, ◌<�
 use Rattle.std.specs.Prelude.{map, flat_map}
 use Rattle.std.proofs.lemmas.Bool.{true≢false}
 use Rattle.std.proofs.lemmas.List.Folds.{list_any-append}
-use Rattle.ge_model_value.specs.Pieces.{is_digits, has_byte}
-use Rattle.ge_model_tasks.proofs.Digits.{decimal_digits, all_digits, digits_without}
+use Rattle.ge_model_rows.specs.Pieces.{is_digits, has_byte}
+use Rattle.ge_model_rows.proofs.Digits.{decimal_digits, all_digits, digits_without}
 use Rattle.ge_model_script.specs.Lines.{is_line_feed, put_byte, lines_of, is_header, put_line, cut_requests, requests_in, requests_of}
 use Rattle.ge_model_script.specs.Events.{event_of, events_of}
 use Rattle.ge_script.proofs.FirstRequest.{rest_of_requests}

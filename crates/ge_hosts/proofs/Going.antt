@@ -2,8 +2,8 @@
 use Rattle.std.proofs.Common.{length, arith, Option, None, IfSome, IfNone, MatchOption, ◌≡◌, ℕ, suc, Bool, true, false, true≢false, List, [], ◌∷◌, ◌++◌, fold, Some, refl, ap, ◌∙◌, sym, append_assoc}
 use Rattle.std.proofs.lemmas.List.{map-append, append-nil}
 use Rattle.ge_collections.specs.Keyed.{at_text}
-use Rattle.ge_model_value.specs.Pieces.{is_one_of}
-use Rattle.ge_model_site.specs.Groups.{Walk, is_group, meets_group, through_entry, through_group}
+use Rattle.ge_model_rows.specs.Pieces.{is_one_of}
+use Rattle.ge_model_rows.specs.Groups.{Walk, is_group, meets_group, through_entry, through_group}
 use Rattle.ge_hosts.specs.declared.way.Place.{Place}
 use Rattle.ge_hosts.specs.Walks.{names_on, gone_back, outcome}
 

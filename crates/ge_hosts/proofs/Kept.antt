@@ -4,7 +4,7 @@ use Rattle.std.proofs.lemmas.List.{map-append}
 use Rattle.std.specs.Borrow.{Bor}
 use Rattle.std.specs.List.{list_any}
 use Rattle.std.specs.Cmp.Lexicographic.{pointwise}
-use Rattle.ge_model_value.specs.Pieces.{is_one_of, with_text}
+use Rattle.ge_model_rows.specs.Pieces.{is_one_of, with_text}
 
 -- a text is among the texts that are lent where it is among what they are
 pub among_lent : (text : List ℕ) (lent : List (Bor (List ℕ))) → list_any (λ k. pointwise nat_eq text k.now) lent ≡ is_one_of text (map (λ k. k.now) lent)

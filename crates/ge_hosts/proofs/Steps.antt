@@ -6,8 +6,8 @@ use Rattle.std.proofs.lemmas.Map.Text.{is_eq-slice_cmp}
 use Rattle.std.specs.BTreeMap.{is_at}
 use Rattle.std.specs.Map.{lookup}
 use Rattle.ge_collections.specs.Keyed.{at_text, text_cmp, text_eq}
-use Rattle.ge_model_value.specs.Pieces.{is_one_of, with_text}
-use Rattle.ge_model_site.specs.Groups.{Walk, meets_group}
+use Rattle.ge_model_rows.specs.Pieces.{is_one_of, with_text}
+use Rattle.ge_model_rows.specs.Groups.{Walk, meets_group}
 use Rattle.ge_hosts.specs.declared.way.Place.{Place}
 use Rattle.ge_hosts.specs.Walks.{steps_of_unmet, steps_back, steps_left}
 

@@ -1,6 +1,6 @@
 -- What a call that gathers hosts answers. Want of memory is always a free answer.
 use Rattle.std.specs.Prelude.{◌≡◌, ℕ, List, Result, Ok, Err}
-use Rattle.ge_model_site.specs.declared.GroupFault.{GroupFault}
+use Rattle.ge_model_rows.specs.declared.GroupFault.{GroupFault}
 use Rattle.ge_hosts.specs.declared.gathering.MembersFault.{MembersFault}
 use Rattle.ge_hosts.specs.declared.gathering.MembersFault.TheVariants.{Group, NoMemory}
 

@@ -1,8 +1,8 @@
 -- A walk through groups that keeps the way back in place of recursion. Each group on the way stands with the entries
 -- behind its name, and with how many groups more the way may lead through from there.
 use Rattle.std.specs.Prelude.{ℕ, ◌+◌, if◌then◌else◌, List, [], ◌∷◌, ◌++◌, length, map, fold}
-use Rattle.ge_model_site.specs.Groups.{Walk, through_entry, through_group}
-use Rattle.ge_model_value.specs.Pieces.{is_one_of}
+use Rattle.ge_model_rows.specs.Groups.{Walk, through_entry, through_group}
+use Rattle.ge_model_rows.specs.Pieces.{is_one_of}
 
 -- the groups that a way leads through
 abbrev pub names_on : List (List ℕ × List (List ℕ) × ℕ) → List (List ℕ)

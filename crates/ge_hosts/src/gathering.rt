@@ -2,12 +2,12 @@
 
 ghost use Rattle.std.specs.Prelude.{◌≡◌, IfOk, OnOk};
 ghost use Rattle.ge_collections.specs.Keyed.{put_text};
-ghost use Rattle.ge_model_site.specs.Groups.{walk_over, found_by, members_of, members_or_none, has_loop as some_loop, expanded};
+ghost use Rattle.ge_model_rows.specs.Groups.{walk_over, found_by, members_of, members_or_none, has_loop as some_loop, expanded};
 ghost use Rattle.ge_hosts.specs.Gathers.{Gathers};
 
 use crate::seen::Seen;
 use crate::walking::walk_through;
-use ge_model_site::GroupFault;
+use ge_model_rows::GroupFault;
 use ge_rows::{Cluster, Groups, List, Table, Text, Twin};
 use std::alloc::{AllocError, Global};
 
@@ -49,7 +49,7 @@ fn found(alloc: Global, seen: &Seen<'_>) -> Result<List<Text>, MembersFault>
 ///
 /// `NoSuch` exactly where a group that is reached is missing, and `Cycle` exactly where one reaches itself and none is
 /// missing: the first such name, depth first. `NoMemory` where there was no memory for the answer.
-#[tactic(auto, unfolding(ge_model_site::specs::Groups::members_of))]
+#[tactic(auto, unfolding(ge_model_rows::specs::Groups::members_of))]
 pub fn members(
     alloc: Global,
     groups: &Table<Text, List<Text>>,
@@ -63,7 +63,7 @@ pub fn members(
 }
 
 /// Whether some group reaches itself, whatever groups are missing (hostgroup): one walk over all.
-#[tactic(auto, unfolding(ge_model_site::specs::Groups::has_loop))]
+#[tactic(auto, unfolding(ge_model_rows::specs::Groups::has_loop))]
 pub fn has_loop(alloc: Global, groups: &Table<Text, List<Text>>) -> Result<bool, AllocError>
     ensures { IfOk result (λ found. found ≡ some_loop groups.now) }
 {
@@ -103,7 +103,7 @@ fn add_members(
 }
 
 /// The members of every group; a group with a fault has none (hostgroup).
-#[tactic(auto, unfolding(ge_model_site::specs::Groups::expanded))]
+#[tactic(auto, unfolding(ge_model_rows::specs::Groups::expanded))]
 pub fn expand(alloc: Global, cluster: &Cluster) -> Result<Groups, AllocError>
     ensures { IfOk result (λ groups. groups ≡ expanded cluster.now) }
 {

@@ -1,6 +1,6 @@
 //! Host groups: which hosts they stand for, or why they have none (hostgroup).
 //!
-//! A group lists hosts and other groups, whose names begin with `@`. Contracts say by `ge_model_site` what each call
+//! A group lists hosts and other groups, whose names begin with `@`. Contracts say by `ge_model_rows` what each call
 //! gives.
 //!
 //! - [`members`]: the hosts of a group, or a [`MembersFault`]; [`expand`]: those of every group; [`has_loop`]: whether a

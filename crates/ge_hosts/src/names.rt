@@ -1,7 +1,7 @@
 //! Different texts, in the order in which they came.
 
 ghost use Rattle.std.specs.Prelude.{◌≡◌, [], OnOk, IfOk};
-ghost use Rattle.ge_model_value.specs.Pieces.{is_one_of, with_text};
+ghost use Rattle.ge_model_rows.specs.Pieces.{is_one_of, with_text};
 
 use ge_rows::{List, Text};
 use indexmap::IndexSet;

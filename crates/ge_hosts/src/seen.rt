@@ -1,8 +1,8 @@
 //! What a walk through groups has met.
 
 ghost use Rattle.std.specs.Prelude.{◌≡◌, OnOk};
-ghost use Rattle.ge_model_value.specs.Pieces.{is_one_of};
-ghost use Rattle.ge_model_site.specs.Groups.{before_walk, meets_host, meets_group, meets_missing, meets_cycle};
+ghost use Rattle.ge_model_rows.specs.Pieces.{is_one_of};
+ghost use Rattle.ge_model_rows.specs.Groups.{before_walk, meets_host, meets_group, meets_missing, meets_cycle};
 
 use crate::names::Names;
 use ge_rows::Text;
@@ -21,7 +21,7 @@ pub(crate) struct Seen<'a> {
 
 impl<'a> Model for Seen<'a> {
     ghost use Rattle.std.specs.Option.{option_map};
-    ghost use Rattle.ge_model_site.specs.Groups.{Walk};
+    ghost use Rattle.ge_model_rows.specs.Groups.{Walk};
 
     ghost Value = { Walk };
 

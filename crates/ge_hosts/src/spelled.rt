@@ -1,7 +1,7 @@
 //! Groups of hosts that are spelled out.
 
 ghost use Rattle.std.specs.Prelude.{◌≡◌};
-ghost use Rattle.ge_model_site.specs.Groups.{is_group, hosts_of as hosts_named, group_has as has_host};
+ghost use Rattle.ge_model_rows.specs.Groups.{is_group, hosts_of as hosts_named, group_has as has_host};
 
 use ge_pieces::is_among;
 use ge_rows::{Groups, Text};

@@ -3,7 +3,7 @@
 //! Each group is passed once, and each entry of a passed group is looked at once.
 
 ghost use Rattle.std.specs.Prelude.{◌≡◌, ◌≤◌, ◌<◌, [], suc, length, IfOk, OnOk, MatchOption};
-ghost use Rattle.ge_model_site.specs.Groups.{through_entry, through_group};
+ghost use Rattle.ge_model_rows.specs.Groups.{through_entry, through_group};
 ghost use Rattle.ge_hosts.specs.Walks.{names_on, outcome, steps_left};
 
 use crate::seen::Seen;

@@ -1,7 +1,7 @@
 //! The groups that a walk leads through, and where it goes on behind each.
 
 ghost use Rattle.std.specs.Prelude.{◌≡◌, ◌++◌, ◌∷◌, [], ℕ, List, false, map, OnOk, IfNone, IfSome};
-ghost use Rattle.ge_model_value.specs.Pieces.{is_one_of};
+ghost use Rattle.ge_model_rows.specs.Pieces.{is_one_of};
 ghost use Rattle.ge_hosts.specs.Walks.{names_on};
 
 use ge_rows::Text;

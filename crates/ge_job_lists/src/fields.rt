@@ -2,9 +2,9 @@
 
 ghost use Rattle.std.specs.Prelude.{◌≡◌, ◌++◌, ◌∷◌, [], IfOk, OnOk, codes, decimal, map};
 ghost use Rattle.std.specs.Fmt.{signed_decimal};
-ghost use Rattle.ge_model_value.specs.Complexes.{pair_text};
-ghost use Rattle.ge_model_value.specs.Pieces.{list_text};
-ghost use Rattle.ge_model_tasks.specs.SetText.{set_text};
+ghost use Rattle.ge_model_rows.specs.Complexes.{pair_text};
+ghost use Rattle.ge_model_rows.specs.Pieces.{list_text};
+ghost use Rattle.ge_model_rows.specs.SetText.{set_text};
 ghost use Rattle.ge_model_jobs.specs.Holds.{live_tasks, running_tasks};
 ghost use Rattle.ge_ranges.specs.Forming.{is_rising};
 ghost use Rattle.ge_model_report.specs.JobFields.{field_line, hold_letter, hold_text, job_fields, one_listing, or_none, pe_text};

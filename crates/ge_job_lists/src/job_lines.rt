@@ -3,7 +3,7 @@
 ghost use Rattle.std.specs.Prelude.{◌≡◌, ◌++◌, ◌∷◌, [], IfOk, OnOk, codes, decimal, map};
 ghost use Rattle.std.specs.List.{list_any};
 ghost use Rattle.ge_model_jobs.specs.Holds.{is_job_held, is_live_job};
-ghost use Rattle.ge_model_tasks.specs.Spans.{one};
+ghost use Rattle.ge_model_rows.specs.Spans.{one};
 ghost use Rattle.ge_model_report.specs.Grants.{worded};
 ghost use Rattle.ge_model_report.specs.JobLines.{free_waiting, held_waiting, job_lines, least_slots, pending_lines, running_line, running_state, tasks_text};
 

@@ -4,9 +4,9 @@ use Rattle.std.specs.List.{list_all}
 use Rattle.std.proofs.lemmas.List.Folds.{list_all-append}
 use Rattle.std.proofs.lemmas.List.Sums.{fold-append}
 use Rattle.ge_model_rows.specs.TaskRows.{TaskSpan, is_form}
-use Rattle.ge_model_tasks.specs.Sets.{has_number, union, meet, difference}
-use Rattle.ge_model_tasks.proofs.Together.{union_form, union_has, meet_form, meet_has, difference_form, difference_has}
-use Rattle.ge_model_tasks.proofs.Unique.{one_form}
+use Rattle.ge_model_rows.specs.Sets.{has_number, union, meet, difference}
+use Rattle.ge_model_rows.proofs.Together.{union_form, union_has, meet_form, meet_has, difference_form, difference_has}
+use Rattle.ge_model_rows.proofs.Unique.{one_form}
 
 pub one_more : (begun set : List TaskSpan) (further new : List (List TaskSpan)) → new ≡ further ++ set ∷ [] → fold union begun new ≡ union (fold union begun further) set
 one_more begun set further new is = ap (λ (sets : List (List TaskSpan)). fold union begun sets) is ∙ fold-append union begun further (set ∷ [])

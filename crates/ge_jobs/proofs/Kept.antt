@@ -8,9 +8,9 @@ use Rattle.std.proofs.lemmas.Bool.{eqb-false, true≢false, eq-eqb}
 use Rattle.ge_collections.specs.Keyed.{at_number, drop_number}
 use Rattle.ge_model_rows.specs.JobRows.{Job}
 use Rattle.ge_model_rows.specs.TaskRows.{TaskSpan, is_form}
-use Rattle.ge_model_value.specs.Pieces.{is_empty}
-use Rattle.ge_model_tasks.specs.Sets.{with_number, has_number}
-use Rattle.ge_model_tasks.proofs.Sets.{with_number_has}
+use Rattle.ge_model_rows.specs.Pieces.{is_empty}
+use Rattle.ge_model_rows.specs.Sets.{with_number, has_number}
+use Rattle.ge_model_rows.proofs.Sets.{with_number_has}
 use Rattle.ge_model_jobs.specs.declared.After.{After}
 use Rattle.ge_model_jobs.specs.declared.After.TheVariants as fate
 use Rattle.ge_model_jobs.specs.Ending.{has_no_task, gone, moved, without_ended}

@@ -6,12 +6,12 @@ use Rattle.std.specs.Map.{keys_of}
 use Rattle.std.proofs.lemmas.Bool.{eqb-true, eq-eqb}
 use Rattle.ge_model_rows.specs.JobRows.{Job, Running}
 use Rattle.ge_model_rows.specs.TaskRows.{TaskSpan, is_form}
-use Rattle.ge_model_tasks.specs.Sets.{has_number, set_of, union, meet, difference}
-use Rattle.ge_model_tasks.proofs.Sets.{form_rises}
-use Rattle.ge_model_tasks.proofs.Merged.{above_low}
-use Rattle.ge_model_tasks.proofs.Numbers.{Rising, is_among, set_of_form, set_of_has}
-use Rattle.ge_model_tasks.proofs.Together.{union_form, union_has, meet_form, meet_has, difference_form, difference_has}
-use Rattle.ge_model_tasks.proofs.Unique.{one_form}
+use Rattle.ge_model_rows.specs.Sets.{has_number, set_of, union, meet, difference}
+use Rattle.ge_model_rows.proofs.Sets.{form_rises}
+use Rattle.ge_model_rows.proofs.Merged.{above_low}
+use Rattle.ge_model_rows.proofs.Numbers.{Rising, is_among, set_of_form, set_of_has}
+use Rattle.ge_model_rows.proofs.Together.{union_form, union_has, meet_form, meet_has, difference_form, difference_has}
+use Rattle.ge_model_rows.proofs.Unique.{one_form}
 use Rattle.ge_ranges.proofs.Listed.{rises}
 use Rattle.ge_jobs.proofs.Rising.{rising_keys}
 use Rattle.ge_model_jobs.specs.Holds.{holding_tasks}

@@ -4,7 +4,7 @@ use Rattle.ge_collections.specs.Keyed.{put_number}
 use Rattle.ge_model_rows.specs.JobRows.{Job}
 use Rattle.ge_model_rows.specs.ScheduleRows.{Start}
 use Rattle.ge_rows.specs.JobShort.{job_labels}
-use Rattle.ge_model_tasks.specs.Sets.{has_number, without_number}
+use Rattle.ge_model_rows.specs.Sets.{has_number, without_number}
 use Rattle.ge_model_jobs.specs.declared.After.{After}
 use Rattle.ge_model_jobs.specs.declared.After.TheVariants as fate
 use Rattle.ge_model_jobs.specs.Starting.{running_from, with_start}

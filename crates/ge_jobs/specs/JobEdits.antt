@@ -7,7 +7,7 @@ use Rattle.ge_model_rows.specs.ValueRows.{Value}
 use Rattle.ge_rows.specs.declared.marks.JobMark.{JobMark}
 use Rattle.ge_rows.specs.declared.marks.MarkSort.TheVariants as sort
 use Rattle.ge_rows.specs.Marks.{mark_of, project_marks, advance_marks, pe_marks, attribute_mark, task_marks, task_marks_at}
-use Rattle.ge_model_tasks.specs.Sets.{has_number}
+use Rattle.ge_model_rows.specs.Sets.{has_number}
 use Rattle.ge_model_jobs.specs.declared.After.{After}
 use Rattle.ge_model_jobs.specs.declared.After.TheVariants as after
 use Rattle.ge_model_jobs.specs.Starting.{running_from}

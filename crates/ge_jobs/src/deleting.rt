@@ -4,7 +4,7 @@ ghost use Rattle.std.specs.Map.{keys_of};
 ghost use Rattle.ge_collections.specs.Keyed.{drop_number};
 ghost use Rattle.ge_model_jobs.specs.Picks.{names_task};
 ghost use Rattle.ge_model_jobs.specs.Ending.{has_no_task, without_picked, is_unnamed, marked, run_on, lose_tasks};
-ghost use Rattle.ge_model_value.specs.Pieces.{is_empty as has_nothing};
+ghost use Rattle.ge_model_rows.specs.Pieces.{is_empty as has_nothing};
 ghost use Rattle.ge_jobs.specs.Deletions.{deleting, mark_number, marks_if_named, lost_by_delete, without_spent};
 
 use crate::asking::{JobTable, get};

@@ -3,7 +3,7 @@ ghost use Rattle.std.specs.Prelude.{◌≡◌, ◌&&◌, ◌==◌, IfOk, OnOk, O
 ghost use Rattle.ge_collections.specs.Keyed.{drop_number};
 ghost use Rattle.ge_rows.specs.Marks.{task_marks_at};
 ghost use Rattle.ge_model_jobs.specs.Ending.{has_no_task, without_ended, runs_in, ended};
-ghost use Rattle.ge_model_value.specs.Pieces.{is_empty as has_nothing};
+ghost use Rattle.ge_model_rows.specs.Pieces.{is_empty as has_nothing};
 ghost use Rattle.ge_jobs.specs.JobEdits.{is_gone_with};
 
 use crate::asking::{JobTable, get};

@@ -1,7 +1,7 @@
 // Sets of tasks that targets of one job name, one after the other.
 ghost use Rattle.std.specs.Prelude.{◌≡◌, IfOk, IsTrue, fold};
 ghost use Rattle.ge_model_rows.specs.TaskRows.{is_form};
-ghost use Rattle.ge_model_tasks.specs.Sets.{union as union_of, meet as meet_of, difference as difference_of};
+ghost use Rattle.ge_model_rows.specs.Sets.{union as union_of, meet as meet_of, difference as difference_of};
 
 use ge_ranges::difference;
 use ge_rows::{List, TaskSet, Twin};
@@ -20,7 +20,7 @@ impl Model for Gathered {
     ghost use Rattle.std.specs.Prelude.{List, fold, IsTrue};
     ghost use Rattle.std.specs.List.{list_all};
     ghost use Rattle.ge_model_rows.specs.TaskRows.{TaskSpan, is_form};
-    ghost use Rattle.ge_model_tasks.specs.Sets.{union};
+    ghost use Rattle.ge_model_rows.specs.Sets.{union};
 
     ghost Value = { List TaskSpan };
 

@@ -1,7 +1,7 @@
 // The tasks of a job that targets name, in place of all tasks that they name.
 ghost use Rattle.std.specs.Prelude.{◌≡◌, Bool, IfOk, filter, Some};
 ghost use Rattle.std.specs.Option.{option_map};
-ghost use Rattle.ge_model_tasks.specs.Sets.{meet as meet_of};
+ghost use Rattle.ge_model_rows.specs.Sets.{meet as meet_of};
 ghost use Rattle.ge_model_jobs.specs.Holds.{holding_tasks as holding_of};
 ghost use Rattle.ge_model_jobs.specs.Ending.{without_picked, is_named, cleared as cleared_of};
 

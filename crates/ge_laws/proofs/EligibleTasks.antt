@@ -4,9 +4,9 @@ use Rattle.std.specs.Prelude.{nat_lt}
 use Rattle.ge_collections.specs.Keyed.{at_number}
 use Rattle.ge_model_rows.specs.ClusterRows.{Cluster}
 use Rattle.ge_model_rows.specs.JobRows.{Job}
-use Rattle.ge_model_tasks.specs.Sets.{numbers_of}
-use Rattle.ge_model_tasks.proofs.Numbers.{Rising, numbers_rise}
-use Rattle.ge_model_tasks.proofs.Sets.{form_rises}
+use Rattle.ge_model_rows.specs.Sets.{numbers_of}
+use Rattle.ge_model_rows.proofs.Numbers.{Rising, numbers_rise}
+use Rattle.ge_model_rows.proofs.Sets.{form_rises}
 use Rattle.ge_model_jobs.specs.Holds.{is_job_held, is_task_held, free_tasks, first_tasks, eligible_of, eligible_tasks}
 use Rattle.ge_model_jobs.specs.Orderly.{IsOrderly, AllOrderly, IsOrdered}
 use Rattle.ge_model_jobs.proofs.HeldTasks.{free_asked}

@@ -12,8 +12,8 @@ use Rattle.std.proofs.lemmas.List.Sums.{sum_by-append, sum_by-cons}
 use Rattle.ge_collections.specs.Keyed.{at_number}
 use Rattle.ge_model_rows.specs.ClusterRows.{Cluster}
 use Rattle.ge_model_rows.specs.ScheduleRows.{Prio}
-use Rattle.ge_model_value.specs.Pieces.{is_empty}
-use Rattle.ge_model_tasks.proofs.Numbers.{Rising, is_among, among_above}
+use Rattle.ge_model_rows.specs.Pieces.{is_empty}
+use Rattle.ge_model_rows.proofs.Numbers.{Rising, is_among, among_above}
 use Rattle.ge_model_jobs.specs.Holds.{eligible_of, eligible_tasks}
 use Rattle.ge_model_jobs.specs.Orderly.{has_key, KeysFrom, IsOrdered}
 use Rattle.ge_model_jobs.proofs.Keys.{key_above}

@@ -12,7 +12,7 @@ use Rattle.std.proofs.lemmas.List.Sorted.{All-permutation}
 use Rattle.ge_model_rows.specs.ClusterRows.{Cluster}
 use Rattle.ge_model_rows.specs.ScheduleRows.{Prio}
 use Rattle.ge_model_rows.specs.TaskRows.{TaskId}
-use Rattle.ge_model_tasks.proofs.Numbers.{Rising}
+use Rattle.ge_model_rows.proofs.Numbers.{Rising}
 use Rattle.ge_model_jobs.specs.Holds.{eligible_tasks}
 use Rattle.ge_model_jobs.specs.Orderly.{IsOrdered}
 use Rattle.ge_model_order.specs.Priority.{rank_cmp, rank_of, sorted_prios, prios_at, tasks_of, order_of}

@@ -10,11 +10,11 @@ use Rattle.ge_model_rows.specs.EventRows.{Event}
 use Rattle.ge_model_rows.specs.JobRows.{Job, Request, Advance}
 use Rattle.ge_model_rows.specs.PeopleRows.{ProjectRow}
 use Rattle.ge_model_rows.specs.ValueRows.{ComplexDef}
-use Rattle.ge_model_value.specs.Pieces.{pieces_at, before_byte}
-use Rattle.ge_model_value.specs.Faults.{when}
+use Rattle.ge_model_rows.specs.Pieces.{pieces_at, before_byte}
+use Rattle.ge_model_rows.specs.Faults.{when}
 use Rattle.ge_model_config.specs.Cited.{Read, has_name}
 use Rattle.ge_model_config.specs.Requests.{asked_text, asked_item, asked_read, with_asked, all_asked, range_read, pe_read, in_place, request_of, queues_of}
-use Rattle.ge_model_value.specs.Complexes.{complex_named}
+use Rattle.ge_model_rows.specs.Complexes.{complex_named}
 use Rattle.ge_model_grammar.specs.Options.{Given, option_words, has_option, slot_range_of}
 use Rattle.ge_model_core.specs.Altering.{alter_faults_of}
 use Rattle.ge_model_core.specs.Booking.{book_faults, unbook_faults_of}

@@ -7,7 +7,7 @@ use Rattle.ge_model_rows.specs.EntryRows.{ObjectKind}
 use Rattle.ge_model_rows.specs.PeopleRows.{ShareNode}
 use Rattle.ge_model_rows.specs.QueueRows.{Attr}
 use Rattle.ge_model_rows.specs.ValueRows.{Value, Kind, ComplexDef, infinity}
-use Rattle.ge_model_value.specs.Faults.{when}
+use Rattle.ge_model_rows.specs.Faults.{when}
 use Rattle.ge_model_config.specs.Named.{name_faults, absent_faults}
 use Rattle.std.specs.Prelude.{codes}
 use Rattle.ge_collections.specs.Keyed.{text_eq}
@@ -31,9 +31,9 @@ use Rattle.ge_model_grammar.specs.declared.ComplexLine.{ComplexLine}
 use Rattle.ge_model_grammar.specs.declared.NodeLines.{NodeLines}
 use Rattle.ge_model_grammar.specs.declared.RuleLine.{RuleLine}
 use Rattle.ge_model_grammar.specs.Bodies.{attribute_in}
-use Rattle.ge_model_value.specs.Complexes.{complex_at}
-use Rattle.ge_model_value.specs.Pieces.{before_byte, behind_byte, has_byte, list_items, trimmed}
-use Rattle.ge_model_value.specs.Values.{amount_in, value_of}
+use Rattle.ge_model_rows.specs.Complexes.{complex_at}
+use Rattle.ge_model_rows.specs.Pieces.{before_byte, behind_byte, has_byte, list_items, trimmed}
+use Rattle.ge_model_rows.specs.Values.{amount_in, value_of}
 use Rattle.std.specs.Int.{is_in_range}
 
 -- a refusal that isn't want of memory

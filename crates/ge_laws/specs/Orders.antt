@@ -8,7 +8,7 @@ use Rattle.ge_model_rows.specs.ClusterRows.{Cluster}
 use Rattle.ge_model_rows.specs.JobRows.{Job}
 use Rattle.ge_model_rows.specs.ScheduleRows.{Prio}
 use Rattle.ge_model_rows.specs.TaskRows.{TaskId}
-use Rattle.ge_model_tasks.specs.Sets.{numbers_of}
+use Rattle.ge_model_rows.specs.Sets.{numbers_of}
 use Rattle.ge_model_jobs.specs.Holds.{is_job_held, is_task_held, eligible_tasks}
 use Rattle.ge_model_order.specs.Priority.{prios_at, order_of}
 

@@ -7,8 +7,8 @@ use Rattle.ge_model_rows.specs.EntryRows.{Put, Item, ObjectKind}
 use Rattle.ge_model_rows.specs.EventRows.{Event}
 use Rattle.ge_model_rows.specs.ValueRows.{Value}
 use Rattle.ge_model_script.specs.Names.{is_name}
-use Rattle.ge_model_value.specs.Complexes.{complex_at}
-use Rattle.ge_model_value.specs.Pieces.{joined_by}
+use Rattle.ge_model_rows.specs.Complexes.{complex_at}
+use Rattle.ge_model_rows.specs.Pieces.{joined_by}
 use Rattle.ge_model_grammar.specs.declared.Body.{Body}
 use Rattle.ge_model_grammar.specs.Bodies.{body_of}
 use Rattle.ge_model_grammar.specs.Configuring.{is_group_name}

@@ -1,8 +1,8 @@
 -- Sets of task numbers in the words of their user.
 use Rattle.std.specs.Prelude.{◌≡◌, ◌≢◌, ℕ, ◌≤◌, true, List, []}
 use Rattle.ge_model_rows.specs.TaskRows.{TaskSpan, is_form}
-use Rattle.ge_model_tasks.specs.Ranges.{most_tasks, greatest_task}
-use Rattle.ge_model_tasks.specs.Sets.{has_number, count_of}
+use Rattle.ge_model_rows.specs.Ranges.{most_tasks, greatest_task}
+use Rattle.ge_model_rows.specs.Sets.{has_number, count_of}
 
 -- a set is spans in their one form: from the least number on, each span is the longest run of numbers with one same step
 abbrev pub IsSet : List TaskSpan → Type 0

@@ -10,9 +10,9 @@ ghost use Rattle.ge_collections.specs.Keyed.{at_number, text_eq};
 ghost use Rattle.ge_rows.specs.declared.entries.Pick.{Pick};
 ghost use Rattle.ge_rows.specs.declared.queues.Attr.{Attr};
 ghost use Rattle.ge_rows.specs.declared.tasks.TaskSpan.{TaskSpan};
-ghost use Rattle.ge_model_value.specs.Faults.{first_fault, sooner};
-ghost use Rattle.ge_model_site.specs.Groups.{is_group, group_has};
-ghost use Rattle.ge_model_site.specs.Queues.{attr_at};
+ghost use Rattle.ge_model_rows.specs.Faults.{first_fault, sooner};
+ghost use Rattle.ge_model_rows.specs.Groups.{is_group, group_has};
+ghost use Rattle.ge_model_rows.specs.Queues.{attr_at};
 ghost use Rattle.ge_model_jobs.specs.Ending.{without_picked};
 ghost use Rattle.ge_model_jobs.specs.Picks.{joined_picks, both_named, picks_task, is_joined_name, IsPick, ArePicks};
 ghost use Rattle.ge_model_jobs.specs.Serials.{running_with, met_with};
@@ -32,7 +32,7 @@ ghost use Rattle.ge_model_order.specs.Share.{share_tickets_of};
 ghost use Rattle.ge_model_order.specs.ShareRule.{share_tickets_by_rule};
 ghost use Rattle.ge_model_place.specs.Demands.{DemandsEach};
 ghost use Rattle.ge_model_script.specs.Lines.{has_long_line, lines_of};
-ghost use Rattle.ge_model_tasks.specs.Sets.{has_number};
+ghost use Rattle.ge_model_rows.specs.Sets.{has_number};
 
 /// Share tickets that are worked out by tables of the tree's nodes are those of the rule, in which each node asks the whole
 /// tree for its children, its leaves and its usage (`share_tree`). The jobs are as many as can be counted.

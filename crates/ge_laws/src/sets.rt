@@ -2,9 +2,9 @@
 ghost use Rattle.std.specs.Prelude.{◌≡◌, ℕ, ◌≤◌, ◌==◌, ◌&&◌, ◌||◌, Bool, not};
 ghost use Rattle.std.specs.Prelude.{List, Ok, filter, length, take};
 ghost use Rattle.ge_rows.specs.declared.tasks.TaskSpan.{TaskSpan};
-ghost use Rattle.ge_model_tasks.specs.Ranges.{parsed_set};
-ghost use Rattle.ge_model_tasks.specs.SetText.{set_text};
-ghost use Rattle.ge_model_tasks.specs.Sets.{count_of, difference, first_numbers, has_number, meet, numbers_of, union, with_number, without_number};
+ghost use Rattle.ge_model_rows.specs.Ranges.{parsed_set};
+ghost use Rattle.ge_model_rows.specs.SetText.{set_text};
+ghost use Rattle.ge_model_rows.specs.Sets.{count_of, difference, first_numbers, has_number, meet, numbers_of, union, with_number, without_number};
 ghost use Rattle.ge_laws.specs.TaskSets.{IsSet, IsTaskSet};
 
 /// A set of task numbers is kept in one form: two sets that have the same numbers are the same spans.

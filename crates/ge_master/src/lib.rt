@@ -4,6 +4,7 @@
 //!
 //! - [`Master`]: it is opened on two areas, and handles events.
 //! - [`Stop`]: why it stopped.
+//! - [`plan`], [`apply`], [`render`]: the core's own calls, for crates above.
 #![tactic(auto)]
 
 mod faults;
@@ -15,4 +16,5 @@ mod staging;
 mod storing;
 
 pub use faults::Stop;
+pub use ge_core::{apply, plan, render};
 pub use master::Master;

@@ -7,7 +7,7 @@ use Rattle.ge_model_rows.specs.PeopleRows.{UserRow, ProjectRow}
 use Rattle.ge_model_rows.specs.QueueRows.{QueueRow}
 use Rattle.ge_model_rows.specs.SettingRows.{Sched}
 use Rattle.ge_model_rows.specs.ValueRows.{Value}
-use Rattle.ge_model_value.specs.Pieces.{before_byte}
+use Rattle.ge_model_rows.specs.Pieces.{before_byte}
 use Rattle.ge_model_grammar.specs.Attributes.{attribute_names}
 use Rattle.ge_model_config.specs.Queues.{queue_read}
 use Rattle.ge_model_config.specs.Settings.{sched_item}

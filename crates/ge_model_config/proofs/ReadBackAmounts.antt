@@ -12,8 +12,8 @@ use Rattle.ge_model_text.specs.declared.ValueFault.{ValueFault}
 use Rattle.ge_model_text.specs.declared.ValueFault.TheVariants.{Digit}
 use Rattle.ge_model_text.specs.Reading.{amount_cut, bounded, if_occurs, reading_from, reading}
 use Rattle.ge_model_text.specs.Value.{is_digit, unit_at, number_with_digits, number}
-use Rattle.ge_model_value.specs.Values.{digit_at, fixed_text, clock_text}
-use Rattle.ge_model_tasks.proofs.Digits.{decimal_digits, decimal_number, all_digits}
+use Rattle.ge_model_rows.specs.Values.{digit_at, fixed_text, clock_text}
+use Rattle.ge_model_rows.proofs.Digits.{decimal_digits, decimal_number, all_digits}
 use Rattle.ge_model_config.proofs.ReadBackNumbers.{GoesOn, decimal_on, cut_twice, within_limit}
 
 -- ---- digits behind a colon

@@ -5,8 +5,8 @@ use Rattle.std.proofs.lemmas.Bool.{and_parts, and_from, not-true, true≢false}
 use Rattle.std.proofs.lemmas.List.Folds.{list_all-append}
 use Rattle.ge_model_rows.specs.EntryRows.{ObjectKind}
 use Rattle.ge_model_text.specs.Words.{is_blank}
-use Rattle.ge_model_value.specs.Pieces.{is_empty, trimmed, is_one_of, joined_by}
-use Rattle.ge_model_tasks.proofs.Digits.{AreWithout, pieces_joined}
+use Rattle.ge_model_rows.specs.Pieces.{is_empty, trimmed, is_one_of, joined_by}
+use Rattle.ge_model_rows.proofs.Digits.{AreWithout, pieces_joined}
 use Rattle.ge_model_grammar.specs.Lines.{is_plain_byte, is_plain_line, text_lines, begins_with, ends_in}
 use Rattle.ge_model_grammar.specs.Attributes.{known_attributes, naming_attributes}
 use Rattle.ge_model_grammar.specs.declared.Body.{Body}

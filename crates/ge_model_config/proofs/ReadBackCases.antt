@@ -3,7 +3,7 @@ use Rattle.std.specs.Prelude.{◌≡◌, true, [], ◌∷◌, ◌++◌, map, cod
 use Rattle.ge_base.specs.declared.refusal.Refusal.TheVariants.{NoSuchObject, BadValue}
 use Rattle.ge_model_rows.specs.ClusterRows.{Cluster}
 use Rattle.ge_model_rows.specs.EntryRows.{Item, ObjectKind}
-use Rattle.ge_model_value.specs.Pieces.{list_items, list_text}
+use Rattle.ge_model_rows.specs.Pieces.{list_items, list_text}
 use Rattle.ge_model_config.proofs.Site.{first, site, with_item, item_from, reprinted, ReadBack}
 
 -- a cluster that no event leads to: it has a user set a\

@@ -6,7 +6,7 @@ use Rattle.ge_base.specs.declared.refusal.Refusal.TheVariants.{NoSuchObject, Bad
 use Rattle.ge_collections.specs.Keyed.{put_text}
 use Rattle.ge_model_rows.specs.ClusterRows.{Cluster}
 use Rattle.ge_model_rows.specs.EntryRows.{Item, ObjectKind}
-use Rattle.ge_model_value.specs.Faults.{when}
+use Rattle.ge_model_rows.specs.Faults.{when}
 use Rattle.ge_model_grammar.specs.declared.Body.{Body}
 use Rattle.ge_model_grammar.specs.Bodies.{body_of}
 use Rattle.ge_model_grammar.specs.Configuring.{is_name_of}

@@ -13,9 +13,9 @@ use Rattle.ge_model_rows.specs.ClusterRows.{Cluster}
 use Rattle.ge_model_rows.specs.EntryRows.{Item, ObjectKind}
 use Rattle.ge_model_rows.specs.ValueRows.{Value, Kind, ComplexDef, infinity}
 use Rattle.ge_model_script.specs.Names.{is_name}
-use Rattle.ge_model_value.specs.Faults.{when}
-use Rattle.ge_model_value.specs.Pieces.{is_one_of}
-use Rattle.ge_model_value.specs.Values.{value_of}
+use Rattle.ge_model_rows.specs.Faults.{when}
+use Rattle.ge_model_rows.specs.Pieces.{is_one_of}
+use Rattle.ge_model_rows.specs.Values.{value_of}
 use Rattle.ge_model_grammar.specs.Lines.{is_plain_line, text_lines, read_after, read_each}
 use Rattle.ge_model_grammar.specs.declared.Body.{Body}
 use Rattle.ge_model_grammar.specs.declared.ComplexLine.{ComplexLine}

@@ -5,8 +5,8 @@ use Rattle.ge_model_rows.specs.ClusterRows.{Cluster}
 use Rattle.ge_model_rows.specs.EntryRows.{Item, ObjectKind}
 use Rattle.ge_model_rows.specs.PeRows.{PeRow, Allocation, UrgencySlots}
 use Rattle.ge_model_rows.specs.ValueRows.{Kind, infinity}
-use Rattle.ge_model_value.specs.Pieces.{list_items, list_text}
-use Rattle.ge_model_value.specs.Values.{value_of}
+use Rattle.ge_model_rows.specs.Pieces.{list_items, list_text}
+use Rattle.ge_model_rows.specs.Values.{value_of}
 use Rattle.ge_model_grammar.specs.declared.Body.{Body}
 use Rattle.ge_model_grammar.specs.declared.Body.TheVariants.{Attributes}
 use Rattle.ge_model_grammar.specs.Bodies.{body_of}

@@ -3,7 +3,7 @@ use Rattle.std.proofs.Common.{◌≡◌, ℕ, Bool, List, [], ◌∷◌, ◌++�
 use Rattle.ge_collections.specs.Keyed.{put_text}
 use Rattle.ge_model_rows.specs.ClusterRows.{Cluster}
 use Rattle.ge_model_rows.specs.EntryRows.{Item, ObjectKind}
-use Rattle.ge_model_value.specs.Pieces.{list_items, list_text}
+use Rattle.ge_model_rows.specs.Pieces.{list_items, list_text}
 use Rattle.ge_model_grammar.specs.declared.Body.{Body}
 use Rattle.ge_model_grammar.specs.declared.Body.TheVariants.{Attributes}
 use Rattle.ge_model_grammar.specs.Bodies.{body_of}

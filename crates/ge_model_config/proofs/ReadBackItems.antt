@@ -7,7 +7,7 @@ use Rattle.std.proofs.lemmas.List.Splits.{join_with_byte-slice_split}
 use Rattle.std.proofs.lemmas.List.Sums.{AllPass-from_list_all, suffix_len_is}
 use Rattle.ge_collections.specs.Keyed.{text_eq}
 use Rattle.ge_model_text.specs.Words.{is_blank}
-use Rattle.ge_model_value.specs.Pieces.{is_empty, without_last_blanks, trimmed, blank_pieces, items_between, list_items, pieces_at}
+use Rattle.ge_model_rows.specs.Pieces.{is_empty, without_last_blanks, trimmed, blank_pieces, items_between, list_items, pieces_at}
 use Rattle.ge_model_config.proofs.ReadBackTexts.{first_stays}
 use Rattle.ge_model_config.proofs.ReadBackLists.{is_only_none}
 

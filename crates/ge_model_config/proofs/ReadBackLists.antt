@@ -8,8 +8,8 @@ use Rattle.std.proofs.lemmas.List.Sums.{AllPass-from_list_all}
 use Rattle.std.proofs.lemmas.Slice.Eq.{bytes_eq-Decides}
 use Rattle.ge_collections.specs.Keyed.{text_eq}
 use Rattle.ge_model_text.specs.Words.{is_blank}
-use Rattle.ge_model_value.specs.Pieces.{is_empty, has_byte, blank_pieces, items_between, list_items, list_text, joined_by, pieces_at}
-use Rattle.ge_model_tasks.proofs.Digits.{AreWithout, joined_cut, it_is_there}
+use Rattle.ge_model_rows.specs.Pieces.{is_empty, has_byte, blank_pieces, items_between, list_items, list_text, joined_by, pieces_at}
+use Rattle.ge_model_rows.proofs.Digits.{AreWithout, joined_cut, it_is_there}
 use Rattle.ge_model_config.specs.Cited.{none_text}
 use Rattle.ge_model_config.proofs.ReadBackTexts.{is_printing_byte, is_printing, is_shown_byte, is_shown, all_weaker, no_blank, trimmed_shown}
 

@@ -12,10 +12,10 @@ use Rattle.ge_model_rows.specs.ClusterRows.{Cluster, opening_cluster, default_sc
 use Rattle.ge_model_rows.specs.EntryRows.{Item, ObjectKind}
 use Rattle.ge_model_rows.specs.ValueRows.{Kind, ComplexDef}
 use Rattle.ge_model_script.specs.Names.{is_name}
-use Rattle.ge_model_value.specs.Faults.{when}
-use Rattle.ge_model_value.specs.Values.{is_number_kind}
-use Rattle.ge_model_value.specs.Complexes.{opening_complexes}
-use Rattle.ge_model_value.specs.Pieces.{list_items}
+use Rattle.ge_model_rows.specs.Faults.{when}
+use Rattle.ge_model_rows.specs.Values.{is_number_kind}
+use Rattle.ge_model_rows.specs.Complexes.{opening_complexes}
+use Rattle.ge_model_rows.specs.Pieces.{list_items}
 use Rattle.ge_model_grammar.specs.declared.Body.{Body}
 use Rattle.ge_model_grammar.specs.declared.ComplexLine.{ComplexLine}
 use Rattle.ge_model_grammar.specs.declared.Body.TheVariants.{Attributes, RuleSet, Nodes, ComplexRows}

@@ -13,8 +13,8 @@ use Rattle.ge_collections.specs.Keyed.{text_cmp, at_text}
 use Rattle.ge_model_rows.specs.ClusterRows.{Cluster}
 use Rattle.ge_model_rows.specs.EntryRows.{ObjectKind}
 use Rattle.ge_model_script.specs.Names.{is_name_byte, is_name}
-use Rattle.ge_model_value.specs.Faults.{when}
-use Rattle.ge_model_value.specs.Pieces.{list_items}
+use Rattle.ge_model_rows.specs.Faults.{when}
+use Rattle.ge_model_rows.specs.Pieces.{list_items}
 use Rattle.ge_model_grammar.specs.Configuring.{is_group_name, is_name_of}
 use Rattle.ge_model_config.specs.Named.{name_faults}
 use Rattle.ge_model_config.specs.Cited.{has_name, cited, is_host_or_group}

@@ -14,9 +14,9 @@ use Rattle.ge_model_text.specs.declared.ValueFault.{ValueFault}
 use Rattle.ge_model_text.specs.declared.ValueFault.TheVariants.{Digit, TooLarge}
 use Rattle.ge_model_text.specs.Reading.{amount_cut, appended, bounded, if_occurs, reading_from, reading}
 use Rattle.ge_model_text.specs.Value.{is_digit, number_with_digits, number}
-use Rattle.ge_model_value.specs.Pieces.{is_digits}
-use Rattle.ge_model_value.specs.Values.{amount_in, read_amount}
-use Rattle.ge_model_tasks.proofs.Digits.{decimal_digits, decimal_number, all_digits}
+use Rattle.ge_model_rows.specs.Pieces.{is_digits}
+use Rattle.ge_model_rows.specs.Values.{amount_in, read_amount}
+use Rattle.ge_model_rows.proofs.Digits.{decimal_digits, decimal_number, all_digits}
 use Rattle.ge_model_config.specs.Cited.{Read, amount_within, number_read}
 use Rattle.ge_model_config.proofs.ReadBackTexts.{is_shown_byte, is_shown, all_weaker}
 

@@ -7,9 +7,9 @@ use Rattle.ge_base.specs.declared.refusal.Refusal.TheVariants.{BadValue}
 use Rattle.ge_collections.specs.Keyed.{text_cmp, put_text}
 use Rattle.ge_model_rows.specs.ClusterRows.{Cluster}
 use Rattle.ge_model_rows.specs.ValueRows.{Value, ComplexDef}
-use Rattle.ge_model_value.specs.Pieces.{has_byte, before_byte, behind_byte, list_items}
-use Rattle.ge_model_value.specs.Values.{value_of}
-use Rattle.ge_model_value.specs.Complexes.{complex_at}
+use Rattle.ge_model_rows.specs.Pieces.{has_byte, before_byte, behind_byte, list_items}
+use Rattle.ge_model_rows.specs.Values.{value_of}
+use Rattle.ge_model_rows.specs.Complexes.{complex_at}
 use Rattle.ge_model_config.specs.Cited.{Read}
 use Rattle.ge_model_config.specs.Pairs.{any_fits, beside, value_for, pair_read, item_read, put_value, with_pair, values_read}
 use Rattle.ge_model_config.proofs.ReadBackTables.{AllAbove, above_put, above_more}

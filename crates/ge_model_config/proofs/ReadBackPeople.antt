@@ -8,9 +8,9 @@ use Rattle.ge_model_rows.specs.EntryRows.{Item, ObjectKind}
 use Rattle.ge_model_rows.specs.PeopleRows.{UserRow, ProjectRow}
 use Rattle.ge_model_rows.specs.ValueRows.{Kind}
 use Rattle.ge_model_script.specs.Names.{is_name}
-use Rattle.ge_model_value.specs.Faults.{when}
-use Rattle.ge_model_value.specs.Pieces.{list_items, list_text}
-use Rattle.ge_model_value.specs.Values.{value_of}
+use Rattle.ge_model_rows.specs.Faults.{when}
+use Rattle.ge_model_rows.specs.Pieces.{list_items, list_text}
+use Rattle.ge_model_rows.specs.Values.{value_of}
 use Rattle.ge_model_grammar.specs.declared.Body.{Body}
 use Rattle.ge_model_grammar.specs.declared.Body.TheVariants.{Attributes}
 use Rattle.ge_model_grammar.specs.Bodies.{body_of}

@@ -5,8 +5,8 @@ use Rattle.std.proofs.lemmas.Bool.{and_from, true≢false}
 use Rattle.std.proofs.lemmas.List.Folds.{list_all-append}
 use Rattle.ge_model_rows.specs.ValueRows.{Kind, infinity, million}
 use Rattle.ge_model_text.specs.Value.{is_digit}
-use Rattle.ge_model_value.specs.Values.{digit_at, fixed_text, clock_text}
-use Rattle.ge_model_tasks.proofs.Digits.{decimal_digits, all_digits}
+use Rattle.ge_model_rows.specs.Values.{digit_at, fixed_text, clock_text}
+use Rattle.ge_model_rows.proofs.Digits.{decimal_digits, all_digits}
 use Rattle.ge_model_config.specs.Cited.{number_text}
 use Rattle.ge_model_config.proofs.ReadBackTexts.{is_shown, all_weaker}
 use Rattle.ge_model_config.proofs.ReadBackLists.{is_item_byte, is_item}

@@ -10,9 +10,9 @@ use Rattle.ge_model_rows.specs.ValueRows.{Value, Amount, Flag, Word, Kind, Relop
 use Rattle.ge_model_rows.specs.ValueRows.{Consumable, ComplexDef, infinity}
 use Rattle.ge_model_text.specs.Words.{is_blank}
 use Rattle.ge_model_script.specs.Names.{is_name}
-use Rattle.ge_model_value.specs.Faults.{when}
-use Rattle.ge_model_value.specs.Pieces.{is_empty, blank_pieces, joined_by}
-use Rattle.ge_model_value.specs.Values.{value_of, value_text, fixed_text}
+use Rattle.ge_model_rows.specs.Faults.{when}
+use Rattle.ge_model_rows.specs.Pieces.{is_empty, blank_pieces, joined_by}
+use Rattle.ge_model_rows.specs.Values.{value_of, value_text, fixed_text}
 use Rattle.ge_model_grammar.specs.declared.ComplexLine.{ComplexLine}
 use Rattle.ge_model_grammar.specs.Bodies.{complex_with, complex_line}
 use Rattle.ge_model_config.specs.Columns.{kind_text, kind_of, relop_text, relop_of, requestable_text, requestable_of, consumable_text, consumable_of}

@@ -8,9 +8,9 @@ use Rattle.ge_model_rows.specs.ClusterRows.{Cluster}
 use Rattle.ge_model_rows.specs.EntryRows.{Item, ObjectKind}
 use Rattle.ge_model_rows.specs.SettingRows.{Sched, SortMethod}
 use Rattle.ge_model_rows.specs.ValueRows.{Amount, Kind, infinity}
-use Rattle.ge_model_value.specs.Pieces.{list_text}
-use Rattle.ge_model_value.specs.Values.{fixed_text}
-use Rattle.ge_model_value.specs.Complexes.{complex_at}
+use Rattle.ge_model_rows.specs.Pieces.{list_text}
+use Rattle.ge_model_rows.specs.Values.{fixed_text}
+use Rattle.ge_model_rows.specs.Complexes.{complex_at}
 use Rattle.ge_model_grammar.specs.declared.Body.TheVariants.{Attributes}
 use Rattle.ge_model_config.specs.Cited.{Read, amount_within, number_read, number_text}
 use Rattle.ge_model_config.specs.Printing.{printed}

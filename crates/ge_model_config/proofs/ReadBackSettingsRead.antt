@@ -13,9 +13,9 @@ use Rattle.ge_model_rows.specs.EntryRows.{Item, ObjectKind}
 use Rattle.ge_model_rows.specs.SettingRows.{Sched}
 use Rattle.ge_model_rows.specs.ValueRows.{Value, Kind, ComplexDef, infinity}
 use Rattle.ge_model_script.specs.Names.{is_name}
-use Rattle.ge_model_value.specs.Pieces.{list_items, before_byte, behind_byte}
-use Rattle.ge_model_value.specs.Values.{value_of, amount_in}
-use Rattle.ge_model_value.specs.Complexes.{complex_at}
+use Rattle.ge_model_rows.specs.Pieces.{list_items, before_byte, behind_byte}
+use Rattle.ge_model_rows.specs.Values.{value_of, amount_in}
+use Rattle.ge_model_rows.specs.Complexes.{complex_at}
 use Rattle.ge_model_grammar.specs.declared.Body.{Body}
 use Rattle.ge_model_grammar.specs.declared.Body.TheVariants.{Attributes}
 use Rattle.ge_model_grammar.specs.Bodies.{attribute_in, body_of}

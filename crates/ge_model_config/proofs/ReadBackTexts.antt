@@ -8,7 +8,7 @@ use Rattle.std.proofs.lemmas.List.{reverse-append}
 use Rattle.std.proofs.lemmas.List.Elements.{All-weaker}
 use Rattle.std.proofs.lemmas.List.Sums.{AllPass-from_list_all, list_all-from_AllPass}
 use Rattle.ge_model_text.specs.Words.{is_blank}
-use Rattle.ge_model_value.specs.Pieces.{has_byte, without_first_blanks, without_last_blanks, trimmed}
+use Rattle.ge_model_rows.specs.Pieces.{has_byte, without_first_blanks, without_last_blanks, trimmed}
 use Rattle.ge_model_grammar.specs.Lines.{is_plain_byte, is_plain_line, ends_in}
 
 -- a byte that prints and isn't blank

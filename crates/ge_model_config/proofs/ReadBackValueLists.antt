@@ -9,11 +9,11 @@ use Rattle.ge_collections.specs.Keyed.{text_eq}
 use Rattle.ge_model_rows.specs.ClusterRows.{Cluster}
 use Rattle.ge_model_rows.specs.ValueRows.{Value, Amount, Flag, Word, Kind, ComplexDef}
 use Rattle.ge_model_script.specs.Names.{is_name_byte, is_name}
-use Rattle.ge_model_value.specs.Faults.{when}
-use Rattle.ge_model_value.specs.Pieces.{is_empty, has_byte, before_byte, behind_byte}
-use Rattle.ge_model_value.specs.Values.{is_word_byte, value_text}
-use Rattle.ge_model_value.specs.Complexes.{complex_at, pair_text, kind_for}
-use Rattle.ge_model_tasks.proofs.Digits.{before_it, behind_it, it_is_there}
+use Rattle.ge_model_rows.specs.Faults.{when}
+use Rattle.ge_model_rows.specs.Pieces.{is_empty, has_byte, before_byte, behind_byte}
+use Rattle.ge_model_rows.specs.Values.{is_word_byte, value_text}
+use Rattle.ge_model_rows.specs.Complexes.{complex_at, pair_text, kind_for}
+use Rattle.ge_model_rows.proofs.Digits.{before_it, behind_it, it_is_there}
 use Rattle.ge_model_config.specs.Pairs.{any_fits, beside, value_for, pair_read, item_read, put_value, with_pair, values_read, values_text}
 use Rattle.ge_model_config.proofs.ReadBackTables.{Rises, put_behind}
 use Rattle.ge_model_config.proofs.ReadBackTexts.{is_printing, all_weaker}

@@ -10,8 +10,8 @@ use Rattle.ge_model_text.specs.declared.Progress.TheVariants.{Start}
 use Rattle.ge_model_text.specs.declared.ValueFault.{ValueFault}
 use Rattle.ge_model_text.specs.declared.ValueFault.TheVariants.{Digit, TooLarge}
 use Rattle.ge_model_text.specs.Reading.{next, amount_done, answer, bounded, limit, reading_from, reading}
-use Rattle.ge_model_value.specs.Pieces.{is_empty, lower_case}
-use Rattle.ge_model_value.specs.Values.{read_amount, flag_of, is_word, word_of, value_of, value_text, clock_text}
+use Rattle.ge_model_rows.specs.Pieces.{is_empty, lower_case}
+use Rattle.ge_model_rows.specs.Values.{read_amount, flag_of, is_word, word_of, value_of, value_text, clock_text}
 use Rattle.ge_model_config.proofs.ReadBackNumbers.{int_back}
 use Rattle.ge_model_config.proofs.ReadBackAmounts.{clock_back, bytes_back, fixed_back}
 

@@ -7,7 +7,7 @@ use Rattle.ge_base.specs.declared.refusal.Refusal.TheVariants.{NoSuchObject, Bad
 use Rattle.ge_model_rows.specs.EntryRows.{ObjectKind}
 use Rattle.ge_model_rows.specs.JobRows.{Request}
 use Rattle.ge_model_rows.specs.ValueRows.{Amount, Flag, Word}
-use Rattle.ge_model_value.specs.Faults.{first_fault}
+use Rattle.ge_model_rows.specs.Faults.{first_fault}
 use Rattle.ge_model_config.specs.Requests.{request_of, request_read, request_changed}
 use Rattle.ge_model_config.proofs.Site.{site, with_body}
 

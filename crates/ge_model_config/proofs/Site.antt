@@ -6,9 +6,9 @@ use Rattle.ge_base.specs.declared.refusal.Refusal.{Refusal}
 use Rattle.ge_base.specs.declared.refusal.Refusal.TheVariants.{Syntax}
 use Rattle.ge_model_rows.specs.ClusterRows.{Cluster, opening_cluster, default_queue, default_sched}
 use Rattle.ge_model_rows.specs.EntryRows.{Item, ObjectKind}
-use Rattle.ge_model_value.specs.Faults.{first_fault}
-use Rattle.ge_model_value.specs.Pieces.{joined_by}
-use Rattle.ge_model_value.specs.Complexes.{opening, opening_complexes}
+use Rattle.ge_model_rows.specs.Faults.{first_fault}
+use Rattle.ge_model_rows.specs.Pieces.{joined_by}
+use Rattle.ge_model_rows.specs.Complexes.{opening, opening_complexes}
 use Rattle.ge_model_grammar.specs.declared.Body.{Body}
 use Rattle.ge_model_grammar.specs.Bodies.{body_of, grammar_of_bodies}
 use Rattle.ge_model_config.specs.Reading.{item_of, items_of_bodies}

@@ -4,7 +4,7 @@ use Rattle.ge_model_rows.specs.ClusterRows.{Cluster}
 use Rattle.ge_model_rows.specs.EntryRows.{ObjectKind}
 use Rattle.ge_model_rows.specs.JobRows.{Job}
 use Rattle.ge_model_rows.specs.ValueRows.{Amount}
-use Rattle.ge_model_value.specs.Complexes.{opening_complexes}
+use Rattle.ge_model_rows.specs.Complexes.{opening_complexes}
 use Rattle.ge_model_jobs.proofs.Samples.{some_job, asking, with_pe, one_slot, running, some_advance}
 use Rattle.ge_model_config.specs.Used.{is_used, is_there}
 use Rattle.ge_model_config.proofs.Site.{site, with_body}

@@ -7,9 +7,9 @@ use Rattle.ge_base.specs.declared.refusal.Refusal.{Refusal}
 use Rattle.ge_base.specs.declared.refusal.Refusal.TheVariants.{NoSuchObject, BadValue}
 use Rattle.ge_model_rows.specs.ClusterRows.{Cluster}
 use Rattle.ge_model_rows.specs.ValueRows.{Value, Kind, Amount}
-use Rattle.ge_model_value.specs.Faults.{when, first_fault}
-use Rattle.ge_model_value.specs.Pieces.{list_items}
-use Rattle.ge_model_value.specs.Values.{value_of, amount_in, value_text}
+use Rattle.ge_model_rows.specs.Faults.{when, first_fault}
+use Rattle.ge_model_rows.specs.Pieces.{list_items}
+use Rattle.ge_model_rows.specs.Values.{value_of, amount_in, value_text}
 use Rattle.ge_model_grammar.specs.Bodies.{attribute_in}
 
 -- a value, and the refusals whose conditions hold: where there is one, nothing comes of the value

@@ -2,7 +2,7 @@
 use Rattle.std.specs.Prelude.{ℕ, Bool, ◌||◌, List, [], ◌∷◌, take, Option, find, codes}
 use Rattle.ge_collections.specs.Keyed.{text_eq}
 use Rattle.ge_model_rows.specs.ValueRows.{Kind, Relop, Requestable, Consumable}
-use Rattle.ge_model_value.specs.Pieces.{lower_case}
+use Rattle.ge_model_rows.specs.Pieces.{lower_case}
 
 -- the column type
 abbrev pub kind_text : Kind → List ℕ

@@ -9,10 +9,10 @@ use Rattle.ge_model_rows.specs.EntryRows.{Item}
 use Rattle.ge_model_rows.specs.ValueRows.{Amount, Kind, Relop, Requestable, Consumable, ComplexDef}
 use Rattle.ge_model_rows.specs.ValueRows.{infinity}
 use Rattle.ge_model_script.specs.Names.{is_name}
-use Rattle.ge_model_value.specs.Faults.{when}
-use Rattle.ge_model_value.specs.Pieces.{is_one_of, joined_by}
-use Rattle.ge_model_value.specs.Values.{value_of, is_number_kind, value_text, fixed_text}
-use Rattle.ge_model_value.specs.Complexes.{complex_at, is_consumed}
+use Rattle.ge_model_rows.specs.Faults.{when}
+use Rattle.ge_model_rows.specs.Pieces.{is_one_of, joined_by}
+use Rattle.ge_model_rows.specs.Values.{value_of, is_number_kind, value_text, fixed_text}
+use Rattle.ge_model_rows.specs.Complexes.{complex_at, is_consumed}
 use Rattle.ge_model_grammar.specs.declared.ComplexLine.{ComplexLine}
 use Rattle.ge_model_config.specs.Cited.{Read, number_read, has_name}
 use Rattle.ge_model_config.specs.Columns.{kind_of, is_same_kind, relop_of, is_relop, requestable_of, consumable_of, kind_text, relop_text, requestable_text, consumable_text}

@@ -6,7 +6,7 @@ use Rattle.ge_model_rows.specs.ClusterRows.{Cluster}
 use Rattle.ge_model_rows.specs.EntryRows.{Item, ObjectKind}
 use Rattle.ge_model_rows.specs.PeRows.{PeRow, Allocation, UrgencySlots}
 use Rattle.ge_model_rows.specs.ValueRows.{Kind, infinity}
-use Rattle.ge_model_value.specs.Pieces.{list_text}
+use Rattle.ge_model_rows.specs.Pieces.{list_text}
 use Rattle.ge_model_config.specs.Cited.{Read, given, none_text, number_read, names_read, has_name, printed_attribute}
 use Rattle.ge_model_config.specs.Named.{name_faults}
 

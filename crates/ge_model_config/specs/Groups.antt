@@ -6,8 +6,8 @@ use Rattle.ge_base.specs.declared.refusal.Refusal.TheVariants.{Cycle}
 use Rattle.ge_limits.specs.Limits as limit
 use Rattle.ge_model_rows.specs.ClusterRows.{Cluster}
 use Rattle.ge_model_rows.specs.EntryRows.{Item, ObjectKind}
-use Rattle.ge_model_value.specs.Faults.{when}
-use Rattle.ge_model_site.specs.Groups.{has_loop}
+use Rattle.ge_model_rows.specs.Faults.{when}
+use Rattle.ge_model_rows.specs.Groups.{has_loop}
 use Rattle.ge_model_config.specs.Cited.{Read, given, none_text, names_read, is_host_or_group}
 use Rattle.ge_model_config.specs.Named.{name_faults}
 

@@ -7,7 +7,7 @@ use Rattle.ge_base.specs.declared.refusal.Refusal.TheVariants.{NoSuchObject, Exi
 use Rattle.ge_model_rows.specs.EntryRows.{ObjectKind}
 use Rattle.ge_model_grammar.specs.Attributes.{none_attributes}
 use Rattle.ge_model_grammar.specs.Configuring.{is_name_of}
-use Rattle.ge_model_value.specs.Faults.{when}
+use Rattle.ge_model_rows.specs.Faults.{when}
 use Rattle.ge_model_config.specs.Cited.{given, has_name, none_text}
 
 -- a new object takes a name that is free, and a place where its table has one

@@ -6,7 +6,7 @@ use Rattle.ge_base.specs.declared.refusal.Refusal.TheVariants.{BadValue}
 use Rattle.ge_model_rows.specs.ClusterRows.{Cluster, plain_attr}
 use Rattle.ge_model_rows.specs.QueueRows.{Attr}
 use Rattle.ge_model_text.specs.Words.{is_blank}
-use Rattle.ge_model_value.specs.Pieces.{pieces_at, trimmed, has_byte, before_byte, behind_byte}
+use Rattle.ge_model_rows.specs.Pieces.{pieces_at, trimmed, has_byte, before_byte, behind_byte}
 use Rattle.ge_model_grammar.specs.Bodies.{attribute_in}
 use Rattle.ge_model_config.specs.Cited.{Read, cited, is_host_or_group}
 

@@ -4,10 +4,10 @@ use Rattle.ge_collections.specs.Keyed.{put_text}
 use Rattle.ge_base.specs.declared.refusal.Refusal.TheVariants.{NoSuchObject, BadValue}
 use Rattle.ge_model_rows.specs.ClusterRows.{Cluster}
 use Rattle.ge_model_rows.specs.ValueRows.{Value, ComplexDef}
-use Rattle.ge_model_value.specs.Faults.{when}
-use Rattle.ge_model_value.specs.Pieces.{list_items, has_byte, before_byte, behind_byte, list_text}
-use Rattle.ge_model_value.specs.Values.{value_of, is_number_kind}
-use Rattle.ge_model_value.specs.Complexes.{complex_at, pair_text}
+use Rattle.ge_model_rows.specs.Faults.{when}
+use Rattle.ge_model_rows.specs.Pieces.{list_items, has_byte, before_byte, behind_byte, list_text}
+use Rattle.ge_model_rows.specs.Values.{value_of, is_number_kind}
+use Rattle.ge_model_rows.specs.Complexes.{complex_at, pair_text}
 use Rattle.ge_model_config.specs.Cited.{Read}
 
 -- which complexes fit, by name and row

@@ -4,7 +4,7 @@ use Rattle.std.specs.Option.{option_map}
 use Rattle.ge_collections.specs.Keyed.{at_text}
 use Rattle.ge_model_rows.specs.ClusterRows.{Cluster}
 use Rattle.ge_model_rows.specs.EntryRows.{Item, ObjectKind}
-use Rattle.ge_model_value.specs.Pieces.{list_text}
+use Rattle.ge_model_rows.specs.Pieces.{list_text}
 use Rattle.ge_model_config.specs.Cited.{printed_attribute}
 use Rattle.ge_model_config.specs.Pairs.{values_text}
 use Rattle.ge_model_config.specs.Queues.{queue_lines}

@@ -6,8 +6,8 @@ use Rattle.ge_model_rows.specs.ClusterRows.{Cluster, default_queue, plain_attr, 
 use Rattle.ge_model_rows.specs.EntryRows.{Item, Queue, ObjectKind}
 use Rattle.ge_model_rows.specs.QueueRows.{QueueRow, Attr}
 use Rattle.ge_model_rows.specs.ValueRows.{Kind, infinity}
-use Rattle.ge_model_value.specs.Pieces.{is_one_of, list_text}
-use Rattle.ge_model_value.specs.Complexes.{time_limits}
+use Rattle.ge_model_rows.specs.Pieces.{is_one_of, list_text}
+use Rattle.ge_model_rows.specs.Complexes.{time_limits}
 use Rattle.ge_model_config.specs.Cited.{Read, given, none_text, number_read, names_read, has_name, is_host_or_group, printed_attribute, number_text}
 use Rattle.ge_model_config.specs.Pairs.{values_read, any_fits, number_fits, values_text}
 use Rattle.ge_model_config.specs.Overrides.{attr_read, attr_text}

@@ -8,10 +8,10 @@ use Rattle.ge_model_rows.specs.EntryRows.{Item, ObjectKind}
 use Rattle.ge_model_rows.specs.QuotaRows.{Rule, Filter, QuotaRow}
 use Rattle.ge_model_rows.specs.ValueRows.{Value, Kind, ComplexDef, Amount}
 use Rattle.ge_model_script.specs.Names.{is_name}
-use Rattle.ge_model_value.specs.Faults.{when}
-use Rattle.ge_model_value.specs.Pieces.{joined_by}
-use Rattle.ge_model_value.specs.Values.{value_of, amount_in, flag_text}
-use Rattle.ge_model_value.specs.Complexes.{is_consumable}
+use Rattle.ge_model_rows.specs.Faults.{when}
+use Rattle.ge_model_rows.specs.Pieces.{joined_by}
+use Rattle.ge_model_rows.specs.Values.{value_of, amount_in, flag_text}
+use Rattle.ge_model_rows.specs.Complexes.{is_consumable}
 use Rattle.ge_model_grammar.specs.declared.RuleLine.{RuleLine}
 use Rattle.ge_model_config.specs.Cited.{Read, given, none_text, cited, has_name, printed_attribute}
 use Rattle.ge_model_config.specs.Pairs.{pair_read, values_text}

@@ -7,8 +7,8 @@ use Rattle.ge_model_rows.specs.ClusterRows.{Cluster, default_queue, default_sche
 use Rattle.ge_model_rows.specs.EntryRows.{Item, Managers, ObjectKind}
 use Rattle.ge_base.specs.declared.refusal.Refusal.{Refusal}
 use Rattle.ge_base.specs.declared.refusal.Refusal.TheVariants.{Syntax}
-use Rattle.ge_model_value.specs.Complexes.{opening_complexes}
-use Rattle.ge_model_site.specs.Groups.{has_loop}
+use Rattle.ge_model_rows.specs.Complexes.{opening_complexes}
+use Rattle.ge_model_rows.specs.Groups.{has_loop}
 use Rattle.ge_model_config.specs.Cited.{answered}
 use Rattle.ge_model_config.specs.Queues.{queue_item, queue_read}
 use Rattle.ge_model_config.specs.Hosts.{host_item}

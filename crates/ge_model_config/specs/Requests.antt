@@ -7,10 +7,10 @@ use Rattle.ge_limits.specs.Limits as limit
 use Rattle.ge_model_rows.specs.ClusterRows.{Cluster}
 use Rattle.ge_model_rows.specs.JobRows.{Request, PeRequest}
 use Rattle.ge_model_rows.specs.ValueRows.{Value, Requestable, ComplexDef}
-use Rattle.ge_model_value.specs.Faults.{when}
-use Rattle.ge_model_value.specs.Pieces.{pieces_at, has_byte, before_byte, behind_byte}
-use Rattle.ge_model_value.specs.Values.{value_of}
-use Rattle.ge_model_value.specs.Complexes.{complex_named}
+use Rattle.ge_model_rows.specs.Faults.{when}
+use Rattle.ge_model_rows.specs.Pieces.{pieces_at, has_byte, before_byte, behind_byte}
+use Rattle.ge_model_rows.specs.Values.{value_of}
+use Rattle.ge_model_rows.specs.Complexes.{complex_named}
 use Rattle.ge_model_grammar.specs.Options.{option_words, slot_range_of}
 use Rattle.ge_model_config.specs.Cited.{Read, answered, has_name}
 use Rattle.ge_model_config.specs.Pairs.{beside, with_value}

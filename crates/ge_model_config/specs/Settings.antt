@@ -7,10 +7,10 @@ use Rattle.ge_model_rows.specs.ClusterRows.{Cluster, default_sched}
 use Rattle.ge_model_rows.specs.EntryRows.{Item}
 use Rattle.ge_model_rows.specs.SettingRows.{SortMethod, Load, Seqno, Sched}
 use Rattle.ge_model_rows.specs.ValueRows.{Kind, ComplexDef, infinity}
-use Rattle.ge_model_value.specs.Faults.{when}
-use Rattle.ge_model_value.specs.Pieces.{list_items, has_byte, before_byte, behind_byte, is_one_of}
-use Rattle.ge_model_value.specs.Values.{is_number_kind, fixed_text}
-use Rattle.ge_model_value.specs.Complexes.{complex_at}
+use Rattle.ge_model_rows.specs.Faults.{when}
+use Rattle.ge_model_rows.specs.Pieces.{list_items, has_byte, before_byte, behind_byte, is_one_of}
+use Rattle.ge_model_rows.specs.Values.{is_number_kind, fixed_text}
+use Rattle.ge_model_rows.specs.Complexes.{complex_at}
 use Rattle.ge_model_grammar.specs.Bodies.{attribute_in}
 use Rattle.ge_model_config.specs.Cited.{Read, number_read, printed_attribute, number_text}
 

@@ -11,9 +11,9 @@ use Rattle.ge_model_rows.specs.EntryRows.{Item}
 use Rattle.ge_model_rows.specs.PeopleRows.{ShareNode}
 use Rattle.ge_model_rows.specs.ValueRows.{Value, Kind}
 use Rattle.ge_model_script.specs.Names.{is_name}
-use Rattle.ge_model_value.specs.Faults.{when}
-use Rattle.ge_model_value.specs.Pieces.{is_empty, lists_number, each_number_once, with_one_number, list_items, is_digits, number_of, list_text}
-use Rattle.ge_model_value.specs.Values.{value_of, amount_in}
+use Rattle.ge_model_rows.specs.Faults.{when}
+use Rattle.ge_model_rows.specs.Pieces.{is_empty, lists_number, each_number_once, with_one_number, list_items, is_digits, number_of, list_text}
+use Rattle.ge_model_rows.specs.Values.{value_of, amount_in}
 use Rattle.ge_model_grammar.specs.declared.NodeLines.{NodeLines}
 use Rattle.ge_model_config.specs.Cited.{Read, number_read, cited, has_name}
 use Rattle.ge_model_config.specs.Complexes.{are_distinct}

@@ -7,8 +7,8 @@ use Rattle.ge_model_rows.specs.EntryRows.{ObjectKind}
 use Rattle.ge_model_rows.specs.JobRows.{Job, PeRequest, Grant, Advance}
 use Rattle.ge_model_rows.specs.QueueRows.{QueueRow, Attr}
 use Rattle.ge_model_rows.specs.QuotaRows.{Rule}
-use Rattle.ge_model_value.specs.Pieces.{is_one_of}
-use Rattle.ge_model_value.specs.Complexes.{opening_complexes}
+use Rattle.ge_model_rows.specs.Pieces.{is_one_of}
+use Rattle.ge_model_rows.specs.Complexes.{opening_complexes}
 use Rattle.ge_model_config.specs.Cited.{has_name}
 use Rattle.ge_model_config.specs.Quotas.{elements_of}
 

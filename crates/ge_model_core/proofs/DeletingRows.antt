@@ -5,7 +5,7 @@ use Rattle.ge_model_rows.specs.ClusterRows.{Cluster}
 use Rattle.ge_model_rows.specs.EntryRows.{Pick}
 use Rattle.ge_model_rows.specs.JobRows.{Job, Running}
 use Rattle.ge_model_rows.specs.TaskRows.{TaskSpan}
-use Rattle.ge_model_value.specs.Complexes.{opening}
+use Rattle.ge_model_rows.specs.Complexes.{opening}
 use Rattle.ge_model_jobs.specs.Picks.{picked_tasks}
 use Rattle.ge_model_jobs.proofs.Samples.{span, array_job, running, with_jobs}
 use Rattle.ge_model_core.specs.Deleting.{removed_line}

@@ -13,9 +13,9 @@ use Rattle.ge_model_rows.specs.JobRows.{Grant, Advance}
 use Rattle.ge_model_script.specs.Lines.{is_too_long}
 use Rattle.ge_model_core.specs.Forms.{is_cut}
 use Rattle.ge_model_core.specs.Refusals.{refused, unless_refused}
-use Rattle.ge_model_value.specs.Faults.{turn_of, earlier_fault, first_fault, when}
-use Rattle.ge_model_value.specs.Pieces.{each_number_once}
-use Rattle.ge_model_site.specs.Access.{is_operator}
+use Rattle.ge_model_rows.specs.Faults.{turn_of, earlier_fault, first_fault, when}
+use Rattle.ge_model_rows.specs.Pieces.{each_number_once}
+use Rattle.ge_model_rows.specs.Access.{is_operator}
 use Rattle.ge_model_grammar.specs.declared.Body.{Body}
 use Rattle.ge_model_grammar.specs.Bodies.{body_of}
 use Rattle.ge_model_config.specs.Reading.{item_of}

@@ -13,9 +13,9 @@ use Rattle.ge_collections.specs.Keyed.{at_number, at_text}
 use Rattle.ge_model_script.specs.Lines.{is_too_long}
 use Rattle.ge_model_core.specs.Forms.{is_cut}
 use Rattle.ge_model_core.specs.Refusals.{refused, unless_refused}
-use Rattle.ge_model_value.specs.Faults.{first_fault, when}
-use Rattle.ge_model_value.specs.Pieces.{each_number_once}
-use Rattle.ge_model_site.specs.Access.{is_operator}
+use Rattle.ge_model_rows.specs.Faults.{first_fault, when}
+use Rattle.ge_model_rows.specs.Pieces.{each_number_once}
+use Rattle.ge_model_rows.specs.Access.{is_operator}
 use Rattle.ge_model_jobs.specs.Serials.{running_with}
 use Rattle.ge_model_config.specs.Reading.{item_of}
 use Rattle.ge_model_place.specs.Advances.{advance_grants}

@@ -4,7 +4,7 @@ use Rattle.ge_base.specs.declared.refusal.Refusal.{Refusal}
 use Rattle.ge_model_rows.specs.EntryRows.{Change}
 use Rattle.ge_model_rows.specs.EventRows.{Event, Planned}
 use Rattle.ge_model_core.specs.Refusals.{unless_refused}
-use Rattle.ge_model_value.specs.Faults.{first_fault}
+use Rattle.ge_model_rows.specs.Faults.{first_fault}
 
 -- an accepted event: what it changes, at its moment, and the lines of its reply
 abbrev pub changed : Event → Change → List (List ℕ) → Planned

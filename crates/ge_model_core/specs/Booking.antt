@@ -10,10 +10,10 @@ use Rattle.ge_model_rows.specs.EventRows.{Event, Planned}
 use Rattle.ge_model_rows.specs.JobRows.{Grant, Advance}
 use Rattle.ge_model_rows.specs.ValueRows.{Kind}
 use Rattle.ge_model_core.specs.Refusals.{refused}
-use Rattle.ge_model_value.specs.Faults.{when}
-use Rattle.ge_model_value.specs.Pieces.{each_number_once}
-use Rattle.ge_model_value.specs.Values.{value_of, amount_in}
-use Rattle.ge_model_site.specs.Access.{is_operator}
+use Rattle.ge_model_rows.specs.Faults.{when}
+use Rattle.ge_model_rows.specs.Pieces.{each_number_once}
+use Rattle.ge_model_rows.specs.Values.{value_of, amount_in}
+use Rattle.ge_model_rows.specs.Access.{is_operator}
 use Rattle.ge_model_jobs.specs.Starting.{is_joined}
 use Rattle.ge_model_grammar.specs.Options.{Given}
 use Rattle.ge_model_config.specs.Requests.{request_of}

@@ -9,9 +9,9 @@ use Rattle.ge_model_rows.specs.ClusterRows.{Cluster}
 use Rattle.ge_model_rows.specs.EntryRows.{Put, Drop, Item, ObjectKind, Key}
 use Rattle.ge_model_rows.specs.EventRows.{Event, Planned}
 use Rattle.ge_model_core.specs.Refusals.{refused}
-use Rattle.ge_model_value.specs.Faults.{when}
-use Rattle.ge_model_value.specs.Pieces.{is_one_of}
-use Rattle.ge_model_site.specs.Access.{is_manager}
+use Rattle.ge_model_rows.specs.Faults.{when}
+use Rattle.ge_model_rows.specs.Pieces.{is_one_of}
+use Rattle.ge_model_rows.specs.Access.{is_manager}
 use Rattle.ge_model_grammar.specs.declared.Body.{Body}
 use Rattle.ge_model_grammar.specs.Bodies.{body_of}
 use Rattle.ge_model_config.specs.Reading.{item_of}

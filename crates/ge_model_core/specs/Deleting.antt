@@ -6,9 +6,9 @@ use Rattle.ge_model_rows.specs.EntryRows.{Delete, Clear, Pick}
 use Rattle.ge_model_rows.specs.EventRows.{Event, Planned}
 use Rattle.ge_model_rows.specs.JobRows.{Job, Running}
 use Rattle.ge_model_rows.specs.TaskRows.{TaskSpan}
-use Rattle.ge_model_value.specs.Faults.{when}
-use Rattle.ge_model_tasks.specs.Sets.{has_number, count_of, meet, union}
-use Rattle.ge_model_site.specs.Access.{is_operator}
+use Rattle.ge_model_rows.specs.Faults.{when}
+use Rattle.ge_model_rows.specs.Sets.{has_number, count_of, meet, union}
+use Rattle.ge_model_rows.specs.Access.{is_operator}
 use Rattle.ge_model_core.specs.Answers.{changed, unless_faulty}
 use Rattle.ge_model_core.specs.Targets.{target_faults, named_jobs}
 

@@ -8,8 +8,8 @@ use Rattle.ge_model_rows.specs.ClusterRows.{Cluster}
 use Rattle.ge_model_rows.specs.JobRows.{Job}
 use Rattle.ge_model_rows.specs.TaskRows.{TaskSpan}
 use Rattle.ge_model_text.specs.Pattern.{pattern_covers}
-use Rattle.ge_model_value.specs.Faults.{when}
-use Rattle.ge_model_value.specs.Pieces.{pieces_at, is_digits, number_of, each_number_once}
+use Rattle.ge_model_rows.specs.Faults.{when}
+use Rattle.ge_model_rows.specs.Pieces.{pieces_at, is_digits, number_of, each_number_once}
 
 -- whether a pattern stands for a job's name, and the job is this owner's
 abbrev pub is_named_by : List ℕ → List ℕ → ℕ × Job → Bool

@@ -7,9 +7,9 @@ use Rattle.ge_model_rows.specs.ClusterRows.{Cluster}
 use Rattle.ge_model_rows.specs.EntryRows.{Change, Hold, Release}
 use Rattle.ge_model_rows.specs.EventRows.{Event, Planned}
 use Rattle.ge_model_rows.specs.JobRows.{Job}
-use Rattle.ge_model_value.specs.Faults.{when}
-use Rattle.ge_model_value.specs.Pieces.{each_number_once}
-use Rattle.ge_model_site.specs.Access.{is_manager, is_operator}
+use Rattle.ge_model_rows.specs.Faults.{when}
+use Rattle.ge_model_rows.specs.Pieces.{each_number_once}
+use Rattle.ge_model_rows.specs.Access.{is_manager, is_operator}
 use Rattle.ge_model_core.specs.Answers.{changed, unless_faulty}
 use Rattle.ge_model_core.specs.Altering.{is_foreign}
 

@@ -7,8 +7,8 @@ use Rattle.ge_collections.specs.Keyed.{text_eq, at_number}
 use Rattle.ge_model_rows.specs.ClusterRows.{Cluster}
 use Rattle.ge_model_rows.specs.EventRows.{Event}
 use Rattle.ge_model_rows.specs.JobRows.{Request, Advance}
-use Rattle.ge_model_value.specs.Complexes.{is_consumable}
-use Rattle.ge_model_value.specs.Faults.{when}
+use Rattle.ge_model_rows.specs.Complexes.{is_consumable}
+use Rattle.ge_model_rows.specs.Faults.{when}
 use Rattle.ge_model_grammar.specs.Options.{Given, has_option}
 use Rattle.ge_model_grammar.specs.Targets.{job_number_of}
 pub use Rattle.ge_model_config.specs.Requests.{no_request}

@@ -10,8 +10,8 @@ use Rattle.ge_model_rows.specs.EventRows.{Event}
 use Rattle.ge_model_rows.specs.JobRows.{Request}
 use Rattle.ge_model_rows.specs.PeopleRows.{ProjectRow}
 use Rattle.ge_model_rows.specs.TaskRows.{TaskSpan}
-use Rattle.ge_model_value.specs.Faults.{when}
-use Rattle.ge_model_site.specs.Access.{is_operator, may_use}
+use Rattle.ge_model_rows.specs.Faults.{when}
+use Rattle.ge_model_rows.specs.Access.{is_operator, may_use}
 use Rattle.ge_model_grammar.specs.Options.{Given, has_option}
 use Rattle.ge_model_config.specs.Requests.{request_of}
 use Rattle.ge_model_core.specs.OptionValues.{option_word, number_given, is_negative, magnitude, integer_of, is_yes}

@@ -1,7 +1,7 @@
 -- The words of options as values.
 use Rattle.std.specs.Prelude.{ℕ, ℤ, pos, neg_ℤ, Bool, false, ◌==◌, ◌||◌, if◌then◌else◌, List, [], ◌∷◌, Option, Some, None, option_map, option_and_then, codes}
 use Rattle.ge_collections.specs.Keyed.{text_eq}
-use Rattle.ge_model_value.specs.Pieces.{number_of}
+use Rattle.ge_model_rows.specs.Pieces.{number_of}
 use Rattle.ge_model_grammar.specs.Options.{option_words}
 
 abbrev pub first_word : List (List ℕ) → Option (List ℕ)

@@ -8,9 +8,9 @@ use Rattle.ge_model_rows.specs.ClusterRows.{Cluster}
 use Rattle.ge_model_rows.specs.EntryRows.{Load, End}
 use Rattle.ge_model_rows.specs.EventRows.{Event, Planned}
 use Rattle.ge_model_rows.specs.ValueRows.{Value}
-use Rattle.ge_model_value.specs.Faults.{when}
-use Rattle.ge_model_value.specs.Values.{value_of}
-use Rattle.ge_model_value.specs.Complexes.{complex_at}
+use Rattle.ge_model_rows.specs.Faults.{when}
+use Rattle.ge_model_rows.specs.Values.{value_of}
+use Rattle.ge_model_rows.specs.Complexes.{complex_at}
 use Rattle.ge_model_jobs.specs.Serials.{running_with}
 use Rattle.ge_model_report.specs.Orders.{orders_of, task_lines}
 use Rattle.ge_model_core.specs.Answers.{changed, shown, done_lines, unless_faulty}

@@ -5,9 +5,9 @@ use Rattle.ge_model_rows.specs.ClusterRows.{Cluster, opening_cluster, default_qu
 use Rattle.ge_model_rows.specs.ClusterRows.{opening_complexes}
 use Rattle.ge_model_script.specs.Events.{events_of}
 use Rattle.ge_model_core.specs.Render.{rendered}
-use Rattle.ge_model_value.specs.Complexes.{opening}
-use Rattle.ge_model_site.specs.Groups.{members_of, has_loop, expanded}
-use Rattle.ge_model_site.specs.Queues.{instances_of, resolved}
+use Rattle.ge_model_rows.specs.Complexes.{opening}
+use Rattle.ge_model_rows.specs.Groups.{members_of, has_loop, expanded}
+use Rattle.ge_model_rows.specs.Queues.{instances_of, resolved}
 use Rattle.ge_model_jobs.specs.Altering.{with_job, with_altered, with_held, with_freed}
 use Rattle.ge_model_jobs.specs.Applying.{after_change, after_entry, changes_in_full}
 use Rattle.ge_model_jobs.specs.Configuring.{with_item, without_item, with_load}

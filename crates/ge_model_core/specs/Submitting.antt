@@ -8,9 +8,9 @@ use Rattle.ge_model_rows.specs.EntryRows.{Submit, Patch}
 use Rattle.ge_model_rows.specs.EventRows.{Event, Planned}
 use Rattle.ge_model_rows.specs.JobRows.{Job}
 use Rattle.ge_model_rows.specs.TaskRows.{TaskSpan}
-use Rattle.ge_model_value.specs.Faults.{when}
-use Rattle.ge_model_tasks.specs.Sets.{count_of}
-use Rattle.ge_model_tasks.specs.Ranges.{range_of, reached, range_count, range_set}
+use Rattle.ge_model_rows.specs.Faults.{when}
+use Rattle.ge_model_rows.specs.Sets.{count_of}
+use Rattle.ge_model_rows.specs.Ranges.{range_of, reached, range_count, range_set}
 use Rattle.ge_model_grammar.specs.Options.{Given, has_option, command_name}
 use Rattle.ge_model_core.specs.Answers.{changed, unless_faulty}
 use Rattle.ge_model_core.specs.OptionValues.{option_word}

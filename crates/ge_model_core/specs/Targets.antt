@@ -8,7 +8,7 @@ use Rattle.ge_model_rows.specs.EntryRows.{Pick}
 use Rattle.ge_model_rows.specs.EventRows.{Event}
 use Rattle.ge_model_rows.specs.JobRows.{Job}
 use Rattle.ge_model_rows.specs.TaskRows.{TaskSpan}
-use Rattle.ge_model_value.specs.Faults.{when}
+use Rattle.ge_model_rows.specs.Faults.{when}
 use Rattle.ge_model_jobs.specs.Picks.{picked_tasks, joined_picks}
 use Rattle.ge_model_core.specs.Altering.{is_foreign}
 

@@ -4,7 +4,7 @@ use Rattle.std.specs.List.{list_all, before_first, after_first}
 use Rattle.ge_rows.specs.Keyed.{at_text, text_eq}
 use Rattle.ge_model_rows.specs.EntryRows.{ObjectKind}
 use Rattle.ge_model_text.specs.Words.{is_blank}
-use Rattle.ge_model_value.specs.Pieces.{is_empty, blank_pieces, trimmed, is_one_of}
+use Rattle.ge_model_rows.specs.Pieces.{is_empty, blank_pieces, trimmed, is_one_of}
 use Rattle.ge_model_grammar.specs.Lines.{is_plain_line, text_lines, begins_with, ends_in, read_each}
 use Rattle.ge_model_grammar.specs.Rules.{rule_line_of}
 use Rattle.ge_model_grammar.specs.Attributes.{known_attributes, naming_attributes}

@@ -5,7 +5,7 @@ use Rattle.ge_rows.specs.Keyed.{text_eq}
 use Rattle.ge_model_rows.specs.CommandRows.{Command, Listing, Query}
 use Rattle.ge_model_script.specs.Names.{is_name}
 use Rattle.ge_model_text.specs.Words.{texts_of}
-use Rattle.ge_model_value.specs.Pieces.{is_empty, before_byte, behind_byte, has_byte}
+use Rattle.ge_model_rows.specs.Pieces.{is_empty, before_byte, behind_byte, has_byte}
 use Rattle.ge_model_grammar.specs.Lines.{is_plain_line, text_lines, begins_with, read_each}
 use Rattle.ge_model_grammar.specs.Bodies.{grammar_of_bodies}
 use Rattle.ge_model_grammar.specs.Options.{Given, has_option}

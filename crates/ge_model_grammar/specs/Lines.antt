@@ -2,7 +2,7 @@
 use Rattle.std.specs.Prelude.{ℕ, Bool, ◌||◌, ◌==◌, List, [], ◌∷◌, ◌++◌, Option, Some, None, nat_eq}
 use Rattle.std.specs.Int.{is_in_range}
 use Rattle.std.specs.List.{list_all, starts_with, ends_with}
-use Rattle.ge_model_value.specs.Pieces.{pieces_at}
+use Rattle.ge_model_rows.specs.Pieces.{pieces_at}
 
 -- bytes that print, blanks and tabs
 abbrev pub is_plain_byte : ℕ → Bool

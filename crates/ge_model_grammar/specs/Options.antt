@@ -4,8 +4,8 @@ use Rattle.std.specs.Option.{option_zip}
 use Rattle.ge_limits.specs.Limits as limit
 use Rattle.ge_rows.specs.Keyed.{at_text}
 use Rattle.ge_model_script.specs.Names.{is_job_name_byte, begins_with_digit}
-use Rattle.ge_model_value.specs.Pieces.{is_empty, pieces_at, before_byte, behind_byte, has_byte}
-use Rattle.ge_model_tasks.specs.Ranges.{digits_number}
+use Rattle.ge_model_rows.specs.Pieces.{is_empty, pieces_at, before_byte, behind_byte, has_byte}
+use Rattle.ge_model_rows.specs.Ranges.{digits_number}
 
 -- options with their words
 abbrev pub Given : Type 0

@@ -4,7 +4,7 @@ use Rattle.std.specs.List.{list_all}
 use Rattle.ge_rows.specs.Keyed.{text_eq}
 use Rattle.ge_model_rows.specs.QuotaRows.{Filter}
 use Rattle.ge_model_grammar.specs.declared.RuleLine.{RuleLine}
-use Rattle.ge_model_value.specs.Pieces.{is_empty, blank_pieces, pieces_at, before_byte, behind_byte, has_byte, list_items, joined_by}
+use Rattle.ge_model_rows.specs.Pieces.{is_empty, blank_pieces, pieces_at, before_byte, behind_byte, has_byte, list_items, joined_by}
 use Rattle.ge_model_grammar.specs.Lines.{begins_with, ends_in}
 
 -- a rule without filters and resources

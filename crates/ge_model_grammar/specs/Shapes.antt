@@ -1,7 +1,7 @@
 -- The options of qsub, qalter and qrsub, and how they are read.
 use Rattle.std.specs.Prelude.{ℕ, zero, suc, Bool, true, false, not, if◌then◌else◌, List, [], ◌∷◌, ◌++◌, length, take, filter, filter_map, find, fold, Option, Some, None, option_map, unwrap_or, codes}
 use Rattle.ge_rows.specs.Keyed.{text_eq}
-use Rattle.ge_model_value.specs.Pieces.{is_one_of}
+use Rattle.ge_model_rows.specs.Pieces.{is_one_of}
 use Rattle.ge_model_grammar.specs.declared.WordForm.{WordForm}
 use Rattle.ge_model_grammar.specs.declared.WordForm.TheVariants.{JobName, Asked, Queues, Name, Slots, Tasks, Jobs, Signed, Digits, Answer, Account, Any}
 use Rattle.ge_model_grammar.specs.declared.Effect.{Effect}

@@ -3,8 +3,8 @@ use Rattle.std.specs.Prelude.{ℕ, ◌+◌, ◌-◌, ◌^◌, min, Bool, not, �
 use Rattle.std.specs.List.{list_all}
 use Rattle.ge_model_rows.specs.EntryRows.{Pick}
 use Rattle.ge_model_rows.specs.TaskRows.{TaskSpan}
-use Rattle.ge_model_value.specs.Pieces.{is_empty, pieces_at, before_byte, behind_byte, has_byte}
-use Rattle.ge_model_tasks.specs.Ranges.{digits_number, range_of, range_set}
+use Rattle.ge_model_rows.specs.Pieces.{is_empty, pieces_at, before_byte, behind_byte, has_byte}
+use Rattle.ge_model_rows.specs.Ranges.{digits_number, range_of, range_set}
 use Rattle.ge_model_grammar.specs.Lines.{read_each}
 
 -- digits as a number that is cut at a greatest one

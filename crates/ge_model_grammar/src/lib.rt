@@ -10,7 +10,7 @@
 use ge_rows::{Filter, List, Text};
 
 /// What a word of an option must be.
-#[derive(Clone, Copy, Debug, PartialEq, Eq)]
+#[derive(Clone, Copy, PartialEq, Eq)]
 pub enum WordForm {
     /// A job name.
     JobName,
@@ -39,7 +39,7 @@ pub enum WordForm {
 }
 
 /// What an option counts for.
-#[derive(Clone, Copy, Debug, PartialEq, Eq)]
+#[derive(Clone, Copy, PartialEq, Eq)]
 pub enum Effect {
     /// The last one given counts.
     Replaces,

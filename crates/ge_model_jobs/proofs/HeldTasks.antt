@@ -5,13 +5,13 @@ use Rattle.std.proofs.lemmas.Bool.{eqb-true}
 use Rattle.ge_collections.specs.Keyed.{at_number}
 use Rattle.ge_model_rows.specs.JobRows.{Job, Running}
 use Rattle.ge_model_rows.specs.TaskRows.{TaskSpan, is_form}
-use Rattle.ge_model_tasks.specs.Sets.{has_number, meet, filtered, numbers_of, set_of, union}
-use Rattle.ge_model_tasks.proofs.Form.{Rises}
-use Rattle.ge_model_tasks.proofs.Sets.{form_rises}
-use Rattle.ge_model_tasks.proofs.Merged.{above_low}
-use Rattle.ge_model_tasks.proofs.Numbers.{Rising, is_among, set_of_form, set_of_has, same_numbers, numbers_has, numbers_rise}
-use Rattle.ge_model_tasks.proofs.Together.{union_form, union_has, meet_form, meet_has, difference_form, difference_has}
-use Rattle.ge_model_tasks.proofs.Unique.{set_of_numbers}
+use Rattle.ge_model_rows.specs.Sets.{has_number, meet, filtered, numbers_of, set_of, union}
+use Rattle.ge_model_rows.proofs.Form.{Rises}
+use Rattle.ge_model_rows.proofs.Sets.{form_rises}
+use Rattle.ge_model_rows.proofs.Merged.{above_low}
+use Rattle.ge_model_rows.proofs.Numbers.{Rising, is_among, set_of_form, set_of_has, same_numbers, numbers_has, numbers_rise}
+use Rattle.ge_model_rows.proofs.Together.{union_form, union_has, meet_form, meet_has, difference_form, difference_has}
+use Rattle.ge_model_rows.proofs.Unique.{set_of_numbers}
 use Rattle.ge_model_jobs.specs.Holds.{is_live_task, is_live_in, is_task_held, holding_tasks, holding_in, with_holding, predecessor_tasks, held_tasks, free_tasks}
 use Rattle.ge_model_jobs.specs.Orderly.{has_key, KeysFrom, IsOrderly, AllOrderly}
 use Rattle.ge_model_jobs.proofs.Keys.{at_has}

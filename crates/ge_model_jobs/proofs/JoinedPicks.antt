@@ -7,9 +7,9 @@ use Rattle.ge_collections.specs.Keyed.{at_number, put_number}
 use Rattle.ge_model_rows.specs.EntryRows.{Pick}
 use Rattle.ge_model_rows.specs.JobRows.{Job, Running}
 use Rattle.ge_model_rows.specs.TaskRows.{TaskSpan, is_form}
-use Rattle.ge_model_tasks.specs.Sets.{has_number, union}
-use Rattle.ge_model_tasks.proofs.Together.{union_form, union_has}
-use Rattle.ge_model_tasks.proofs.Unique.{one_form}
+use Rattle.ge_model_rows.specs.Sets.{has_number, union}
+use Rattle.ge_model_rows.proofs.Together.{union_form, union_has}
+use Rattle.ge_model_rows.proofs.Unique.{one_form}
 use Rattle.ge_model_jobs.specs.Picks.{picks_task, is_joined_name, names_task, named_in, unnamed_in, picked_tasks, both_named, with_named, join_pick, joined_picks}
 use Rattle.ge_model_jobs.specs.Holds.{live_tasks}
 use Rattle.ge_model_jobs.specs.Ending.{marked, is_unnamed, run_on, without_picked, cleared}

@@ -10,7 +10,7 @@ use Rattle.ge_model_rows.specs.EntryRows.{Change, Item, ObjectKind, Pick, Patch}
 use Rattle.ge_model_rows.specs.JobRows.{Job, Running}
 use Rattle.ge_model_rows.specs.ScheduleRows.{Start}
 use Rattle.ge_model_rows.specs.TaskRows.{TaskId, TaskSpan}
-use Rattle.ge_model_tasks.proofs.Together.{union_form}
+use Rattle.ge_model_rows.proofs.Together.{union_form}
 use Rattle.ge_model_jobs.specs.declared.After.{After}
 use Rattle.ge_model_jobs.specs.declared.After.TheVariants as after
 use Rattle.ge_model_jobs.specs.Serials.{running_with}

@@ -5,10 +5,10 @@ use Rattle.ge_collections.specs.Keyed.{put_number}
 use Rattle.ge_model_rows.specs.JobRows.{Job, Running}
 use Rattle.ge_model_rows.specs.ScheduleRows.{Start}
 use Rattle.ge_model_rows.specs.TaskRows.{TaskSpan, is_form}
-use Rattle.ge_model_tasks.specs.Sets.{has_number, without_number}
-use Rattle.ge_model_tasks.proofs.Sets.{form_rises, with_number_form, with_number_has, without_number_form, without_number_has}
-use Rattle.ge_model_tasks.proofs.Merged.{above_low}
-use Rattle.ge_model_tasks.proofs.Together.{union_form, union_has, meet_form, meet_has, difference_form, difference_has}
+use Rattle.ge_model_rows.specs.Sets.{has_number, without_number}
+use Rattle.ge_model_rows.proofs.Sets.{form_rises, with_number_form, with_number_has, without_number_form, without_number_has}
+use Rattle.ge_model_rows.proofs.Merged.{above_low}
+use Rattle.ge_model_rows.proofs.Together.{union_form, union_has, meet_form, meet_has, difference_form, difference_has}
 pub use Rattle.ge_model_jobs.specs.Picks.{IsPick}
 use Rattle.ge_model_jobs.specs.Picks.{names_task, named_in, unnamed_in}
 use Rattle.ge_model_jobs.specs.Starting.{with_start, running_from}

@@ -11,7 +11,7 @@ use Rattle.ge_model_rows.specs.QueueRows.{QueueRow}
 use Rattle.ge_model_rows.specs.ScheduleRows.{Start, Prio}
 use Rattle.ge_model_rows.specs.TaskRows.{TaskSpan, TaskId}
 use Rattle.ge_model_rows.specs.ValueRows.{Value, Amount, Flag, Kind, Relop, Requestable, Consumable, ComplexDef}
-use Rattle.ge_model_value.specs.Complexes.{opening, opening_complexes}
+use Rattle.ge_model_rows.specs.Complexes.{opening, opening_complexes}
 
 -- ---- jobs
 

@@ -6,8 +6,8 @@ use Rattle.ge_model_rows.specs.ClusterRows.{Cluster}
 use Rattle.ge_model_rows.specs.EntryRows.{Pick}
 use Rattle.ge_model_rows.specs.JobRows.{Job, Running}
 use Rattle.ge_model_rows.specs.TaskRows.{TaskId, TaskSpan}
-use Rattle.ge_model_value.specs.Pieces.{is_empty}
-use Rattle.ge_model_tasks.specs.Sets.{with_number, union}
+use Rattle.ge_model_rows.specs.Pieces.{is_empty}
+use Rattle.ge_model_rows.specs.Sets.{with_number, union}
 use Rattle.ge_model_jobs.specs.declared.After.{After}
 use Rattle.ge_model_jobs.specs.declared.After.TheVariants as after
 use Rattle.ge_model_jobs.specs.Accounts.{Report, line_of}

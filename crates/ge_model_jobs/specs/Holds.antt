@@ -4,7 +4,7 @@ use Rattle.std.specs.List.{list_any}
 use Rattle.ge_collections.specs.Keyed.{at_number}
 use Rattle.ge_model_rows.specs.JobRows.{Job}
 use Rattle.ge_model_rows.specs.TaskRows.{TaskSpan}
-use Rattle.ge_model_tasks.specs.Sets.{has_number, numbers_of, set_of, union, meet, difference}
+use Rattle.ge_model_rows.specs.Sets.{has_number, numbers_of, set_of, union, meet, difference}
 
 -- whether a task of a job lives: it waits, is in error or runs
 abbrev pub is_live_task : Job → ℕ → Bool

@@ -4,7 +4,7 @@ use Rattle.std.specs.List.{list_any}
 use Rattle.ge_model_rows.specs.ClusterRows.{Cluster}
 use Rattle.ge_model_rows.specs.JobRows.{Job}
 use Rattle.ge_model_rows.specs.TaskRows.{is_form}
-use Rattle.ge_model_tasks.specs.Sets.{has_number}
+use Rattle.ge_model_rows.specs.Sets.{has_number}
 
 -- whether a table has a key
 abbrev pub has_key : {X : Type 0} → ℕ → List (ℕ × X) → Bool

@@ -4,7 +4,7 @@ use Rattle.ge_collections.specs.Keyed.{at_number, put_number}
 use Rattle.ge_model_rows.specs.EntryRows.{Pick}
 use Rattle.ge_model_rows.specs.JobRows.{Job}
 use Rattle.ge_model_rows.specs.TaskRows.{TaskSpan, is_form}
-use Rattle.ge_model_tasks.specs.Sets.{has_number, union, meet, difference}
+use Rattle.ge_model_rows.specs.Sets.{has_number, union, meet, difference}
 use Rattle.ge_model_jobs.specs.Holds.{live_tasks}
 
 -- whether a pick's tasks, all where it names none, have a number

@@ -5,7 +5,7 @@ use Rattle.ge_collections.specs.Keyed.{put_number}
 use Rattle.ge_model_rows.specs.ClusterRows.{Cluster}
 use Rattle.ge_model_rows.specs.JobRows.{Job, Running, Advance}
 use Rattle.ge_model_rows.specs.ScheduleRows.{Start}
-use Rattle.ge_model_tasks.specs.Sets.{has_number, without_number}
+use Rattle.ge_model_rows.specs.Sets.{has_number, without_number}
 use Rattle.ge_model_jobs.specs.Altering.{change_job}
 
 -- a task that runs, from this moment on

@@ -13,7 +13,7 @@
 #![tactic(auto)]
 
 /// What becomes of a running task that ends.
-#[derive(Clone, Copy, Debug, PartialEq, Eq)]
+#[derive(Clone, Copy, PartialEq, Eq)]
 pub enum After {
     /// The task is gone.
     Gone,

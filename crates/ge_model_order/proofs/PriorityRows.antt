@@ -6,7 +6,7 @@ use Rattle.ge_model_rows.specs.PeRows.{PeRow, PeSlots, UrgencySlots}
 use Rattle.ge_model_rows.specs.ValueRows.{Amount, Flag, Kind, Le, Requestable, Consumable}
 use Rattle.ge_model_rows.specs.ValueRows.{ComplexDef}
 use Rattle.ge_collections.specs.Keyed.{put_text}
-use Rattle.ge_model_value.specs.Complexes.{opening}
+use Rattle.ge_model_rows.specs.Complexes.{opening}
 use Rattle.ge_model_jobs.specs.Holds.{eligible_tasks}
 use Rattle.ge_model_jobs.proofs.Samples.{span, asking, with_pe, prio, task, complex, pe, with_jobs}
 use Rattle.ge_model_order.specs.Candidates.{is_candidate, candidates}

@@ -12,7 +12,7 @@ use Rattle.ge_model_order.specs.Share.{weight, weight_below, weights_by_node, ti
 use Rattle.ge_model_order.specs.ShareRule.{Charge, Weighed, charged_at, is_first, is_child_of, weighed, weighed_children, weight_with_jobs, tickets_below as tickets_by_rule, with_tickets as with_tickets_by_rule, node_tickets, jobs_at}
 use Rattle.ge_model_order.specs.ShareTables.{amount_at, children_sums}
 use Rattle.ge_model_order.specs.ShareTree.{Entered}
-use Rattle.ge_model_value.specs.Pieces.{lists_number}
+use Rattle.ge_model_rows.specs.Pieces.{lists_number}
 use Rattle.ge_model_order.proofs.ShareTotals.{children_sums-at}
 use Rattle.ge_model_order.proofs.ShareNodes.{IsOnce, each_put}
 

@@ -14,11 +14,11 @@ use Rattle.std.proofs.lemmas.Bool.{eqb-true, eq-eqb}
 use Rattle.std.proofs.lemmas.Bool.Decides.{nat_tests}
 use Rattle.std.proofs.lemmas.Map.Lookups.{CmpEqualImpliesEq, exact_bytes, exact_pairs, exact_unsigned}
 use Rattle.ge_collections.specs.Keyed.{text_cmp, text_eq, at_text}
-use Rattle.ge_model_value.specs.Pieces.{is_empty}
+use Rattle.ge_model_rows.specs.Pieces.{is_empty}
 use Rattle.ge_model_order.specs.ShareRule.{is_leaf, is_leaf_named, project_node, user_leaf, if_leaf, leaf_under, leaf_of}
 use Rattle.ge_model_order.specs.ShareTables.{amount_at, child_counts, scopes_below, LeafKey, leaf_cmp, at_leaf, with_leaf, with_scopes, with_node, with_project, places_of, leaf_in, project_at, if_childless, leaf_below, leaf_at}
 use Rattle.ge_model_order.specs.ShareTree.{Entered}
-use Rattle.ge_model_value.specs.Pieces.{lists_number}
+use Rattle.ge_model_rows.specs.Pieces.{lists_number}
 use Rattle.ge_model_order.proofs.ShareTotals.{equal, put_in, is_leaf-counted}
 
 or_none : {X : Type 0} (o : Option X) → option_or o None ≡ o

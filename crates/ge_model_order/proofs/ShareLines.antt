@@ -10,7 +10,7 @@ use Rattle.ge_base.specs.Fixed.{cut_sum}
 use Rattle.ge_model_order.specs.Amounts.{cut_total}
 use Rattle.ge_model_order.specs.ShareRule.{Charge, charged_at}
 use Rattle.ge_model_order.specs.ShareTables.{amount_at, raised_amount, raised_along}
-use Rattle.ge_model_value.specs.Pieces.{lists_number}
+use Rattle.ge_model_rows.specs.Pieces.{lists_number}
 use Rattle.ge_model_order.proofs.ShareTotals.{AreCut, none_cut, raised_at, raised_cut}
 
 along_cut : (ids : List ℕ) (rows : List (ℕ × ℕ)) (amount : ℕ) → AreCut rows → AreCut (raised_along rows ids amount)

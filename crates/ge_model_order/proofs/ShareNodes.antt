@@ -6,11 +6,11 @@ use Rattle.std.specs.Option.{option_or, option_map}
 use Rattle.std.specs.Cmp.{unsigned_ties}
 use Rattle.std.proofs.lemmas.Bool.{eq-eqb}
 use Rattle.ge_collections.specs.Keyed.{at_number, put_number}
-use Rattle.ge_model_value.specs.Pieces.{is_empty}
+use Rattle.ge_model_rows.specs.Pieces.{is_empty}
 use Rattle.ge_model_order.specs.ShareRule.{is_leaf, is_leaf_named, is_project_named, project_node, user_leaf, if_leaf, leaf_under, leaf_of, line_to, node_line}
 use Rattle.ge_model_order.specs.ShareTables.{places_of, line_up, line_from, line_at}
 use Rattle.ge_model_order.specs.ShareTree.{Entered}
-use Rattle.ge_model_value.specs.Pieces.{lists_number}
+use Rattle.ge_model_rows.specs.Pieces.{lists_number}
 use Rattle.ge_model_order.proofs.ShareTotals.{put_at}
 use Rattle.ge_model_order.proofs.ShareLeaves.{leaf_at-rule}
 

@@ -1,6 +1,6 @@
 -- Share clusters that were made at random, with what an independent program of the same rules gives for them.
 use Rattle.std.specs.Prelude.{◌≡◌, ℕ, List, [], ◌∷◌, codes, refl}
-use Rattle.ge_model_value.specs.Complexes.{opening}
+use Rattle.ge_model_rows.specs.Complexes.{opening}
 use Rattle.ge_model_rows.specs.JobRows.{Job}
 use Rattle.ge_model_rows.specs.PeopleRows.{ShareNode}
 use Rattle.ge_model_jobs.specs.Usage.{UsageKey}

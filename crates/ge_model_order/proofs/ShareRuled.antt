@@ -16,7 +16,7 @@ use Rattle.ge_model_order.specs.Share.{with_charge, usage_by_node, with_job_coun
 use Rattle.ge_model_order.specs.ShareRule.{Charge, Weighed, charge_of, charges_of, charged_at, node_line, leaf_of, weighed_tree, node_tickets, jobs_at, share_tickets_at, leaf_tickets as leaf_tickets_by_rule, share_tickets_by_rule}
 use Rattle.ge_model_order.specs.ShareTables.{amount_at, raised_along, places_of}
 use Rattle.ge_model_order.specs.ShareTree.{Entered, tree_of}
-use Rattle.ge_model_value.specs.Pieces.{lists_number}
+use Rattle.ge_model_rows.specs.Pieces.{lists_number}
 use Rattle.ge_model_order.specs.Tickets.{jobs_of}
 use Rattle.ge_model_order.proofs.ShareDivided.{tickets_by_node-rule, jobs_at-rule}
 use Rattle.ge_model_order.proofs.ShareLeaves.{leaf_at-rule}

@@ -3,7 +3,7 @@ use Rattle.std.specs.Prelude.{◌≡◌, ℕ, ◌-◌, ◌^◌, List, [], ◌∷
 use Rattle.ge_model_rows.specs.ClusterRows.{Cluster}
 use Rattle.ge_model_rows.specs.JobRows.{Job}
 use Rattle.ge_model_rows.specs.PeopleRows.{UserRow, ProjectRow}
-use Rattle.ge_model_value.specs.Complexes.{opening}
+use Rattle.ge_model_rows.specs.Complexes.{opening}
 use Rattle.ge_model_jobs.proofs.Samples.{with_jobs}
 use Rattle.ge_model_order.specs.Tickets.{tickets_of}
 use Rattle.ge_model_order.proofs.Samples.{job_of, owned, user_row, project_row}

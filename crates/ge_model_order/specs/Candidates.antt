@@ -2,7 +2,7 @@
 use Rattle.std.specs.Prelude.{ℕ, Bool, not, List, filter}
 use Rattle.std.specs.Map.{keys_of}
 use Rattle.ge_model_rows.specs.ClusterRows.{Cluster}
-use Rattle.ge_model_value.specs.Pieces.{is_empty}
+use Rattle.ge_model_rows.specs.Pieces.{is_empty}
 use Rattle.ge_model_jobs.specs.Holds.{eligible_tasks}
 
 -- whether a job has an eligible task; the first one is enough

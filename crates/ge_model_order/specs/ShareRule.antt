@@ -9,11 +9,11 @@ use Rattle.ge_model_rows.specs.ClusterRows.{Cluster}
 use Rattle.ge_model_rows.specs.JobRows.{Job}
 use Rattle.ge_model_rows.specs.PeopleRows.{ShareNode}
 use Rattle.ge_model_rows.specs.ValueRows.{million}
-use Rattle.ge_model_value.specs.Pieces.{is_empty}
+use Rattle.ge_model_rows.specs.Pieces.{is_empty}
 use Rattle.ge_model_jobs.specs.Usage.{epoch_of, decayed}
 use Rattle.ge_model_order.specs.Amounts.{cut_total, cut_at_64, portion, equal_part}
 use Rattle.ge_model_order.specs.ShareTree.{Entered, root_id, most_levels, projects_below, entered}
-use Rattle.ge_model_value.specs.Pieces.{lists_number}
+use Rattle.ge_model_rows.specs.Pieces.{lists_number}
 use Rattle.ge_model_order.specs.Tickets.{jobs_of}
 
 -- the row of a node that may be entered: it is there, and is none of those that the walk entered

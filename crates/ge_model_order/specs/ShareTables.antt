@@ -7,7 +7,7 @@ use Rattle.std.specs.Ordering.{nat_cmp, ordering_then}
 use Rattle.std.specs.declared.cmp.Ordering.{Ordering}
 use Rattle.ge_base.specs.Fixed.{cut_sum}
 use Rattle.ge_collections.specs.Keyed.{text_cmp, at_number, put_number, at_text, put_text}
-use Rattle.ge_model_value.specs.Pieces.{is_empty}
+use Rattle.ge_model_rows.specs.Pieces.{is_empty}
 use Rattle.ge_model_order.specs.ShareTree.{Entered}
 
 -- the amount kept at a node, 0 where there is none

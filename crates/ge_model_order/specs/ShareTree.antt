@@ -4,7 +4,7 @@ use Rattle.ge_collections.specs.Keyed.{at_number, put_number}
 use Rattle.ge_limits.specs.Limits as limit
 use Rattle.ge_model_rows.specs.ClusterRows.{Cluster}
 use Rattle.ge_model_rows.specs.PeopleRows.{ShareNode}
-use Rattle.ge_model_value.specs.Pieces.{lists_number}
+use Rattle.ge_model_rows.specs.Pieces.{lists_number}
 
 -- a node that the walk enters, with the nodes above it, nearest first, and the project nodes among them
 pub record Entered : Type 0 where

@@ -8,7 +8,7 @@ use Rattle.ge_model_rows.specs.JobRows.{Job}
 use Rattle.ge_model_rows.specs.PeopleRows.{UserRow, ProjectRow}
 use Rattle.ge_model_rows.specs.ValueRows.{million}
 use Rattle.ge_model_order.specs.Amounts.{cut_total, cut_at_64, portion, equal_part}
-use Rattle.ge_model_value.specs.Pieces.{is_empty}
+use Rattle.ge_model_rows.specs.Pieces.{is_empty}
 
 -- the jobs of these numbers that are there
 abbrev pub jobs_of : Cluster → List ℕ → List Job

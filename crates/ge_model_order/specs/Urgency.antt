@@ -6,7 +6,7 @@ use Rattle.ge_model_rows.specs.ClusterRows.{Cluster}
 use Rattle.ge_model_rows.specs.JobRows.{Job, Request, PeRequest}
 use Rattle.ge_model_rows.specs.PeRows.{PeRow, UrgencySlots}
 use Rattle.ge_model_rows.specs.ValueRows.{Value, Amount, Flag, Word, Kind, ComplexDef, million}
-use Rattle.ge_model_value.specs.Complexes.{complex_at}
+use Rattle.ge_model_rows.specs.Complexes.{complex_at}
 use Rattle.ge_model_order.specs.Amounts.{cut_total}
 
 -- how many slots are assumed of a range (sge_pe, urgency_slots)

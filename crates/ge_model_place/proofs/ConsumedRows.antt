@@ -7,8 +7,8 @@ use Rattle.ge_model_rows.specs.PeRows.{Allocation, Fixed, PeSlots, FillUp, Round
 use Rattle.ge_model_rows.specs.ScheduleRows.{Global}
 use Rattle.ge_model_rows.specs.ValueRows.{Consumable}
 use Rattle.ge_model_bookings.specs.Bookings.{plain_sum}
-use Rattle.ge_model_site.specs.Groups.{expanded}
-use Rattle.ge_model_value.specs.Complexes.{opening}
+use Rattle.ge_model_rows.specs.Groups.{expanded}
+use Rattle.ge_model_rows.specs.Complexes.{opening}
 use Rattle.ge_model_place.specs.Running.{run_of}
 use Rattle.ge_model_place.specs.Windows.{base_bookings}
 use Rattle.ge_model_jobs.proofs.Samples.{asking, with_pe, task, local, first_host, both_hosts, running, licence, licences, complexes_with, host, two_hosts}

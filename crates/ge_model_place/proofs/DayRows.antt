@@ -7,8 +7,8 @@ use Rattle.ge_model_rows.specs.JobRows.{Job}
 use Rattle.ge_model_rows.specs.PeRows.{PeSlots}
 use Rattle.ge_model_rows.specs.QueueRows.{QueueRow}
 use Rattle.ge_model_rows.specs.ValueRows.{Amount}
-use Rattle.ge_model_site.specs.Groups.{expanded}
-use Rattle.ge_model_value.specs.Complexes.{opening}
+use Rattle.ge_model_rows.specs.Groups.{expanded}
+use Rattle.ge_model_rows.specs.Complexes.{opening}
 use Rattle.ge_model_place.specs.InstanceOrder.{instance_order}
 use Rattle.ge_model_place.specs.Running.{run_of}
 use Rattle.ge_model_jobs.proofs.Samples.{asking, lasting, in_queues, with_pe, task, instance, slots_of, one_slot, running, gigabytes, memory, complexes_with, host, for_pe, pe}

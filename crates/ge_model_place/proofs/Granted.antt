@@ -6,7 +6,7 @@ use Rattle.std.specs.declared.cmp.Ordering.TheVariants.{Less, Equal, Greater}
 use Rattle.std.proofs.lemmas.Bool.{cond-false, ne_eqb}
 use Rattle.std.proofs.lemmas.Map.Lookups.{exact_bytes}
 use Rattle.ge_collections.specs.Keyed.{text_cmp, at_text, put_text, drop_text}
-use Rattle.ge_model_site.specs.Groups.{expanded}
+use Rattle.ge_model_rows.specs.Groups.{expanded}
 use Rattle.ge_model_rows.specs.ClusterRows.{Cluster}
 use Rattle.ge_model_rows.specs.JobRows.{Advance}
 use Rattle.ge_model_rows.specs.TaskRows.{TaskId}

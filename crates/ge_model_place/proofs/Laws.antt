@@ -5,7 +5,7 @@ use Rattle.std.proofs.lemmas.Bool.{cond-true, cond-false, cases_Bool, true≢fal
 use Rattle.std.proofs.lemmas.List.{append-nil}
 use Rattle.std.proofs.lemmas.List.Concat.{flat_map-append}
 use Rattle.ge_collections.specs.Keyed.{at_number}
-use Rattle.ge_model_site.specs.Groups.{expanded}
+use Rattle.ge_model_rows.specs.Groups.{expanded}
 use Rattle.ge_model_rows.specs.ClusterRows.{Cluster}
 use Rattle.ge_model_rows.specs.DecisionRows.{Decision, Start, Reserve, Skip}
 use Rattle.ge_model_rows.specs.JobRows.{Grant}

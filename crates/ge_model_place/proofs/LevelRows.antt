@@ -5,8 +5,8 @@ use Rattle.ge_model_rows.specs.DecisionRows.{Skip}
 use Rattle.ge_model_rows.specs.QuotaRows.{Rule}
 use Rattle.ge_model_rows.specs.TaskRows.{TaskId}
 use Rattle.ge_model_rows.specs.ValueRows.{Value, Amount, Flag, Consumable}
-use Rattle.ge_model_site.specs.Groups.{expanded}
-use Rattle.ge_model_value.specs.Complexes.{opening}
+use Rattle.ge_model_rows.specs.Groups.{expanded}
+use Rattle.ge_model_rows.specs.Complexes.{opening}
 use Rattle.ge_model_place.specs.InstanceOrder.{instance_order}
 use Rattle.ge_model_place.specs.Quotas.{Who, key_of}
 use Rattle.ge_model_place.specs.Running.{run_of}

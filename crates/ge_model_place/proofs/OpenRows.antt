@@ -9,8 +9,8 @@ use Rattle.ge_model_rows.specs.QueueRows.{QueueRow}
 use Rattle.ge_model_rows.specs.ScheduleRows.{Instance, Host, Global, Pe, Quota, Booking}
 use Rattle.ge_model_rows.specs.SettingRows.{SortMethod, Load, Seqno}
 use Rattle.ge_model_rows.specs.ValueRows.{Value, Amount, Flag, Word, Int, Le, Ge, Requestable, Consumable, ComplexDef}
-use Rattle.ge_model_site.specs.Groups.{expanded}
-use Rattle.ge_model_value.specs.Complexes.{opening}
+use Rattle.ge_model_rows.specs.Groups.{expanded}
+use Rattle.ge_model_rows.specs.Complexes.{opening}
 use Rattle.ge_model_place.specs.InstanceOrder.{instance_order}
 use Rattle.ge_model_place.specs.Limits.{Counted, counted_at, demands_of}
 use Rattle.ge_model_place.specs.Opening.{is_open, reaches_threshold, names_instance}

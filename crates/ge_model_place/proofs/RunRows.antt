@@ -5,7 +5,7 @@ use Rattle.ge_model_rows.specs.DecisionRows.{Decision, Skip}
 use Rattle.ge_model_rows.specs.JobRows.{Job, Grant}
 use Rattle.ge_model_rows.specs.PeRows.{Allocation, Fixed, PeSlots, FillUp, RoundRobin}
 use Rattle.ge_model_rows.specs.QuotaRows.{Rule}
-use Rattle.ge_model_value.specs.Complexes.{opening}
+use Rattle.ge_model_rows.specs.Complexes.{opening}
 use Rattle.ge_model_place.specs.Running.{run_of}
 use Rattle.ge_model_jobs.proofs.Samples.{lasting, in_queues, with_pe, task, slots_of, one_slot, local, first_host, both_hosts, since}
 use Rattle.ge_model_jobs.proofs.Samples.{bare_hosts, queue_on, local_queue, both_queue, for_pe, all_q, pe}

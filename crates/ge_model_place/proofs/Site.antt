@@ -6,7 +6,7 @@ use Rattle.ge_model_rows.specs.JobRows.{Job, Grant}
 use Rattle.ge_model_rows.specs.QuotaRows.{QuotaRow, Rule, Filter}
 use Rattle.ge_model_rows.specs.TaskRows.{TaskId}
 use Rattle.ge_model_place.specs.Running.{runs_in_full}
-use Rattle.ge_model_value.specs.Complexes.{opening, opening_complexes}
+use Rattle.ge_model_rows.specs.Complexes.{opening, opening_complexes}
 use Rattle.ge_model_jobs.proofs.Samples.{some_job}
 
 -- a job of a user of which no task waits, without a word

@@ -8,7 +8,7 @@ use Rattle.std.proofs.lemmas.List.Sums.{sum_by-cons}
 use Rattle.std.specs.BTreeMap.{is_at}
 use Rattle.std.specs.Ordering.{nat_cmp}
 use Rattle.ge_collections.specs.Keyed.{at_number}
-use Rattle.ge_model_site.specs.Groups.{expanded}
+use Rattle.ge_model_rows.specs.Groups.{expanded}
 use Rattle.ge_model_rows.specs.ClusterRows.{Cluster}
 use Rattle.ge_model_rows.specs.DecisionRows.{Decision}
 use Rattle.ge_model_rows.specs.HostRows.{Groups, InstanceId}

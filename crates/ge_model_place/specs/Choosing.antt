@@ -1,7 +1,7 @@
 -- Placement in its own words: for a number of slots the repeated choice of a rule, and of the numbers that are asked for
 -- the greatest that has one.
 use Rattle.std.specs.Prelude.{◌≡◌, ℕ, zero, suc, ◌+◌, ◌/◌, ◌%◌, ◌==◌, ◌≤◌, ◌<◌, Bool, true, false, ◌&&◌, not, List, [], ◌∷◌, ◌++◌, map, filter, fold, Option, Some, None, option_map}
-use Rattle.ge_model_value.specs.Pieces.{each_once}
+use Rattle.ge_model_rows.specs.Pieces.{each_once}
 use Rattle.std.specs.List.{list_all}
 use Rattle.std.specs.Prelude.{nat_le}
 use Rattle.ge_model_bookings.specs.Bookings.{plain_sum}

@@ -5,7 +5,7 @@ use Rattle.std.specs.Map.{values_of}
 use Rattle.std.specs.Ordering.{ordering_then, nat_cmp}
 use Rattle.std.specs.declared.cmp.Ordering.{Ordering}
 use Rattle.ge_collections.specs.Keyed.{text_cmp, at_text}
-use Rattle.ge_model_site.specs.Queues.{attr_at, instances_of}
+use Rattle.ge_model_rows.specs.Queues.{attr_at, instances_of}
 use Rattle.ge_model_rows.specs.ClusterRows.{Cluster}
 use Rattle.ge_model_rows.specs.HostRows.{Groups, InstanceId}
 use Rattle.ge_model_rows.specs.QueueRows.{QueueRow}

@@ -5,9 +5,9 @@ use Rattle.std.specs.Map.{keys_of}
 use Rattle.ge_collections.specs.Keyed.{text_eq, at_text, at_number}
 use Rattle.ge_model_bookings.specs.Bookings.{same_instance, same_limit}
 use Rattle.ge_model_jobs.specs.Accounts.{pe_name}
-use Rattle.ge_model_site.specs.Queues.{attr_at, slots_at}
-use Rattle.ge_model_value.specs.Complexes.{complex_at, is_consumable}
-use Rattle.ge_model_value.specs.Values.{amount_in}
+use Rattle.ge_model_rows.specs.Queues.{attr_at, slots_at}
+use Rattle.ge_model_rows.specs.Complexes.{complex_at, is_consumable}
+use Rattle.ge_model_rows.specs.Values.{amount_in}
 use Rattle.ge_model_rows.specs.ClusterRows.{Cluster}
 use Rattle.ge_model_rows.specs.HostRows.{HostRow, Groups, InstanceId}
 use Rattle.ge_model_rows.specs.JobRows.{Job, PeRequest, Grant, Advance}

@@ -2,12 +2,12 @@
 use Rattle.std.specs.Prelude.{ℕ, ◌==◌, Bool, true, false, not, ◌&&◌, ◌||◌, if◌then◌else◌, List, [], ◌∷◌, Option, Some, None, is_some, codes}
 use Rattle.std.specs.List.{list_any, list_all}
 use Rattle.ge_collections.specs.Keyed.{text_eq, at_text}
-use Rattle.ge_model_site.specs.Access.{may_use}
-use Rattle.ge_model_site.specs.Queues.{attr_at, resolved}
+use Rattle.ge_model_rows.specs.Access.{may_use}
+use Rattle.ge_model_rows.specs.Queues.{attr_at, resolved}
 use Rattle.ge_model_text.specs.Pattern.{pattern_covers}
-use Rattle.ge_model_value.specs.Complexes.{complex_at, is_consumable}
-use Rattle.ge_model_value.specs.Pieces.{is_empty, before_byte, behind_byte, has_byte, is_one_of}
-use Rattle.ge_model_value.specs.Relops.{admits, holds_between}
+use Rattle.ge_model_rows.specs.Complexes.{complex_at, is_consumable}
+use Rattle.ge_model_rows.specs.Pieces.{is_empty, before_byte, behind_byte, has_byte, is_one_of}
+use Rattle.ge_model_rows.specs.Relops.{admits, holds_between}
 use Rattle.ge_model_rows.specs.ClusterRows.{Cluster}
 use Rattle.ge_model_rows.specs.HostRows.{HostRow, Groups, InstanceId}
 use Rattle.ge_model_rows.specs.JobRows.{Job, PeRequest}

@@ -2,10 +2,10 @@
 use Rattle.std.specs.Prelude.{ℕ, ◌+◌, ◌-◌, ◌^◌, ◌==◌, Bool, true, false, not, ◌&&◌, ◌||◌, if◌then◌else◌, min, List, [], ◌∷◌, map, flat_map, Option, Some, None}
 use Rattle.std.specs.List.{list_any}
 use Rattle.ge_collections.specs.Keyed.{at_text}
-use Rattle.ge_model_site.specs.Access.{in_user_set}
-use Rattle.ge_model_site.specs.Groups.{group_has}
+use Rattle.ge_model_rows.specs.Access.{in_user_set}
+use Rattle.ge_model_rows.specs.Groups.{group_has}
 use Rattle.ge_model_text.specs.Pattern.{pattern_covers}
-use Rattle.ge_model_value.specs.Pieces.{is_empty}
+use Rattle.ge_model_rows.specs.Pieces.{is_empty}
 use Rattle.ge_model_rows.specs.ClusterRows.{Cluster}
 use Rattle.ge_model_rows.specs.HostRows.{Groups}
 use Rattle.ge_model_rows.specs.QuotaRows.{QuotaRow, Rule, Filter}

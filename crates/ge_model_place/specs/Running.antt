@@ -3,8 +3,8 @@ use Rattle.std.specs.Prelude.{ℕ, ◌+◌, ◌-◌, ◌^◌, ◌==◌, Bool, tr
 use Rattle.ge_collections.specs.Keyed.{text_eq, at_number}
 use Rattle.ge_limits.specs.Limits as limit
 use Rattle.ge_model_bookings.specs.Bookings.{forever}
-use Rattle.ge_model_site.specs.Groups.{members_of, expanded}
-use Rattle.ge_model_site.specs.Queues.{instances_of, resolved}
+use Rattle.ge_model_rows.specs.Groups.{members_of, expanded}
+use Rattle.ge_model_rows.specs.Queues.{instances_of, resolved}
 use Rattle.ge_model_rows.specs.ClusterRows.{Cluster}
 use Rattle.ge_model_rows.specs.DecisionRows.{Decision}
 use Rattle.ge_model_rows.specs.HostRows.{Groups, InstanceId}

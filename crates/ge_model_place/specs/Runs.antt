@@ -3,7 +3,7 @@ use Rattle.std.specs.Prelude.{◌≡◌, ℕ, ◌≤◌, ◌<◌, ◌⊎◌, tru
 use Rattle.std.specs.List.{list_any}
 use Rattle.ge_collections.specs.Keyed.{at_number}
 use Rattle.ge_model_bookings.specs.Bookings.{forever, plain_sum}
-use Rattle.ge_model_site.specs.Groups.{expanded}
+use Rattle.ge_model_rows.specs.Groups.{expanded}
 use Rattle.ge_model_rows.specs.ClusterRows.{Cluster}
 use Rattle.ge_model_rows.specs.DecisionRows.{Decision}
 use Rattle.ge_model_rows.specs.HostRows.{InstanceId}

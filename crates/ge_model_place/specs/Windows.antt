@@ -3,8 +3,8 @@ use Rattle.std.specs.Prelude.{ℕ, ◌+◌, ◌-◌, ◌^◌, ◌==◌, Bool, fa
 use Rattle.std.specs.List.{list_any}
 use Rattle.ge_collections.specs.Keyed.{at_text, at_number}
 use Rattle.ge_model_bookings.specs.Bookings.{window_end}
-use Rattle.ge_model_value.specs.Pieces.{is_empty}
-use Rattle.ge_model_value.specs.Values.{amount_in}
+use Rattle.ge_model_rows.specs.Pieces.{is_empty}
+use Rattle.ge_model_rows.specs.Values.{amount_in}
 use Rattle.ge_model_rows.specs.ClusterRows.{Cluster}
 use Rattle.ge_model_rows.specs.HostRows.{Groups}
 use Rattle.ge_model_rows.specs.JobRows.{Job, Running, Grant, Advance}

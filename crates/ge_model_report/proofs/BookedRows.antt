@@ -3,7 +3,7 @@ use Rattle.std.specs.Prelude.{◌≡◌, ℕ, List, [], ◌∷◌, Some, None, c
 use Rattle.std.specs.Fmt.{digits}
 use Rattle.ge_model_rows.specs.ClusterRows.{Cluster}
 use Rattle.ge_model_rows.specs.JobRows.{Grant, Advance}
-use Rattle.ge_model_value.specs.Complexes.{opening}
+use Rattle.ge_model_rows.specs.Complexes.{opening}
 use Rattle.ge_model_jobs.proofs.Samples.{lasting, slots_of, one_slot, on_local, some_advance, with_jobs}
 use Rattle.ge_model_report.specs.Booked.{booked_lines}
 use Rattle.ge_model_report.specs.Orders.{task_lines}

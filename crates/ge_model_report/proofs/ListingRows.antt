@@ -4,7 +4,7 @@ use Rattle.std.specs.Fmt.{digits}
 use Rattle.ge_model_rows.specs.CommandRows.{All, One, Prios}
 use Rattle.ge_model_rows.specs.JobRows.{Job}
 use Rattle.ge_model_rows.specs.ValueRows.{Amount, Flag, Word}
-use Rattle.ge_model_value.specs.Complexes.{opening}
+use Rattle.ge_model_rows.specs.Complexes.{opening}
 use Rattle.ge_model_jobs.proofs.Samples.{span, asking, in_queues, with_pe, prio, slots_of, running, on_local, with_jobs}
 use Rattle.ge_model_report.specs.Listing.{listing_of, listings_in_full, grants_text}
 use Rattle.ge_model_report.proofs.Samples.{one_task, named, running_job}

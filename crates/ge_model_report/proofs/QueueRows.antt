@@ -6,7 +6,7 @@ use Rattle.ge_model_rows.specs.CommandRows.{Queues}
 use Rattle.ge_model_rows.specs.JobRows.{Job}
 use Rattle.ge_model_rows.specs.QueueRows.{QueueRow}
 use Rattle.ge_model_rows.specs.ValueRows.{Amount, Word}
-use Rattle.ge_model_value.specs.Complexes.{opening}
+use Rattle.ge_model_rows.specs.Complexes.{opening}
 use Rattle.ge_model_jobs.proofs.Samples.{slots_of, running, on_local, host, loaded, local_queue, all_q, with_jobs}
 use Rattle.ge_model_report.specs.Listing.{listing_of, listings_in_full}
 use Rattle.ge_model_report.proofs.Samples.{running_job}

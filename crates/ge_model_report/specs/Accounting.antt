@@ -5,7 +5,7 @@ use Rattle.ge_collections.specs.Keyed.{text_eq}
 use Rattle.ge_model_rows.specs.AccountRows.{Line}
 use Rattle.ge_model_rows.specs.ClusterRows.{Cluster}
 use Rattle.ge_model_rows.specs.CommandRows.{Query}
-use Rattle.ge_model_value.specs.Pieces.{joined_by}
+use Rattle.ge_model_rows.specs.Pieces.{joined_by}
 use Rattle.ge_model_order.specs.Amounts.{cut_total}
 use Rattle.ge_model_report.specs.Grants.{worded}
 use Rattle.ge_model_report.specs.JobFields.{or_none}

@@ -2,7 +2,7 @@
 use Rattle.std.specs.Prelude.{ℕ, List, ◌++◌, map, codes, decimal}
 use Rattle.ge_model_rows.specs.HostRows.{InstanceId}
 use Rattle.ge_model_rows.specs.JobRows.{Grant}
-use Rattle.ge_model_value.specs.Pieces.{joined_by}
+use Rattle.ge_model_rows.specs.Pieces.{joined_by}
 use Rattle.ge_model_order.specs.Amounts.{cut_total}
 
 -- an instance as it is written

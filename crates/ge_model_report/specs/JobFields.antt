@@ -4,9 +4,9 @@ use Rattle.std.specs.Fmt.{signed_decimal}
 use Rattle.ge_collections.specs.Keyed.{at_number}
 use Rattle.ge_model_rows.specs.ClusterRows.{Cluster}
 use Rattle.ge_model_rows.specs.JobRows.{Job, PeRequest}
-use Rattle.ge_model_value.specs.Complexes.{pair_text}
-use Rattle.ge_model_value.specs.Pieces.{is_empty, list_text}
-use Rattle.ge_model_tasks.specs.SetText.{set_text}
+use Rattle.ge_model_rows.specs.Complexes.{pair_text}
+use Rattle.ge_model_rows.specs.Pieces.{is_empty, list_text}
+use Rattle.ge_model_rows.specs.SetText.{set_text}
 use Rattle.ge_model_jobs.specs.Holds.{live_tasks}
 
 -- a text, or NONE where it is empty

@@ -4,9 +4,9 @@ use Rattle.ge_model_rows.specs.ClusterRows.{Cluster}
 use Rattle.ge_model_rows.specs.JobRows.{Job, PeRequest, Running, Grant}
 use Rattle.ge_model_rows.specs.TaskRows.{TaskSpan}
 use Rattle.ge_model_text.specs.Pattern.{pattern_covers}
-use Rattle.ge_model_value.specs.Pieces.{is_empty}
-use Rattle.ge_model_tasks.specs.Spans.{one}
-use Rattle.ge_model_tasks.specs.SetText.{set_text}
+use Rattle.ge_model_rows.specs.Pieces.{is_empty}
+use Rattle.ge_model_rows.specs.Spans.{one}
+use Rattle.ge_model_rows.specs.SetText.{set_text}
 use Rattle.ge_model_jobs.specs.Holds.{is_job_held, held_tasks, free_tasks}
 use Rattle.ge_model_report.specs.Grants.{instance_text, granted_slots, worded}
 

@@ -6,9 +6,9 @@ use Rattle.ge_model_rows.specs.CommandRows.{Listing}
 use Rattle.ge_model_rows.specs.ScheduleRows.{Prio}
 use Rattle.ge_model_rows.specs.ValueRows.{million}
 use Rattle.std.specs.Fmt.{digits}
-use Rattle.ge_model_value.specs.Values.{fixed_text}
-use Rattle.ge_model_site.specs.Groups.{members_of, expanded}
-use Rattle.ge_model_site.specs.Queues.{instances_of}
+use Rattle.ge_model_rows.specs.Values.{fixed_text}
+use Rattle.ge_model_rows.specs.Groups.{members_of, expanded}
+use Rattle.ge_model_rows.specs.Queues.{instances_of}
 use Rattle.ge_model_place.specs.Limits.{counted_at, demands_of}
 use Rattle.ge_model_place.specs.Opening.{reaches_threshold}
 use Rattle.ge_model_place.specs.Windows.{base_bookings}

@@ -7,7 +7,7 @@ use Rattle.ge_collections.specs.Keyed.{text_eq}
 use Rattle.ge_model_rows.specs.ClusterRows.{Cluster}
 use Rattle.ge_model_rows.specs.JobRows.{Job, Running, Grant, Advance}
 use Rattle.ge_model_rows.specs.ValueRows.{infinity}
-use Rattle.ge_model_value.specs.Pieces.{is_empty, pieces_at}
+use Rattle.ge_model_rows.specs.Pieces.{is_empty, pieces_at}
 use Rattle.ge_model_jobs.specs.Serials.{running_with}
 use Rattle.ge_model_place.specs.Windows.{duration_of, advance_of}
 use Rattle.ge_model_report.specs.Grants.{granted_slots, worded}

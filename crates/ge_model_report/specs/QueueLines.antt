@@ -5,10 +5,10 @@ use Rattle.ge_model_rows.specs.ClusterRows.{Cluster}
 use Rattle.ge_model_rows.specs.HostRows.{Groups, InstanceId}
 use Rattle.ge_model_rows.specs.QueueRows.{QueueRow}
 use Rattle.ge_model_rows.specs.ScheduleRows.{Instance, Booking}
-use Rattle.ge_model_value.specs.Complexes.{kind_for}
-use Rattle.ge_model_value.specs.Values.{amount_text}
-use Rattle.ge_model_site.specs.Groups.{expanded}
-use Rattle.ge_model_site.specs.Queues.{instances_of, slots_at}
+use Rattle.ge_model_rows.specs.Complexes.{kind_for}
+use Rattle.ge_model_rows.specs.Values.{amount_text}
+use Rattle.ge_model_rows.specs.Groups.{expanded}
+use Rattle.ge_model_rows.specs.Queues.{instances_of, slots_at}
 use Rattle.ge_model_bookings.specs.Bookings.{plain_sum}
 use Rattle.ge_model_place.specs.InstanceOrder.{load_at}
 use Rattle.ge_model_place.specs.Opening.{reaches_threshold}

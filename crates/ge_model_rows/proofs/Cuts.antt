@@ -4,10 +4,10 @@ use Rattle.std.proofs.Math.Nat.{div-mul-le_self, mul-mod_left, mod-one}
 use Rattle.std.proofs.lemmas.Bool.{true≢false}
 use Rattle.std.proofs.lemmas.Nat.{le-div, div-add-mod'}
 use Rattle.ge_model_rows.specs.TaskRows.{TaskSpan}
-use Rattle.ge_model_tasks.specs.Spans.{span_of, in_span, stretch, below_in, above_in}
-use Rattle.ge_model_tasks.specs.Sets.{has_number}
-use Rattle.ge_model_tasks.proofs.Steps.{both_ways, raw, lies, lies_back, from_there, step_more, next_step, span_of_numbers}
-use Rattle.ge_model_tasks.proofs.Form.{IsMade}
+use Rattle.ge_model_rows.specs.Spans.{span_of, in_span, stretch, below_in, above_in}
+use Rattle.ge_model_rows.specs.Sets.{has_number}
+use Rattle.ge_model_rows.proofs.Steps.{both_ways, raw, lies, lies_back, from_there, step_more, next_step, span_of_numbers}
+use Rattle.ge_model_rows.proofs.Form.{IsMade}
 
 -- ---- steps that fit below a bound
 

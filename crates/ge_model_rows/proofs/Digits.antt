@@ -8,7 +8,7 @@ use Rattle.std.proofs.lemmas.List.Folds.{list_any-append}
 use Rattle.std.proofs.lemmas.List.Splits.{slice_split_at, slice_split_none}
 use Rattle.std.proofs.lemmas.Nat.{div-add-mod'}
 use Rattle.ge_model_text.specs.Value.{is_digit, number, number_with_digits}
-use Rattle.ge_model_value.specs.Pieces.{is_digits, greatest_number, number_of, has_byte, before_byte, behind_byte, pieces_at, joined_by, is_empty}
+use Rattle.ge_model_rows.specs.Pieces.{is_digits, greatest_number, number_of, has_byte, before_byte, behind_byte, pieces_at, joined_by, is_empty}
 
 -- ---- digits
 

@@ -4,7 +4,7 @@ use Rattle.std.proofs.lemmas.Bool.{ltb-true, ltb-false, lt-ltb, le-ltb}
 use Rattle.std.proofs.lemmas.List.Sums.{fold-append}
 use Rattle.std.specs.Prelude.{nat_lt}
 use Rattle.ge_base.specs.declared.refusal.Refusal.{Refusal}
-use Rattle.ge_model_value.specs.Faults.{turn_of, earlier_fault, first_fault, after_faults, sooner}
+use Rattle.ge_model_rows.specs.Faults.{turn_of, earlier_fault, first_fault, after_faults, sooner}
 
 -- refusals noted one part after the other are those of the whole
 pub after_faults-append : (first : Option Refusal) (xs ys : List Refusal) → after_faults first (xs ++ ys) ≡ after_faults (after_faults first xs) ys

@@ -3,8 +3,8 @@ use Rattle.std.proofs.Common.{◌≡◌, ℕ, ◌+◌, ◌-◌, ◌%◌, ◌≤�
 use Rattle.std.proofs.Math.Nat.{zero-mod, mod-one}
 use Rattle.std.proofs.lemmas.Bool.{eqb-true, false≢true}
 use Rattle.ge_model_rows.specs.TaskRows.{TaskSpan}
-use Rattle.ge_model_tasks.specs.Spans.{in_span, run_goes_on, lengthened, behind_first}
-use Rattle.ge_model_tasks.proofs.Steps.{raw, from_there, step_more, next_step, joined, alone, span_of_numbers}
+use Rattle.ge_model_rows.specs.Spans.{in_span, run_goes_on, lengthened, behind_first}
+use Rattle.ge_model_rows.proofs.Steps.{raw, from_there, step_more, next_step, joined, alone, span_of_numbers}
 
 -- a span of at least one number, from 1 on; its steps reach its last number
 pub record IsMade (s : TaskSpan) : Type 0 where

@@ -1,8 +1,8 @@
 -- Worked rows of groups and their members, each by computation.
 use Rattle.std.specs.Prelude.{◌≡◌, [], ◌∷◌, map, Ok, Err, true, false, codes, refl}
 use Rattle.ge_model_rows.specs.ClusterRows.{Cluster, opening_cluster}
-use Rattle.ge_model_site.specs.declared.GroupFault.TheVariants.{NoSuch, Cycle}
-use Rattle.ge_model_site.specs.Groups.{members_of, has_loop, expanded, hosts_of, hostlist_hosts, group_has}
+use Rattle.ge_model_rows.specs.declared.GroupFault.TheVariants.{NoSuch, Cycle}
+use Rattle.ge_model_rows.specs.Groups.{members_of, has_loop, expanded, hosts_of, hostlist_hosts, group_has}
 
 first_seen_order : members_of
     ((codes "@a", codes "h2" ∷ codes "@b" ∷ codes "h1" ∷ codes "h2" ∷ []) ∷ (codes "@b", codes "h3" ∷ codes "h1" ∷ codes "h2" ∷ []) ∷ []) (codes "@a")

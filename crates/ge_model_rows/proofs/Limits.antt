@@ -2,22 +2,22 @@
 use Rattle.std.proofs.Common.{◌≡◌, ℕ, zero, suc, ◌+◌, ◌-◌, ◌*◌, ◌/◌, ◌^◌, ◌≤◌, ◌<◌, ◌==◌, ◌&&◌, ◌||◌, Bool, true, false, min, if◌then◌else◌, nat_lt, nat_le, List, [], ◌∷◌, length, map, Result, Ok, Err, refl, sym, ap, subst, ◌∙◌, arith, length-append, zero-le}
 use Rattle.std.proofs.lemmas.Bool.{eqb-true, eqb-false, eq-eqb, true≢false}
 use Rattle.ge_model_rows.specs.TaskRows.{TaskSpan, is_form}
-use Rattle.ge_model_tasks.specs.declared.RangeFault.{RangeFault}
-use Rattle.ge_model_tasks.specs.declared.RangeFault.TheVariants.{Limit}
-use Rattle.ge_model_tasks.specs.Spans.{in_span, steps_of, stepping, span_numbers, span_of, stretch}
-use Rattle.ge_model_tasks.specs.Sets.{has_number, numbers_of, count_of, union}
-use Rattle.ge_model_tasks.specs.Ranges.{ranges_of, reached, range_count, range_set, most_tasks, greatest_task, is_within_limits, with_ranges, set_of_ranges, parsed_set}
-use Rattle.ge_model_tasks.specs.SetText.{span_text, set_text}
-use Rattle.ge_model_tasks.proofs.Steps.{raw, lies_back, no_step}
-use Rattle.ge_model_tasks.proofs.Form.{IsMade, Rises}
-use Rattle.ge_model_tasks.proofs.Runs.{made_end}
-use Rattle.ge_model_tasks.proofs.Sets.{form_rises}
-use Rattle.ge_model_tasks.proofs.Turns.{size, counted}
-use Rattle.ge_model_tasks.proofs.Together.{union_form, union_has}
-use Rattle.ge_model_tasks.proofs.Numbers.{Rising, is_among, among_above, steps_lead, numbers_has, numbers_rise}
-use Rattle.ge_model_tasks.proofs.Unique.{one_form}
-use Rattle.ge_model_tasks.proofs.Digits.{joined_cut}
-use Rattle.ge_model_tasks.proofs.ReadBack.{IsSmall, AreSmall, read_spans, span_without, texts_without}
+use Rattle.ge_model_rows.specs.declared.RangeFault.{RangeFault}
+use Rattle.ge_model_rows.specs.declared.RangeFault.TheVariants.{Limit}
+use Rattle.ge_model_rows.specs.Spans.{in_span, steps_of, stepping, span_numbers, span_of, stretch}
+use Rattle.ge_model_rows.specs.Sets.{has_number, numbers_of, count_of, union}
+use Rattle.ge_model_rows.specs.Ranges.{ranges_of, reached, range_count, range_set, most_tasks, greatest_task, is_within_limits, with_ranges, set_of_ranges, parsed_set}
+use Rattle.ge_model_rows.specs.SetText.{span_text, set_text}
+use Rattle.ge_model_rows.proofs.Steps.{raw, lies_back, no_step}
+use Rattle.ge_model_rows.proofs.Form.{IsMade, Rises}
+use Rattle.ge_model_rows.proofs.Runs.{made_end}
+use Rattle.ge_model_rows.proofs.Sets.{form_rises}
+use Rattle.ge_model_rows.proofs.Turns.{size, counted}
+use Rattle.ge_model_rows.proofs.Together.{union_form, union_has}
+use Rattle.ge_model_rows.proofs.Numbers.{Rising, is_among, among_above, steps_lead, numbers_has, numbers_rise}
+use Rattle.ge_model_rows.proofs.Unique.{one_form}
+use Rattle.ge_model_rows.proofs.Digits.{joined_cut}
+use Rattle.ge_model_rows.proofs.ReadBack.{IsSmall, AreSmall, read_spans, span_without, texts_without}
 
 -- ---- how many numbers
 

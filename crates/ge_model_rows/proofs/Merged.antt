@@ -4,12 +4,12 @@ use Rattle.std.proofs.Math.Nat.{zero-mod}
 use Rattle.std.proofs.lemmas.Bool.{eqb-true, true≢false}
 use Rattle.std.proofs.lemmas.List.Folds.{list_any-append}
 use Rattle.ge_model_rows.specs.TaskRows.{TaskSpan}
-use Rattle.ge_model_tasks.specs.Spans.{in_span, below_in, above_in}
-use Rattle.ge_model_tasks.specs.Sets.{has_number, kept, shared_end, merged}
-use Rattle.ge_model_tasks.proofs.Steps.{both_ways, lies, lies_back}
-use Rattle.ge_model_tasks.proofs.Form.{IsMade, Rises}
-use Rattle.ge_model_tasks.proofs.Cuts.{below_in_numbers, above_in_numbers}
-use Rattle.ge_model_tasks.proofs.Turns.{left_rises, size, left_size}
+use Rattle.ge_model_rows.specs.Spans.{in_span, below_in, above_in}
+use Rattle.ge_model_rows.specs.Sets.{has_number, kept, shared_end, merged}
+use Rattle.ge_model_rows.proofs.Steps.{both_ways, lies, lies_back}
+use Rattle.ge_model_rows.proofs.Form.{IsMade, Rises}
+use Rattle.ge_model_rows.proofs.Cuts.{below_in_numbers, above_in_numbers}
+use Rattle.ge_model_rows.proofs.Turns.{left_rises, size, left_size}
 
 -- ---- numbers
 

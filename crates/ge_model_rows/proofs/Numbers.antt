@@ -6,12 +6,12 @@ use Rattle.std.proofs.lemmas.List.Folds.{list_any-append}
 use Rattle.std.proofs.lemmas.Nat.{div-add-mod'}
 use Rattle.std.proofs.Math.Nat.{zero-mod}
 use Rattle.ge_model_rows.specs.TaskRows.{TaskSpan, is_form}
-use Rattle.ge_model_tasks.specs.Spans.{one, in_span, steps_of, stepping, span_numbers}
-use Rattle.ge_model_tasks.specs.Sets.{has_number, numbers_of, set_of}
-use Rattle.ge_model_tasks.proofs.Steps.{raw, joined, alone}
-use Rattle.ge_model_tasks.proofs.Form.{IsMade, Rises}
-use Rattle.ge_model_tasks.proofs.Runs.{in_form_form, in_form_numbers}
-use Rattle.ge_model_tasks.proofs.Sets.{one_made}
+use Rattle.ge_model_rows.specs.Spans.{one, in_span, steps_of, stepping, span_numbers}
+use Rattle.ge_model_rows.specs.Sets.{has_number, numbers_of, set_of}
+use Rattle.ge_model_rows.proofs.Steps.{raw, joined, alone}
+use Rattle.ge_model_rows.proofs.Form.{IsMade, Rises}
+use Rattle.ge_model_rows.proofs.Runs.{in_form_form, in_form_numbers}
+use Rattle.ge_model_rows.proofs.Sets.{one_made}
 
 -- ---- rising numbers
 

@@ -5,8 +5,8 @@ use Rattle.std.specs.Option.{option_or, option_map}
 use Rattle.ge_collections.specs.Keyed.{text_eq}
 use Rattle.ge_model_rows.specs.HostRows.{Groups}
 use Rattle.ge_model_rows.specs.QueueRows.{Attr}
-use Rattle.ge_model_site.specs.Groups.{is_group, group_has}
-use Rattle.ge_model_site.specs.Queues.{attr_at, host_override, group_override}
+use Rattle.ge_model_rows.specs.Groups.{is_group, group_has}
+use Rattle.ge_model_rows.specs.Queues.{attr_at, host_override, group_override}
 
 module _ {T : Type 0} where
   -- the first entry whose key passes has the value that is looked up

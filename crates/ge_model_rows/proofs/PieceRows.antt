@@ -1,8 +1,8 @@
 -- Worked rows of refusals and of texts in pieces, each by computation.
 use Rattle.std.specs.Prelude.{◌≡◌, ◌^◌, [], ◌∷◌, ◌++◌, map, Some, None, true, false, replicate, length, codes, refl}
 use Rattle.ge_base.specs.declared.refusal.Refusal.TheVariants.{Syntax, TooLong, TimeBack, NoSuchObject, InUse, BadValue, Cycle, NoMemory}
-use Rattle.ge_model_value.specs.Faults.{when, first_fault, after_faults, sooner}
-use Rattle.ge_model_value.specs.Pieces.{pieces_at, before_byte, behind_byte, has_byte, is_digits, greatest_number, number_of, trimmed, list_items, joined_by, list_text, is_one_of, each_once, each_number_once, lower_case}
+use Rattle.ge_model_rows.specs.Faults.{when, first_fault, after_faults, sooner}
+use Rattle.ge_model_rows.specs.Pieces.{pieces_at, before_byte, behind_byte, has_byte, is_digits, greatest_number, number_of, trimmed, list_items, joined_by, list_text, is_one_of, each_once, each_number_once, lower_case}
 
 -- refusals
 

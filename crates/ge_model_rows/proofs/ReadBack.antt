@@ -3,13 +3,13 @@ use Rattle.std.proofs.Common.{◌≡◌, ℕ, ◌^◌, ◌≤◌, ◌<◌, ◌==
 use Rattle.std.proofs.lemmas.Bool.{eqb-true}
 use Rattle.std.proofs.lemmas.List.Folds.{list_any-append}
 use Rattle.ge_model_rows.specs.TaskRows.{TaskSpan}
-use Rattle.ge_model_value.specs.Pieces.{has_byte, before_byte, behind_byte, number_of}
-use Rattle.ge_model_tasks.specs.Spans.{is_one}
-use Rattle.ge_model_tasks.specs.Ranges.{range_from, digits_number, range_of_texts, range_up_to, range_of, ranges_of}
-use Rattle.ge_model_tasks.specs.SetText.{range_text, span_text}
-use Rattle.ge_model_tasks.proofs.Steps.{raw}
-use Rattle.ge_model_tasks.proofs.Form.{IsMade, Rises}
-use Rattle.ge_model_tasks.proofs.Digits.{decimal_digits, decimal_worth, all_digits, digits_without, before_it, behind_it, it_is_there, AreWithout}
+use Rattle.ge_model_rows.specs.Pieces.{has_byte, before_byte, behind_byte, number_of}
+use Rattle.ge_model_rows.specs.Spans.{is_one}
+use Rattle.ge_model_rows.specs.Ranges.{range_from, digits_number, range_of_texts, range_up_to, range_of, ranges_of}
+use Rattle.ge_model_rows.specs.SetText.{range_text, span_text}
+use Rattle.ge_model_rows.proofs.Steps.{raw}
+use Rattle.ge_model_rows.proofs.Form.{IsMade, Rises}
+use Rattle.ge_model_rows.proofs.Digits.{decimal_digits, decimal_worth, all_digits, digits_without, before_it, behind_it, it_is_there, AreWithout}
 
 -- ---- the text of a span
 

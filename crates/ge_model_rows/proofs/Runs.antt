@@ -3,10 +3,10 @@ use Rattle.std.proofs.Common.{◌≡◌, ℕ, ◌+◌, ◌-◌, ◌<◌, ◌==�
 use Rattle.std.proofs.lemmas.Bool.{eqb-true, eqb-false}
 use Rattle.ge_model_rows.specs.TaskRows.{TaskSpan, is_single, is_run, is_apart, is_form_from}
 use Rattle.ge_model_rows.specs.TaskRows.{is_form}
-use Rattle.ge_model_tasks.specs.Spans.{is_one, in_span, run_goes_on, lengthened, behind_first, runs_from, in_form}
-use Rattle.ge_model_tasks.specs.Sets.{has_number}
-use Rattle.ge_model_tasks.proofs.Steps.{raw, alone}
-use Rattle.ge_model_tasks.proofs.Form.{IsMade, Rises, lengthened_numbers, lengthened_made, whole_numbers, whole_made, behind_numbers, behind_made}
+use Rattle.ge_model_rows.specs.Spans.{is_one, in_span, run_goes_on, lengthened, behind_first, runs_from, in_form}
+use Rattle.ge_model_rows.specs.Sets.{has_number}
+use Rattle.ge_model_rows.proofs.Steps.{raw, alone}
+use Rattle.ge_model_rows.proofs.Form.{IsMade, Rises, lengthened_numbers, lengthened_made, whole_numbers, whole_made, behind_numbers, behind_made}
 
 -- one turn of the runs, by the answers of its three tests
 abbrev pub turn : Bool → Bool → Bool → TaskSpan → TaskSpan → List TaskSpan → List TaskSpan

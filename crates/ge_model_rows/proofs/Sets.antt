@@ -4,12 +4,12 @@ use Rattle.std.proofs.Math.Nat.{zero-mod}
 use Rattle.std.proofs.lemmas.List.Folds.{list_any-append}
 use Rattle.ge_model_rows.specs.TaskRows.{TaskSpan, is_single, is_run, is_apart, is_form_from}
 use Rattle.ge_model_rows.specs.TaskRows.{is_form}
-use Rattle.ge_model_tasks.specs.Spans.{one, span_of, in_span, below_in, above_in}
-use Rattle.ge_model_tasks.specs.Sets.{has_number, below, above, with_number, without_number}
-use Rattle.ge_model_tasks.proofs.Steps.{both_ways, alone}
-use Rattle.ge_model_tasks.proofs.Form.{IsMade, Rises}
-use Rattle.ge_model_tasks.proofs.Runs.{in_form_form, in_form_numbers}
-use Rattle.ge_model_tasks.proofs.Cuts.{floor, stretched, stretch_end, behind_all, below_in_numbers, above_in_numbers}
+use Rattle.ge_model_rows.specs.Spans.{one, span_of, in_span, below_in, above_in}
+use Rattle.ge_model_rows.specs.Sets.{has_number, below, above, with_number, without_number}
+use Rattle.ge_model_rows.proofs.Steps.{both_ways, alone}
+use Rattle.ge_model_rows.proofs.Form.{IsMade, Rises}
+use Rattle.ge_model_rows.proofs.Runs.{in_form_form, in_form_numbers}
+use Rattle.ge_model_rows.proofs.Cuts.{floor, stretched, stretch_end, behind_all, below_in_numbers, above_in_numbers}
 
 -- ---- the numbers of the parts
 

@@ -1,13 +1,13 @@
 -- Two sets together: the numbers of either, of both, and of the first alone, in the form.
 use Rattle.std.proofs.Common.{◌≡◌, ℕ, zero, suc, ◌+◌, ◌-◌, ◌≤◌, ◌<◌, ◌&&◌, ◌||◌, Bool, true, false, not, min, List, [], ◌∷◌, ◌++◌, refl, subst, ◌∙◌, arith, nat_cmp, Ordering, Less, Equal, Greater}
 use Rattle.ge_model_rows.specs.TaskRows.{TaskSpan, is_form}
-use Rattle.ge_model_tasks.specs.Spans.{below_in, above_in}
-use Rattle.ge_model_tasks.specs.Sets.{has_number, count_of, kept, shared_end, merged, together, union, meet, difference}
-use Rattle.ge_model_tasks.proofs.Form.{Rises}
-use Rattle.ge_model_tasks.proofs.Runs.{in_form_form, in_form_numbers}
-use Rattle.ge_model_tasks.proofs.Sets.{Within, lower, joined_rises, form_rises}
-use Rattle.ge_model_tasks.proofs.Turns.{taken, left_rises, size, counted, left_size}
-use Rattle.ge_model_tasks.proofs.Merged.{chosen, turn, less_is, equal_is, greater_is, shared_fits, merged_numbers}
+use Rattle.ge_model_rows.specs.Spans.{below_in, above_in}
+use Rattle.ge_model_rows.specs.Sets.{has_number, count_of, kept, shared_end, merged, together, union, meet, difference}
+use Rattle.ge_model_rows.proofs.Form.{Rises}
+use Rattle.ge_model_rows.proofs.Runs.{in_form_form, in_form_numbers}
+use Rattle.ge_model_rows.proofs.Sets.{Within, lower, joined_rises, form_rises}
+use Rattle.ge_model_rows.proofs.Turns.{taken, left_rises, size, counted, left_size}
+use Rattle.ge_model_rows.proofs.Merged.{chosen, turn, less_is, equal_is, greater_is, shared_fits, merged_numbers}
 
 -- ---- the parts rise
 

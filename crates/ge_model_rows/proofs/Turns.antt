@@ -4,11 +4,11 @@ use Rattle.std.proofs.Math.Nat.{zero-div, mul-div_left, div-mul-le_self}
 use Rattle.std.proofs.lemmas.Bool.{eqb-true}
 use Rattle.std.proofs.lemmas.Nat.{le-div}
 use Rattle.ge_model_rows.specs.TaskRows.{TaskSpan}
-use Rattle.ge_model_tasks.specs.Spans.{span_of, steps_of, below_in, above_in}
-use Rattle.ge_model_tasks.specs.Sets.{add_count}
-use Rattle.ge_model_tasks.proofs.Form.{IsMade, Rises}
-use Rattle.ge_model_tasks.proofs.Cuts.{floor, stretched, stretch_end, behind_all}
-use Rattle.ge_model_tasks.proofs.Sets.{Within, lower}
+use Rattle.ge_model_rows.specs.Spans.{span_of, steps_of, below_in, above_in}
+use Rattle.ge_model_rows.specs.Sets.{add_count}
+use Rattle.ge_model_rows.proofs.Form.{IsMade, Rises}
+use Rattle.ge_model_rows.proofs.Cuts.{floor, stretched, stretch_end, behind_all}
+use Rattle.ge_model_rows.proofs.Sets.{Within, lower}
 
 -- ---- what a turn takes and leaves
 

@@ -4,13 +4,13 @@ use Rattle.std.proofs.Math.Nat.{zero-div}
 use Rattle.std.proofs.lemmas.Bool.{eqb-true, eq-eqb, eqb-false}
 use Rattle.std.proofs.lemmas.List.{map-append}
 use Rattle.ge_model_rows.specs.TaskRows.{TaskSpan, is_run, is_apart, is_form_from, is_form}
-use Rattle.ge_model_tasks.specs.Spans.{one, is_one, steps_of, stepping, run_goes_on, lengthened, runs_from, in_form}
-use Rattle.ge_model_tasks.specs.Sets.{has_number, numbers_of, set_of}
-use Rattle.ge_model_tasks.proofs.Steps.{raw}
-use Rattle.ge_model_tasks.proofs.Form.{IsMade, Rises}
-use Rattle.ge_model_tasks.proofs.Runs.{turn, in_form_form, in_form_numbers}
-use Rattle.ge_model_tasks.proofs.Sets.{form_rises, from_run}
-use Rattle.ge_model_tasks.proofs.Numbers.{same_numbers, plus_one, steps_lead, numbers_has, numbers_rise}
+use Rattle.ge_model_rows.specs.Spans.{one, is_one, steps_of, stepping, run_goes_on, lengthened, runs_from, in_form}
+use Rattle.ge_model_rows.specs.Sets.{has_number, numbers_of, set_of}
+use Rattle.ge_model_rows.proofs.Steps.{raw}
+use Rattle.ge_model_rows.proofs.Form.{IsMade, Rises}
+use Rattle.ge_model_rows.proofs.Runs.{turn, in_form_form, in_form_numbers}
+use Rattle.ge_model_rows.proofs.Sets.{form_rises, from_run}
+use Rattle.ge_model_rows.proofs.Numbers.{same_numbers, plus_one, steps_lead, numbers_has, numbers_rise}
 
 -- ---- a run is made of its numbers again
 

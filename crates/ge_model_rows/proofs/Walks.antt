@@ -3,14 +3,14 @@ use Rattle.std.proofs.Common.{◌≡◌, ℕ, zero, suc, ◌-◌, ◌%◌, ◌�
 use Rattle.std.proofs.Math.Nat.{zero-mod}
 use Rattle.std.proofs.lemmas.Bool.{eqb-true}
 use Rattle.ge_model_rows.specs.TaskRows.{TaskSpan, is_form}
-use Rattle.ge_model_tasks.specs.Spans.{in_span, above_in}
-use Rattle.ge_model_tasks.specs.Sets.{has_number, numbers_of, count_of, passing, first_numbers}
-use Rattle.ge_model_tasks.proofs.Steps.{both_ways, lies_back}
-use Rattle.ge_model_tasks.proofs.Form.{IsMade, Rises}
-use Rattle.ge_model_tasks.proofs.Sets.{form_rises}
-use Rattle.ge_model_tasks.proofs.Turns.{left_rises, left_size, size, counted}
-use Rattle.ge_model_tasks.proofs.Merged.{left_numbers}
-use Rattle.ge_model_tasks.proofs.Numbers.{same_numbers, numbers_has, numbers_rise}
+use Rattle.ge_model_rows.specs.Spans.{in_span, above_in}
+use Rattle.ge_model_rows.specs.Sets.{has_number, numbers_of, count_of, passing, first_numbers}
+use Rattle.ge_model_rows.proofs.Steps.{both_ways, lies_back}
+use Rattle.ge_model_rows.proofs.Form.{IsMade, Rises}
+use Rattle.ge_model_rows.proofs.Sets.{form_rises}
+use Rattle.ge_model_rows.proofs.Turns.{left_rises, left_size, size, counted}
+use Rattle.ge_model_rows.proofs.Merged.{left_numbers}
+use Rattle.ge_model_rows.proofs.Numbers.{same_numbers, numbers_has, numbers_rise}
 
 -- a number of a span is its first, or above that
 first_or_later : (m : ℕ) (s : TaskSpan) → IsMade s → in_span m s ≡ (m == s.first || (in_span m s && nat_lt s.first m))

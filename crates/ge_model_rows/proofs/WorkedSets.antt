@@ -2,10 +2,10 @@
 use Rattle.std.specs.Prelude.{◌≡◌, ℕ, ◌+◌, ◌^◌, ◌-◌, true, false, ◌==◌, not, nat_lt, codes, List, [], ◌∷◌, Some, None, Ok, Err, refl}
 use Rattle.std.specs.Fmt.{digits}
 use Rattle.ge_model_rows.specs.TaskRows.{TaskSpan, is_form}
-use Rattle.ge_model_tasks.specs.declared.RangeFault.TheVariants.{Syntax, Limit}
-use Rattle.ge_model_tasks.specs.Sets.{has_number, first_number, next_number, count_of, numbers_of, first_numbers, set_of, with_number, without_number, filtered, union, meet, difference}
-use Rattle.ge_model_tasks.specs.Ranges.{range_of, reached, range_count, range_set, parsed_set}
-use Rattle.ge_model_tasks.specs.SetText.{set_text, range_text}
+use Rattle.ge_model_rows.specs.declared.RangeFault.TheVariants.{Syntax, Limit}
+use Rattle.ge_model_rows.specs.Sets.{has_number, first_number, next_number, count_of, numbers_of, first_numbers, set_of, with_number, without_number, filtered, union, meet, difference}
+use Rattle.ge_model_rows.specs.Ranges.{range_of, reached, range_count, range_set, parsed_set}
+use Rattle.ge_model_rows.specs.SetText.{set_text, range_text}
 
 abbrev span : ℕ → ℕ → ℕ → TaskSpan
 span first last step = record { first = first; last = last; step = step }

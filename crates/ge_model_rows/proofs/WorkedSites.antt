@@ -5,9 +5,9 @@ use Rattle.ge_model_rows.specs.ClusterRows.{plain_attr}
 use Rattle.ge_model_rows.specs.HostRows.{Groups, InstanceId}
 use Rattle.ge_model_rows.specs.QueueRows.{QueueRow}
 use Rattle.ge_model_rows.specs.ValueRows.{Value, Amount, Word}
-use Rattle.ge_model_site.specs.Groups.{expanded, members_of}
-use Rattle.ge_model_site.specs.Queues.{attr_at, slots_at, limit_at, instances_of, resolved}
-use Rattle.ge_model_site.specs.Access.{is_manager, is_operator, in_user_set, may_use}
+use Rattle.ge_model_rows.specs.Groups.{expanded, members_of}
+use Rattle.ge_model_rows.specs.Queues.{attr_at, slots_at, limit_at, instances_of, resolved}
+use Rattle.ge_model_rows.specs.Access.{is_manager, is_operator, in_user_set, may_use}
 
 abbrev instance : List ℕ → List ℕ → InstanceId
 instance queue host = record { queue = queue; host = host }

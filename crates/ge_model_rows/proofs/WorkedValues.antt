@@ -6,9 +6,9 @@ use Rattle.std.specs.Option.{option_map}
 use Rattle.ge_model_rows.specs.ClusterRows.{opening_cluster}
 use Rattle.ge_model_rows.specs.ValueRows.{Amount, Flag, Word, Kind, Eq, Ne, Lt, Le, Gt, Ge}
 use Rattle.ge_model_rows.specs.ValueRows.{Requestable, Consumable}
-use Rattle.ge_model_value.specs.Values.{value_of, value_text, amount_in}
-use Rattle.ge_model_value.specs.Relops.{holds_between, admits}
-use Rattle.ge_model_value.specs.Complexes.{opening, opening_complexes, complex_at, complex_named, is_consumable}
+use Rattle.ge_model_rows.specs.Values.{value_of, value_text, amount_in}
+use Rattle.ge_model_rows.specs.Relops.{holds_between, admits}
+use Rattle.ge_model_rows.specs.Complexes.{opening, opening_complexes, complex_at, complex_named, is_consumable}
 
 -- values of texts
 

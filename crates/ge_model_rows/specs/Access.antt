@@ -3,7 +3,7 @@ use Rattle.std.specs.Prelude.{ℕ, Bool, not, ◌&&◌, ◌||◌, List, [], ◌�
 use Rattle.std.specs.List.{list_any}
 use Rattle.ge_collections.specs.Keyed.{at_text}
 use Rattle.ge_model_rows.specs.ClusterRows.{Cluster}
-use Rattle.ge_model_value.specs.Pieces.{is_empty, is_one_of}
+use Rattle.ge_model_rows.specs.Pieces.{is_empty, is_one_of}
 
 abbrev pub is_manager : Cluster → List ℕ → Bool
 is_manager c user = is_one_of user c.managers

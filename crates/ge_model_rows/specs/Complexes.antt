@@ -3,7 +3,7 @@ use Rattle.std.specs.Prelude.{ℕ, Bool, true, false, ◌||◌, List, ◌++◌, 
 use Rattle.ge_collections.specs.Keyed.{text_eq, at_text}
 use Rattle.ge_model_rows.specs.ClusterRows.{Cluster, opening_cluster, default_queue, default_sched}
 use Rattle.ge_model_rows.specs.ValueRows.{Value, Kind, Consumable, ComplexDef}
-use Rattle.ge_model_value.specs.Values.{value_text}
+use Rattle.ge_model_rows.specs.Values.{value_text}
 pub use Rattle.ge_rows.specs.OpeningComplexes.{time_limits, memory_limits}
 unfoldable pub use Rattle.ge_rows.specs.OpeningComplexes.{opening_complexes}
 

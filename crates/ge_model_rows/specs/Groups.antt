@@ -5,9 +5,9 @@ use Rattle.std.specs.Option.{option_or}
 use Rattle.ge_collections.specs.Keyed.{at_text}
 use Rattle.ge_model_rows.specs.ClusterRows.{Cluster}
 use Rattle.ge_model_rows.specs.HostRows.{Groups}
-use Rattle.ge_model_site.specs.declared.GroupFault.{GroupFault}
-use Rattle.ge_model_site.specs.declared.GroupFault.TheVariants.{NoSuch, Cycle}
-use Rattle.ge_model_value.specs.Pieces.{is_one_of, with_text}
+use Rattle.ge_model_rows.specs.declared.GroupFault.{GroupFault}
+use Rattle.ge_model_rows.specs.declared.GroupFault.TheVariants.{NoSuch, Cycle}
+use Rattle.ge_model_rows.specs.Pieces.{is_one_of, with_text}
 
 -- whether an entry of a hostlist names a group: it begins with an at sign
 abbrev pub is_group : List ℕ → Bool

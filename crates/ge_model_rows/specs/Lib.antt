@@ -14,3 +14,15 @@ pub mod DecisionRows
 pub mod EntryRows
 pub mod EventRows
 pub mod CommandRows
+pub mod Faults
+pub mod Pieces
+pub mod Values
+pub mod Relops
+pub mod Complexes
+pub mod Spans
+pub mod Sets
+pub mod Ranges
+pub mod SetText
+pub mod Groups
+pub mod Queues
+pub mod Access

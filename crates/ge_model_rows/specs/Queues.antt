@@ -7,7 +7,7 @@ use Rattle.ge_model_rows.specs.ClusterRows.{Cluster}
 use Rattle.ge_model_rows.specs.HostRows.{HostRow, Groups, InstanceId}
 use Rattle.ge_model_rows.specs.QueueRows.{QueueRow, Attr}
 use Rattle.ge_model_rows.specs.ValueRows.{Value, Amount, Word}
-use Rattle.ge_model_site.specs.Groups.{is_group, group_has, hostlist_hosts}
+use Rattle.ge_model_rows.specs.Groups.{is_group, group_has, hostlist_hosts}
 
 module _ {T : Type 0} where
   -- the first override of an attribute that is written for a host

@@ -2,11 +2,11 @@
 use Rattle.std.specs.Prelude.{ℕ, ◌+◌, ◌-◌, ◌*◌, ◌^◌, Bool, true, false, ◌&&◌, if◌then◌else◌, nat_le, List, [], ◌∷◌, codes, Option, Some, None, option_and_then, option_map, Result, Ok, Err}
 use Rattle.ge_limits.specs.Limits as limit
 use Rattle.ge_model_rows.specs.TaskRows.{TaskSpan}
-use Rattle.ge_model_value.specs.Pieces.{pieces_at, before_byte, behind_byte, has_byte, is_digits, number_of}
-use Rattle.ge_model_tasks.specs.declared.RangeFault.{RangeFault}
-use Rattle.ge_model_tasks.specs.declared.RangeFault.TheVariants.{Syntax, Limit}
-use Rattle.ge_model_tasks.specs.Spans.{steps_of, below_in}
-use Rattle.ge_model_tasks.specs.Sets.{count_of, union}
+use Rattle.ge_model_rows.specs.Pieces.{pieces_at, before_byte, behind_byte, has_byte, is_digits, number_of}
+use Rattle.ge_model_rows.specs.declared.RangeFault.{RangeFault}
+use Rattle.ge_model_rows.specs.declared.RangeFault.TheVariants.{Syntax, Limit}
+use Rattle.ge_model_rows.specs.Spans.{steps_of, below_in}
+use Rattle.ge_model_rows.specs.Sets.{count_of, union}
 
 -- the range of three numbers, if they may make one: the first and the step are at least 1, and the last isn't below the first
 abbrev pub range_from : ℕ → ℕ → ℕ → Option TaskSpan

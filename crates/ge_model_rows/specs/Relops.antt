@@ -5,7 +5,7 @@ use Rattle.ge_collections.specs.Keyed.{text_eq}
 use Rattle.ge_model_rows.specs.ValueRows.{Value, Amount, Flag, Word, Kind, Relop, Eq, Ne, Lt, Le}
 use Rattle.ge_model_rows.specs.ValueRows.{Gt, Ge, ComplexDef}
 use Rattle.ge_model_text.specs.Pattern.{pattern_covers}
-use Rattle.ge_model_value.specs.Pieces.{lower_case}
+use Rattle.ge_model_rows.specs.Pieces.{lower_case}
 
 -- whether one number stands in a relation to another
 abbrev pub numbers_hold : Relop → ℕ → ℕ → Bool

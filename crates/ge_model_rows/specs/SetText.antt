@@ -1,8 +1,8 @@
 -- Sets of task numbers as text.
 use Rattle.std.specs.Prelude.{ℕ, if◌then◌else◌, List, ◌++◌, map, decimal, codes}
 use Rattle.ge_model_rows.specs.TaskRows.{TaskSpan}
-use Rattle.ge_model_value.specs.Pieces.{joined_by}
-use Rattle.ge_model_tasks.specs.Spans.{is_one}
+use Rattle.ge_model_rows.specs.Pieces.{joined_by}
+use Rattle.ge_model_rows.specs.Spans.{is_one}
 
 -- a range as text, F-L:S
 abbrev pub range_text : TaskSpan → List ℕ

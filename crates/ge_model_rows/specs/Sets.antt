@@ -4,7 +4,7 @@ use Rattle.std.specs.List.{list_any}
 use Rattle.std.specs.Ordering.{nat_cmp}
 use Rattle.std.specs.declared.cmp.Ordering.TheVariants.{Less, Equal, Greater}
 use Rattle.ge_model_rows.specs.TaskRows.{TaskSpan}
-use Rattle.ge_model_tasks.specs.Spans.{one, in_span, steps_of, span_numbers, below_in, above_in, in_form}
+use Rattle.ge_model_rows.specs.Spans.{one, in_span, steps_of, span_numbers, below_in, above_in, in_form}
 
 -- a set of task numbers is its spans, in their one form (ge_rows, is_form)
 

@@ -7,7 +7,7 @@ use Rattle.ge_model_rows.specs.ValueRows.{Value, Amount, Flag, Word, Kind, infin
 use Rattle.ge_model_text.specs.declared.Form.TheVariants as form
 use Rattle.ge_model_text.specs.declared.ValueFault.{ValueFault}
 use Rattle.ge_model_text.specs.Reading.{reading}
-use Rattle.ge_model_value.specs.Pieces.{is_empty, lower_case}
+use Rattle.ge_model_rows.specs.Pieces.{is_empty, lower_case}
 pub use Rattle.ge_rows.specs.Asked.{amount_in}
 
 -- whether the values of a kind are amounts (complex, type)

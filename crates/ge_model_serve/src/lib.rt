@@ -4,7 +4,7 @@
 #![tactic(auto)]
 
 /// How a connection ended.
-#[derive(Clone, Copy, Debug, PartialEq, Eq)]
+#[derive(Clone, Copy, PartialEq, Eq)]
 pub enum LinkEnd {
     /// All its bytes were read, and they end where a frame ends.
     Done,

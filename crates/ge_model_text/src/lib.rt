@@ -14,7 +14,7 @@
 
 /// Where a word stands in its line: from the byte at `from` to the byte before `to`, counted from 0.
 /// The span of a quoted word leaves out its quotes.
-#[derive(Clone, Copy, Debug, PartialEq, Eq)]
+#[derive(Clone, Copy, PartialEq, Eq)]
 pub struct Span {
     /// The place of its first byte.
     pub from: u32,
@@ -23,7 +23,7 @@ pub struct Span {
 }
 
 /// The form that a text is to have to be worth an amount (sge_types, complex).
-#[derive(Clone, Copy, Debug, PartialEq, Eq)]
+#[derive(Clone, Copy, PartialEq, Eq)]
 pub enum Form {
     /// Digits.
     Int,
@@ -36,7 +36,7 @@ pub enum Form {
 }
 
 /// Why a text is worth no amount.
-#[derive(Clone, Copy, Debug, PartialEq, Eq)]
+#[derive(Clone, Copy, PartialEq, Eq)]
 pub enum ValueFault {
     /// There is no text.
     Empty,
@@ -48,7 +48,7 @@ pub enum ValueFault {
 }
 
 /// What was read so far of the text of an amount. Each number is cut at 2^48.
-#[derive(Clone, Copy, Debug, PartialEq, Eq)]
+#[derive(Clone, Copy, PartialEq, Eq)]
 pub enum Progress {
     /// Nothing.
     Start,

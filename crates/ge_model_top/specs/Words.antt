@@ -2,7 +2,7 @@
 use Rattle.std.specs.Prelude.{ℕ, ◌≤◌, not, ◌&&◌, ◌==◌, nat_le, if◌then◌else◌, List, [], ◌∷◌, slice_index, Option, Some, None, unwrap_or, codes}
 use Rattle.std.specs.Option.{option_map}
 use Rattle.ge_collections.specs.Keyed.{text_eq}
-use Rattle.ge_model_value.specs.Pieces.{is_digits, number_of}
+use Rattle.ge_model_rows.specs.Pieces.{is_digits, number_of}
 use Rattle.ge_model_top.specs.declared.Word.{Word}
 use Rattle.ge_model_top.specs.declared.Word.TheVariants.{Simulate, Replay, Serve, Status, Generate, Trial}
 

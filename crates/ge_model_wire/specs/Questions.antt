@@ -1,7 +1,7 @@
 -- A question of a client: its words, what is sent, and whether the answer is an acceptance.
 use Rattle.std.specs.Prelude.{ℕ, Bool, not, ◌&&◌, nat_eq, nat_le, if◌then◌else◌, List, [], ◌∷◌, ◌++◌, Option, Some, None, codes}
 use Rattle.std.specs.List.{starts_with}
-use Rattle.ge_model_value.specs.Pieces.{is_digits, number_of}
+use Rattle.ge_model_rows.specs.Pieces.{is_digits, number_of}
 use Rattle.ge_model_script.specs.Names.{is_name}
 
 -- whether a text has no zero in front

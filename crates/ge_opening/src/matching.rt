@@ -3,7 +3,7 @@
 ghost use Rattle.std.specs.Prelude.{◌≡◌};
 ghost use Rattle.std.specs.Option.{option_copied, option_map};
 ghost use Rattle.ge_model_rows.specs.ValueRows.{Word};
-ghost use Rattle.ge_model_value.specs.Relops.{sameness_holds, same_words, admits as admits_there};
+ghost use Rattle.ge_model_rows.specs.Relops.{sameness_holds, same_words, admits as admits_there};
 ghost use Rattle.ge_model_place.specs.Opening.{is_admitted};
 ghost use Rattle.ge_queues.specs.Found.{value_found};
 

@@ -4,7 +4,7 @@ ghost use Rattle.std.specs.Prelude.{◌≡◌, ◌&&◌, ◌||◌, codes};
 ghost use Rattle.std.specs.List.{list_all};
 ghost use Rattle.std.specs.Option.{option_copied};
 ghost use Rattle.ge_collections.specs.Keyed.{text_eq};
-ghost use Rattle.ge_model_value.specs.Complexes.{has_consumable};
+ghost use Rattle.ge_model_rows.specs.Complexes.{has_consumable};
 ghost use Rattle.ge_model_place.specs.Opening.{admits_value, has_value, host_names, is_configured, consumes_what_is, is_forced, asks_for, meets_forced};
 ghost use Rattle.ge_opening.specs.Forced.{is_any_forced};
 

@@ -3,7 +3,7 @@
 ghost use Rattle.std.specs.Prelude.{◌≡◌, IfOk, Some};
 ghost use Rattle.std.specs.List.{list_any};
 ghost use Rattle.std.specs.Option.{option_copied};
-ghost use Rattle.ge_model_value.specs.Complexes.{complex_at as complex_in};
+ghost use Rattle.ge_model_rows.specs.Complexes.{complex_at as complex_in};
 ghost use Rattle.ge_model_place.specs.Opening.{reaches, reaches_one_of};
 ghost use Rattle.ge_model_place.specs.Opening as opening;
 

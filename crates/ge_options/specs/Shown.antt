@@ -2,7 +2,7 @@
 use Rattle.std.specs.Prelude.{ℕ, Bool, true, false, not, codes, List, [], ◌∷◌, ◌++◌, map, filter, Option, Some, None}
 use Rattle.std.specs.Option.{option_to_list}
 use Rattle.ge_model_rows.specs.TaskRows.{TaskSpan}
-use Rattle.ge_model_value.specs.Pieces.{is_one_of}
+use Rattle.ge_model_rows.specs.Pieces.{is_one_of}
 use Rattle.ge_model_grammar.specs.declared.Effect.TheVariants.{Replaces, Adds, Idle}
 use Rattle.ge_model_grammar.specs.Options.{Given}
 use Rattle.ge_model_grammar.specs.Shapes.{Shape}

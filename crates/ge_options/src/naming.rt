@@ -4,7 +4,7 @@ ghost use Rattle.std.specs.Prelude.{◌≡◌, IfOk, map};
 ghost use Rattle.std.specs.Option.{option_map};
 ghost use Rattle.std.specs.BTreeMap.{is_at};
 ghost use Rattle.ge_collections.specs.Keyed.{text_cmp};
-ghost use Rattle.ge_model_value.specs.Pieces.{pieces_at};
+ghost use Rattle.ge_model_rows.specs.Pieces.{pieces_at};
 ghost use Rattle.ge_model_grammar.specs.Options.{last_of, name_byte as named_byte, before_digit, or_stdin, command_name, option_words as words_of_option, has_option as option_is_there};
 ghost use Rattle.ge_options.specs.Lent.{texts};
 

@@ -3,9 +3,9 @@
 ghost use Rattle.std.specs.Prelude.{◌≡◌, ◌-◌, ◌%◌, ◌≤◌, ◌<◌, ◌^◌, ◌∷◌, [], IfOk, IfSome, IsTrue};
 ghost use Rattle.std.specs.Option.{option_map, option_to_list};
 ghost use Rattle.ge_rows.specs.TaskSet.{is_form};
-ghost use Rattle.ge_model_value.specs.Pieces.{number_of};
-ghost use Rattle.ge_model_tasks.specs.Spans.{span_of};
-ghost use Rattle.ge_model_tasks.specs.Ranges.{digits_number, range_from, range_of_texts, range_up_to, range_of, range_set};
+ghost use Rattle.ge_model_rows.specs.Pieces.{number_of};
+ghost use Rattle.ge_model_rows.specs.Spans.{span_of};
+ghost use Rattle.ge_model_rows.specs.Ranges.{digits_number, range_from, range_of_texts, range_up_to, range_of, range_set};
 ghost use Rattle.ge_options.specs.Shown.{range_shown};
 ghost use Rattle.ge_options.specs.Real.{is_real};
 
@@ -14,7 +14,7 @@ use ge_rows::{List, TaskSet, TaskSpan};
 use std::alloc::{AllocError, Global};
 
 /// A range `n`, `n-m` or `n-m:s`, each number cut at 2^128 - 1 (qsub, -t). The least number and the step are at least 1.
-#[derive(Clone, Copy, Debug, PartialEq, Eq)]
+#[derive(Clone, Copy, PartialEq, Eq)]
 pub struct WideRange {
     /// The least number.
     pub low: u128,

@@ -13,7 +13,7 @@ use ge_pieces::{ReadFault, begins};
 use std::alloc::{AllocError, Global};
 
 /// An option as it is given, its name and its words lent from a text.
-#[derive(Clone, Copy, Debug)]
+#[derive(Clone, Copy)]
 pub struct GivenOption<'a> {
     /// Its name.
     pub word: &'a [u8],

@@ -9,7 +9,7 @@ use ge_model_grammar::{Effect, WordForm};
 use ge_pieces::is_word;
 
 /// A command that takes options.
-#[derive(Clone, Copy, Debug, PartialEq, Eq)]
+#[derive(Clone, Copy, PartialEq, Eq)]
 pub(crate) enum Taker {
     /// qsub
     Submission,

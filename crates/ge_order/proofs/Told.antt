@@ -21,10 +21,10 @@ use Rattle.ge_rows.specs.contracts.labels.JobLabelOrd.TheImpl.{cmp-value as by_l
 use Rattle.ge_model_rows.specs.ClusterRows.{Cluster}
 use Rattle.ge_model_rows.specs.JobRows.{Job}
 use Rattle.ge_model_rows.specs.TaskRows.{TaskSpan, is_form}
-use Rattle.ge_model_value.specs.Pieces.{is_empty}
-use Rattle.ge_model_tasks.specs.Spans.{steps_of, stepping, in_form}
-use Rattle.ge_model_tasks.specs.Sets.{count_of, numbers_of, merged, difference}
-use Rattle.ge_model_tasks.proofs.Unique.{in_form_stays}
+use Rattle.ge_model_rows.specs.Pieces.{is_empty}
+use Rattle.ge_model_rows.specs.Spans.{steps_of, stepping, in_form}
+use Rattle.ge_model_rows.specs.Sets.{count_of, numbers_of, merged, difference}
+use Rattle.ge_model_rows.proofs.Unique.{in_form_stays}
 use Rattle.ge_model_jobs.specs.Holds.{is_live_job, with_holding, first_tasks, eligible_of, eligible_tasks}
 use Rattle.ge_model_order.specs.Candidates.{is_candidate, candidates}
 use Rattle.ge_order.specs.Ranked.{task_at, tasks_of_job}

@@ -10,7 +10,7 @@ use Rattle.ge_model_rows.specs.JobRows.{Job}
 use Rattle.ge_model_rows.specs.ScheduleRows.{Prio}
 use Rattle.ge_model_rows.specs.SettingRows.{Sched}
 use Rattle.ge_model_rows.specs.ValueRows.{Value, Amount, ComplexDef}
-use Rattle.ge_model_value.specs.Complexes.{complex_at}
+use Rattle.ge_model_rows.specs.Complexes.{complex_at}
 use Rattle.ge_model_order.specs.Priority.{priority_part, urgency_part, tickets_part, prio_with}
 use Rattle.ge_model_order.specs.Urgency.{urgency_of, value_urgency, resource_urgency}
 use Rattle.ge_order.specs.declared.asked.Units.{Units}

@@ -3,7 +3,7 @@ ghost use Rattle.std.specs.Prelude.{◌≡◌, codes};
 ghost use Rattle.std.specs.BTreeMap.{is_at};
 ghost use Rattle.std.specs.Option.{option_copied};
 ghost use Rattle.ge_collections.specs.Keyed.{text_cmp};
-ghost use Rattle.ge_model_value.specs.Complexes.{complex_at as complex_in};
+ghost use Rattle.ge_model_rows.specs.Complexes.{complex_at as complex_in};
 ghost use Rattle.ge_model_order.specs.Urgency as urgencies;
 ghost use Rattle.ge_order.specs.Standings.{AreUnits};
 ghost use Rattle.ge_order.specs.Standings as standings;

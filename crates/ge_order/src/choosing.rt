@@ -1,6 +1,6 @@
 // The candidates of a run.
 ghost use Rattle.std.specs.Prelude.{◌≡◌, IfOk, not};
-ghost use Rattle.ge_model_value.specs.Pieces.{is_empty as is_empty_list};
+ghost use Rattle.ge_model_rows.specs.Pieces.{is_empty as is_empty_list};
 ghost use Rattle.ge_model_order.specs.Candidates.{is_candidate as is_a_candidate, candidates as candidates_of};
 ghost use Rattle.ge_order.specs.Told as telling;
 

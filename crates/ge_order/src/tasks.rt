@@ -3,7 +3,7 @@ ghost use Rattle.std.specs.Prelude.{◌≡◌, ◌∷◌, [], ◌++◌, IfSome, 
 ghost use Rattle.std.specs.Option.{option_copied};
 ghost use Rattle.ge_beside.specs.Met.{AreFound};
 ghost use Rattle.ge_collections.specs.Keyed.{at_number};
-ghost use Rattle.ge_model_value.specs.Pieces.{is_empty as is_empty_list};
+ghost use Rattle.ge_model_rows.specs.Pieces.{is_empty as is_empty_list};
 ghost use Rattle.ge_order.specs.Ranked.{task_at, tasks_of_job};
 ghost use Rattle.ge_order.specs.Told as telling;
 

@@ -1,6 +1,6 @@
 -- Where nothing but blanks stands between two commas, an item is empty.
 use Rattle.std.proofs.Common.{◌≡◌, ℕ, List, [], ◌∷◌, ◌++◌, length, length-append, append-nil, refl, ap, arith}
-use Rattle.ge_model_value.specs.Pieces.{items_between, blank_pieces}
+use Rattle.ge_model_rows.specs.Pieces.{items_between, blank_pieces}
 
 -- words that make a list no longer are none
 none_more : (items words : List (List ℕ)) → length (items ++ words) ≡ length items → words ≡ []

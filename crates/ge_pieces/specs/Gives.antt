@@ -2,7 +2,7 @@
 use Rattle.std.specs.Prelude.{◌≡◌, List, Option, Some, None, Result, Ok, Err}
 use Rattle.ge_base.specs.declared.refusal.Refusal.{Refusal}
 use Rattle.ge_base.specs.declared.refusal.Refusal.TheVariants as refusal
-use Rattle.ge_model_value.specs.Faults.{after_faults}
+use Rattle.ge_model_rows.specs.Faults.{after_faults}
 use Rattle.ge_pieces.specs.declared.reading.ReadFault.{ReadFault}
 use Rattle.ge_pieces.specs.declared.reading.ReadFault.TheVariants.{Syntax, Memory}
 

@@ -3,7 +3,7 @@
 ghost use Rattle.std.specs.Prelude.{◌≡◌, ◌++◌, ◌∷◌, [], IfOk, OnOk, filter};
 ghost use Rattle.std.specs.List.{list_all};
 ghost use Rattle.std.specs.Int.{is_in_range};
-ghost use Rattle.ge_model_value.specs.Pieces.{is_empty, trimmed};
+ghost use Rattle.ge_model_rows.specs.Pieces.{is_empty, trimmed};
 ghost use Rattle.ge_model_grammar.specs.Lines.{is_plain_byte, is_plain_line, text_lines};
 ghost use Rattle.ge_model_grammar.specs.Bodies.{counts, body_lines};
 ghost use Rattle.ge_pieces.specs.BodyLines.{plain_or_feed, TakesUp};

@@ -3,7 +3,7 @@
 ghost use Rattle.std.specs.Prelude.{◌≡◌, map};
 ghost use Rattle.std.specs.BTreeMap.{is_at};
 ghost use Rattle.ge_collections.specs.Keyed.{text_eq, text_cmp};
-ghost use Rattle.ge_model_value.specs.Pieces.{is_one_of};
+ghost use Rattle.ge_model_rows.specs.Pieces.{is_one_of};
 ghost use Rattle.ge_model_grammar.specs.Lines.{begins_with, ends_in};
 
 use ge_rows::Text;

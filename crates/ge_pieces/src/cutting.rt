@@ -3,7 +3,7 @@
 ghost use Rattle.std.specs.Prelude.{◌≡◌, ◌≤◌, ◌++◌, length, map, not, ◌==◌, IfOk, OnOk};
 ghost use Rattle.std.specs.List.{position, position_or_len, slice_split, before_first, after_first};
 ghost use Rattle.ge_model_text.specs.Words.{is_blank};
-ghost use Rattle.ge_model_value.specs.Pieces.{pieces_at, before_byte, behind_byte, has_byte, trimmed, without_first_blanks, without_last_blanks, blank_pieces, items_between, list_items};
+ghost use Rattle.ge_model_rows.specs.Pieces.{pieces_at, before_byte, behind_byte, has_byte, trimmed, without_first_blanks, without_last_blanks, blank_pieces, items_between, list_items};
 ghost use Rattle.ge_pieces.specs.Items.{items_of_all};
 
 use crate::comparing::is_word;

@@ -3,7 +3,7 @@
 ghost use Rattle.std.specs.Prelude.{◌≡◌, ◌-◌, ◌^◌, min};
 ghost use Rattle.std.specs.List.{list_all};
 ghost use Rattle.ge_model_text.specs.Value.{is_digit};
-ghost use Rattle.ge_model_value.specs.Pieces.{is_digits, number_of};
+ghost use Rattle.ge_model_rows.specs.Pieces.{is_digits, number_of};
 ghost use Rattle.ge_model_grammar.specs.Targets.{cut_number};
 
 fn is_a_digit(b: u8) -> bool

@@ -1,7 +1,7 @@
 //! Refusals gathered: of those whose conditions hold, the one that is tried first. A reader keeps this one alone.
 
 ghost use Rattle.std.specs.Prelude.{◌≡◌};
-ghost use Rattle.ge_model_value.specs.Faults.{turn_of, earlier_fault, when, after_faults, sooner};
+ghost use Rattle.ge_model_rows.specs.Faults.{turn_of, earlier_fault, when, after_faults, sooner};
 
 use ge_base::Refusal;
 
@@ -42,7 +42,7 @@ pub fn earlier(first: Option<Refusal>, refusal: Refusal) -> Option<Refusal>
 }
 
 /// Of what answers to one part and what answers to another, the one that is tried first. `proofs/FaultLaws` of
-/// `ge_model_value` says that this is what answers to both parts together.
+/// `ge_model_rows` says that this is what answers to both parts together.
 pub fn sooner_of(first: Option<Refusal>, second: Option<Refusal>) -> Option<Refusal>
     ensures { result ≡ sooner first second }
 {

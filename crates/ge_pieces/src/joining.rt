@@ -1,8 +1,8 @@
 //! Texts put together.
 
 ghost use Rattle.std.specs.Prelude.{◌≡◌, ◌++◌, IfOk, OnOk, flat_map};
-ghost use Rattle.ge_model_value.specs.Pieces.{joined_by, list_text, lower_case};
-ghost use Rattle.ge_model_value.specs.Values.{word_text};
+ghost use Rattle.ge_model_rows.specs.Pieces.{joined_by, list_text, lower_case};
+ghost use Rattle.ge_model_rows.specs.Values.{word_text};
 
 use ge_rows::Text;
 use std::alloc::{AllocError, Global};

@@ -1,7 +1,7 @@
 //! What every reader and printer of texts stands on: texts cut into pieces, put together and compared, the names that
 //! may stand in them, the lines of a text, and the refusals of a reading gathered into the one that answers.
 //!
-//! Contracts see a text as the list of its bytes, and say by the definitions of `ge_model_value` and
+//! Contracts see a text as the list of its bytes, and say by the definitions of `ge_model_rows` and
 //! `ge_model_grammar` what each call gives. What only looks at a text takes no memory and lends parts of it; what
 //! gives a [`List`](ge_rows::List) of texts or a new [`Text`](ge_rows::Text) copies them, and wants memory as its one
 //! failure.

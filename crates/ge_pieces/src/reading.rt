@@ -3,7 +3,7 @@
 use std::alloc::AllocError;
 
 /// Why a text gives nothing.
-#[derive(Clone, Copy, Debug, PartialEq, Eq)]
+#[derive(Clone, Copy, PartialEq, Eq)]
 pub enum ReadFault {
     /// It is not in the grammar.
     Syntax,

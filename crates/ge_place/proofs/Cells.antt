@@ -7,7 +7,7 @@ use Rattle.std.proofs.lemmas.List.{length-replicate}
 use Rattle.std.proofs.lemmas.List.Elements.{filter_map-append}
 use Rattle.std.proofs.lemmas.List.Sums.{sum_by-cons}
 use Rattle.std.proofs.Math.Seq.{drop-cons}
-use Rattle.ge_model_value.specs.Pieces.{each_once}
+use Rattle.ge_model_rows.specs.Pieces.{each_once}
 use Rattle.ge_model_rows.specs.HostRows.{InstanceId}
 use Rattle.ge_model_rows.specs.JobRows.{Grant}
 use Rattle.ge_model_rows.specs.ScheduleRows.{LimitId}

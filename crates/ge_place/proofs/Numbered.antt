@@ -10,7 +10,7 @@ use Rattle.std.proofs.lemmas.List.{append-nil, map-append, map-set, length-map, 
 use Rattle.std.proofs.lemmas.List.Folds.{list_any-from_Any, list_any_none}
 use Rattle.std.proofs.lemmas.List.Sums.{fold-append}
 use Rattle.ge_collections.specs.Keyed.{text_cmp, text_eq}
-use Rattle.ge_model_value.specs.Pieces.{with_text, each_once}
+use Rattle.ge_model_rows.specs.Pieces.{with_text, each_once}
 use Rattle.ge_model_place.specs.Placement.{Cell, is_on}
 use Rattle.ge_model_place.proofs.Same.{texts_equal, text_same}
 use Rattle.ge_place.specs.declared.spots.HostSpots.{HostSpots}

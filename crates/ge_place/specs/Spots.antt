@@ -2,7 +2,7 @@
 use Rattle.std.specs.Prelude.{◌≡◌, ℕ, suc, ◌+◌, Bool, true, false, ◌&&◌, if◌then◌else◌, List, [], ◌∷◌, map, replicate, length, slice_set, slice_index}
 use Rattle.std.specs.List.{All}
 use Rattle.ge_model_rows.specs.HostRows.{InstanceId}
-use Rattle.ge_model_value.specs.Pieces.{each_once}
+use Rattle.ge_model_rows.specs.Pieces.{each_once}
 use Rattle.ge_model_place.specs.Limits.{counted_at}
 use Rattle.ge_model_place.specs.Opening.{is_open}
 use Rattle.ge_model_place.specs.Placement.{Room, Cell, rooms_in, everywhere, is_on}

@@ -1,7 +1,7 @@
 //! Attributes of queues, with their overrides.
 
 ghost use Rattle.std.specs.Prelude.{◌≡◌, ◌++◌, ◌∷◌, [], IfOk, OnOk, codes, decimal, flat_map, List as Items, ℕ};
-ghost use Rattle.ge_model_value.specs.Pieces.{list_text};
+ghost use Rattle.ge_model_rows.specs.Pieces.{list_text};
 ghost use Rattle.ge_model_config.specs.Cited.{printed_attribute, number_text};
 ghost use Rattle.ge_model_config.specs.Pairs.{values_text};
 ghost use Rattle.ge_model_config.specs.Overrides.{override_text, attr_text};

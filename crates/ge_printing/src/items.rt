@@ -1,7 +1,7 @@
 //! Objects of each kind.
 
 ghost use Rattle.std.specs.Prelude.{◌≡◌, ◌++◌, ◌∷◌, [], IfOk, codes};
-ghost use Rattle.ge_model_value.specs.Pieces.{list_text};
+ghost use Rattle.ge_model_rows.specs.Pieces.{list_text};
 ghost use Rattle.ge_model_config.specs.Cited.{printed_attribute};
 ghost use Rattle.ge_model_config.specs.Printing.{printed};
 ghost use Rattle.ge_model_config.specs.Pairs.{values_text};

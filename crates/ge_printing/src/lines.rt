@@ -1,8 +1,8 @@
 //! An attribute with its value.
 
 ghost use Rattle.std.specs.Prelude.{◌≡◌, ◌++◌, ◌∷◌, [], IfOk, OnOk, codes, decimal};
-ghost use Rattle.ge_model_value.specs.Pieces.{list_text};
-ghost use Rattle.ge_model_value.specs.Values.{fixed_text};
+ghost use Rattle.ge_model_rows.specs.Pieces.{list_text};
+ghost use Rattle.ge_model_rows.specs.Values.{fixed_text};
 ghost use Rattle.ge_model_config.specs.Cited.{printed_attribute, number_text};
 
 use ge_complex::{amount_text, fixed_text};

@@ -2,8 +2,8 @@
 
 ghost use Rattle.std.specs.Prelude.{◌≡◌, ◌++◌, ◌∷◌, [], IfOk, OnOk, codes, map};
 ghost use Rattle.ge_model_rows.specs.ValueRows.{Amount};
-ghost use Rattle.ge_model_value.specs.Complexes.{pair_text};
-ghost use Rattle.ge_model_value.specs.Values.{flag_text};
+ghost use Rattle.ge_model_rows.specs.Complexes.{pair_text};
+ghost use Rattle.ge_model_rows.specs.Values.{flag_text};
 ghost use Rattle.ge_model_config.specs.Quotas.{description_text, elements_text, filter_part, filter_text, limits_text, name_part, quota_lines, rule_line};
 
 use crate::lines::put;

@@ -1,7 +1,7 @@
 //! The share tree: see the manual page share_tree.
 
 ghost use Rattle.std.specs.Prelude.{◌≡◌, ◌++◌, ◌∷◌, [], IfOk, OnOk, codes, decimal, flat_map, map, if◌then◌else◌};
-ghost use Rattle.ge_model_value.specs.Pieces.{list_text};
+ghost use Rattle.ge_model_rows.specs.Pieces.{list_text};
 ghost use Rattle.ge_model_config.specs.Shares.{node_lines};
 
 use ge_rows::{List, ShareNode, Table, Text};

@@ -1,7 +1,7 @@
 //! Values by the kinds of their complexes.
 
 ghost use Rattle.std.specs.Prelude.{◌≡◌, IfOk, map};
-ghost use Rattle.ge_model_value.specs.Complexes.{pair_text};
+ghost use Rattle.ge_model_rows.specs.Complexes.{pair_text};
 ghost use Rattle.ge_model_config.specs.Pairs.{values_text};
 
 use ge_complex::pair_text;

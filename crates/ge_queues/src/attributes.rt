@@ -2,8 +2,8 @@
 
 ghost use Rattle.std.specs.Prelude.{◌≡◌, ◌&&◌};
 ghost use Rattle.std.specs.Option.{option_copied};
-ghost use Rattle.ge_model_site.specs.Groups.{is_group, group_has as has_host};
-ghost use Rattle.ge_model_site.specs.Queues.{host_override, group_override, attr_at, slots_at as slots_there, limit_at as limit_there};
+ghost use Rattle.ge_model_rows.specs.Groups.{is_group, group_has as has_host};
+ghost use Rattle.ge_model_rows.specs.Queues.{host_override, group_override, attr_at, slots_at as slots_there, limit_at as limit_there};
 
 use ge_hosts::{group_has, is_a_group};
 use ge_pieces::is_same;

@@ -2,8 +2,8 @@
 
 ghost use Rattle.std.specs.Prelude.{◌≡◌, ◌++◌, IfOk, OnOk, fold, flat_map};
 ghost use Rattle.std.specs.Map.{values_of};
-ghost use Rattle.ge_model_site.specs.Groups.{entry_hosts, hostlist_hosts};
-ghost use Rattle.ge_model_site.specs.Queues.{with_host, queue_instances, instances_of};
+ghost use Rattle.ge_model_rows.specs.Groups.{entry_hosts, hostlist_hosts};
+ghost use Rattle.ge_model_rows.specs.Queues.{with_host, queue_instances, instances_of};
 
 use ge_hosts::{hosts_of, is_a_group};
 use ge_rows::{Cluster, Groups, InstanceId, List, QueueRow, Text, Twin, twins2};
@@ -96,7 +96,7 @@ fn append_instances(
 }
 
 /// The queue instances, by name of queue, then of host (queue_conf, `hostlist`).
-#[tactic(auto, unfolding(ge_model_site::specs::Queues::instances_of))]
+#[tactic(auto, unfolding(ge_model_rows::specs::Queues::instances_of))]
 pub fn instances(
     alloc: Global,
     cluster: &Cluster,

@@ -1,6 +1,6 @@
 //! Queues: their attributes at a host, their instances, and values by level (queue_conf).
 //!
-//! Contracts say by `ge_model_site` what each call gives. The groups are those of the cluster, spelled out.
+//! Contracts say by `ge_model_rows` what each call gives. The groups are those of the cluster, spelled out.
 //!
 //! - [`at_host`], [`limit_at`], [`slots_at`]: an attribute at a host, by its overrides. These take no memory.
 //! - [`instances`]: the queue instances.

@@ -3,7 +3,7 @@
 ghost use Rattle.std.specs.Prelude.{◌≡◌, IfOk, codes};
 ghost use Rattle.std.specs.Option.{option_map, option_and_then, option_copied};
 ghost use Rattle.ge_collections.specs.Keyed.{at_text};
-ghost use Rattle.ge_model_site.specs.Queues.{called, queue_value, row_value, host_value, resolved};
+ghost use Rattle.ge_model_rows.specs.Queues.{called, queue_value, row_value, host_value, resolved};
 ghost use Rattle.ge_queues.specs.Found.{value_found};
 
 use crate::attributes::{at_host, limit_at};
@@ -116,7 +116,7 @@ pub fn global_host(alloc: Global, cluster: &Cluster) -> Result<Option<&HostRow>,
 
 /// The value that a name has at an instance, where it lies: from the first level that has it, the instance, then its host
 /// with its load report, then the host `global`, which is handed in. Takes no memory.
-#[tactic(auto, unfolding(ge_model_site::specs::Queues::resolved))]
+#[tactic(auto, unfolding(ge_model_rows::specs::Queues::resolved))]
 pub fn resolved_at<'a>(
     cluster: &'a Cluster,
     groups: &Groups,

@@ -4,7 +4,7 @@ ghost use Rattle.std.specs.Prelude.{◌≡◌, ◌∷◌, [], ℕ, Bool, List, I
 ghost use Rattle.std.specs.List.{list_any};
 ghost use Rattle.ge_collections.specs.Keyed.{text_eq};
 ghost use Rattle.ge_model_text.specs.Pattern.{pattern_covers};
-ghost use Rattle.ge_model_value.specs.Pieces.{is_empty};
+ghost use Rattle.ge_model_rows.specs.Pieces.{is_empty};
 ghost use Rattle.ge_model_place.specs.Quotas.{names_one, filter_admits, admits_name};
 
 use crate::asking::Who;

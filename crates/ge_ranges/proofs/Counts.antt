@@ -3,10 +3,10 @@ use Rattle.std.proofs.Common.{◌≡◌, ℕ, zero, suc, ◌+◌, ◌-◌, ◌^�
 use Rattle.std.proofs.Math.Nat.{div-le_self}
 use Rattle.std.proofs.lemmas.List.{take_more}
 use Rattle.ge_model_rows.specs.TaskRows.{TaskSpan, is_form}
-use Rattle.ge_model_tasks.specs.Sets.{add_count, count_of}
-use Rattle.ge_model_tasks.proofs.Form.{Rises}
-use Rattle.ge_model_tasks.proofs.Sets.{form_rises}
-use Rattle.ge_model_tasks.proofs.Turns.{size, counted}
+use Rattle.ge_model_rows.specs.Sets.{add_count, count_of}
+use Rattle.ge_model_rows.proofs.Form.{Rises}
+use Rattle.ge_model_rows.proofs.Sets.{form_rises}
+use Rattle.ge_model_rows.proofs.Turns.{size, counted}
 
 -- rising spans have no more numbers than lead to the last
 size_within : (low i : ℕ) (d : TaskSpan) (spans : List TaskSpan) → Rises low spans → i < length spans

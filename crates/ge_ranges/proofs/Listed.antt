@@ -4,10 +4,10 @@ use Rattle.std.proofs.Math.Nat.{div-mul-le_self}
 use Rattle.std.proofs.lemmas.Bool.{eqb-true}
 use Rattle.std.proofs.lemmas.List.{take_more}
 use Rattle.ge_model_rows.specs.TaskRows.{TaskSpan, is_form}
-use Rattle.ge_model_tasks.specs.Spans.{steps_of, stepping, span_numbers}
-use Rattle.ge_model_tasks.specs.Sets.{numbers_of, count_of, set_of}
-use Rattle.ge_model_tasks.proofs.Limits.{count_numbers}
-use Rattle.ge_model_tasks.proofs.Numbers.{Rising, set_of_form}
+use Rattle.ge_model_rows.specs.Spans.{steps_of, stepping, span_numbers}
+use Rattle.ge_model_rows.specs.Sets.{numbers_of, count_of, set_of}
+use Rattle.ge_model_rows.proofs.Limits.{count_numbers}
+use Rattle.ge_model_rows.proofs.Numbers.{Rising, set_of_form}
 use Rattle.ge_ranges.specs.Forming.{has_second, is_rising}
 
 -- a span's first number isn't above its last

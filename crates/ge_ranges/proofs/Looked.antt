@@ -5,8 +5,8 @@ use Rattle.std.proofs.Math.Nat.{mul-mod_left, mul_right_comm, zero-mod}
 use Rattle.std.proofs.lemmas.Nat.{div-add-mod'}
 use Rattle.std.proofs.lemmas.Bool.{true≢false}
 use Rattle.ge_model_rows.specs.TaskRows.{TaskSpan}
-use Rattle.ge_model_tasks.specs.Spans.{in_span}
-use Rattle.ge_model_tasks.proofs.Steps.{lies, lies_back, from_there, step_more, next_step}
+use Rattle.ge_model_rows.specs.Spans.{in_span}
+use Rattle.ge_model_rows.proofs.Steps.{lies, lies_back, from_there, step_more, next_step}
 use Rattle.ge_ranges.specs.Meeting.{first_inside}
 use Rattle.ge_ranges.proofs.Multiples.{whole, beside}
 

@@ -4,11 +4,11 @@ use Rattle.std.specs.Prelude.{Some, None}
 use Rattle.std.proofs.Math.Nat.{zero-mod}
 use Rattle.std.proofs.lemmas.Bool.{true≢false}
 use Rattle.ge_model_rows.specs.TaskRows.{TaskSpan}
-use Rattle.ge_model_tasks.specs.Spans.{span_of, in_span, above_in}
-use Rattle.ge_model_tasks.specs.Sets.{has_number}
-use Rattle.ge_model_tasks.proofs.Steps.{In, lies, lies_back}
-use Rattle.ge_model_tasks.proofs.Form.{IsMade}
-use Rattle.ge_model_tasks.proofs.Cuts.{floor, stretched, above_in_numbers}
+use Rattle.ge_model_rows.specs.Spans.{span_of, in_span, above_in}
+use Rattle.ge_model_rows.specs.Sets.{has_number}
+use Rattle.ge_model_rows.proofs.Steps.{In, lies, lies_back}
+use Rattle.ge_model_rows.proofs.Form.{IsMade}
+use Rattle.ge_model_rows.proofs.Cuts.{floor, stretched, above_in_numbers}
 use Rattle.ge_ranges.specs.Meeting.{first_in_part, next_shared}
 use Rattle.ge_ranges.proofs.Looked.{nothing_found, not_both, Found, found, missed_all}
 

@@ -1,9 +1,9 @@
 -- Without what two sets share, the first has the numbers that the second doesn't have.
 use Rattle.std.proofs.Common.{◌≡◌, ◌&&◌, Bool, true, false, not, List, refl, sym, ap, ◌∙◌}
 use Rattle.ge_model_rows.specs.TaskRows.{TaskSpan, is_form}
-use Rattle.ge_model_tasks.specs.Sets.{has_number, meet, difference}
-use Rattle.ge_model_tasks.proofs.Together.{meet_form, meet_has, difference_form, difference_has}
-use Rattle.ge_model_tasks.proofs.Unique.{one_form}
+use Rattle.ge_model_rows.specs.Sets.{has_number, meet, difference}
+use Rattle.ge_model_rows.proofs.Together.{meet_form, meet_has, difference_form, difference_has}
+use Rattle.ge_model_rows.proofs.Unique.{one_form}
 
 without_both : (u v : Bool) → (u && not (u && v)) ≡ (u && not v)
 without_both true v = refl

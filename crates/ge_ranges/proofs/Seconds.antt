@@ -2,10 +2,10 @@
 use Rattle.std.proofs.Common.{◌≡◌, ℕ, zero, suc, ◌+◌, ◌-◌, ◌*◌, ◌/◌, ◌<◌, ◌==◌, ◌&&◌, ◌||◌, Bool, true, false, min, if◌then◌else◌, nat_lt, nat_le, List, [], ◌∷◌, refl, ap, ◌∙◌, arith, length, get_or}
 use Rattle.std.proofs.lemmas.Bool.{eqb-false, le-leb}
 use Rattle.ge_model_rows.specs.TaskRows.{TaskSpan, is_form}
-use Rattle.ge_model_tasks.specs.Spans.{span_of, stretch, below_in, above_in}
-use Rattle.ge_model_tasks.proofs.Form.{IsMade, Rises}
-use Rattle.ge_model_tasks.proofs.Steps.{next_step}
-use Rattle.ge_model_tasks.proofs.Sets.{form_rises}
+use Rattle.ge_model_rows.specs.Spans.{span_of, stretch, below_in, above_in}
+use Rattle.ge_model_rows.proofs.Form.{IsMade, Rises}
+use Rattle.ge_model_rows.proofs.Steps.{next_step}
+use Rattle.ge_model_rows.proofs.Sets.{form_rises}
 use Rattle.ge_ranges.specs.Forming.{has_second, have_seconds}
 
 -- a span from a number by whole steps

@@ -5,12 +5,12 @@ use Rattle.std.proofs.Math.Nat.{mul-mod_left}
 use Rattle.std.proofs.lemmas.Nat.{div-add-mod'}
 use Rattle.std.proofs.lemmas.Bool.{eqb-true, true≢false}
 use Rattle.ge_model_rows.specs.TaskRows.{TaskSpan}
-use Rattle.ge_model_tasks.specs.Spans.{one, span_of, in_span}
-use Rattle.ge_model_tasks.specs.Sets.{has_number}
-use Rattle.ge_model_tasks.proofs.Steps.{both_ways, raw, In, lies, lies_back, from_there, alone}
-use Rattle.ge_model_tasks.proofs.Form.{IsMade}
-use Rattle.ge_model_tasks.proofs.Sets.{Within, one_made}
-use Rattle.ge_model_tasks.proofs.Cuts.{floor, stretched, stretch_end, stretch_numbers}
+use Rattle.ge_model_rows.specs.Spans.{one, span_of, in_span}
+use Rattle.ge_model_rows.specs.Sets.{has_number}
+use Rattle.ge_model_rows.proofs.Steps.{both_ways, raw, In, lies, lies_back, from_there, alone}
+use Rattle.ge_model_rows.proofs.Form.{IsMade}
+use Rattle.ge_model_rows.proofs.Sets.{Within, one_made}
+use Rattle.ge_model_rows.proofs.Cuts.{floor, stretched, stretch_end, stretch_numbers}
 use Rattle.ge_ranges.specs.Meeting.{next_shared, shared_on, shared_from, shared_by}
 use Rattle.ge_ranges.proofs.Multiples.{through, beside}
 use Rattle.ge_ranges.proofs.NextShared.{Next, next_some, next_none, or_nothing, and_both, both_true, higher}

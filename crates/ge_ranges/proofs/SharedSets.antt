@@ -4,15 +4,15 @@ use Rattle.std.specs.Prelude.{Option, Some, None}
 use Rattle.std.proofs.lemmas.Bool.{eq-eqb}
 use Rattle.std.proofs.lemmas.List.Folds.{list_any-append}
 use Rattle.ge_model_rows.specs.TaskRows.{TaskSpan, is_form}
-use Rattle.ge_model_tasks.specs.Spans.{in_span, in_form}
-use Rattle.ge_model_tasks.specs.Sets.{has_number, meet}
-use Rattle.ge_model_tasks.proofs.Steps.{lies}
-use Rattle.ge_model_tasks.proofs.Form.{IsMade, Rises}
-use Rattle.ge_model_tasks.proofs.Runs.{in_form_form, in_form_numbers}
-use Rattle.ge_model_tasks.proofs.Sets.{Within, joined_rises, form_rises}
-use Rattle.ge_model_tasks.proofs.Merged.{above_low}
-use Rattle.ge_model_tasks.proofs.Together.{meet_form, meet_has}
-use Rattle.ge_model_tasks.proofs.Unique.{one_form}
+use Rattle.ge_model_rows.specs.Spans.{in_span, in_form}
+use Rattle.ge_model_rows.specs.Sets.{has_number, meet}
+use Rattle.ge_model_rows.proofs.Steps.{lies}
+use Rattle.ge_model_rows.proofs.Form.{IsMade, Rises}
+use Rattle.ge_model_rows.proofs.Runs.{in_form_form, in_form_numbers}
+use Rattle.ge_model_rows.proofs.Sets.{Within, joined_rises, form_rises}
+use Rattle.ge_model_rows.proofs.Merged.{above_low}
+use Rattle.ge_model_rows.proofs.Together.{meet_form, meet_has}
+use Rattle.ge_model_rows.proofs.Unique.{one_form}
 use Rattle.ge_ranges.specs.Forming.{have_seconds}
 use Rattle.ge_ranges.specs.Meeting.{next_shared, shared_on, shared_from, shared_by, shared_part, meet_one, met}
 use Rattle.ge_ranges.proofs.Seconds.{stretched}

@@ -1,11 +1,11 @@
 -- A set without the number 0, which none has, is what it was.
 use Rattle.std.proofs.Common.{◌≡◌, ℕ, zero, suc, true, false, nat_lt, List, [], ◌∷◌, ◌++◌, refl, ap, ◌∙◌, arith}
 use Rattle.ge_model_rows.specs.TaskRows.{TaskSpan, is_form}
-use Rattle.ge_model_tasks.specs.Sets.{below, above, without_number}
-use Rattle.ge_model_tasks.proofs.Form.{Rises}
-use Rattle.ge_model_tasks.proofs.Sets.{form_rises, without_number_form}
-use Rattle.ge_model_tasks.proofs.Unique.{in_form_stays}
-use Rattle.ge_model_tasks.specs.Spans.{in_form}
+use Rattle.ge_model_rows.specs.Sets.{below, above, without_number}
+use Rattle.ge_model_rows.proofs.Form.{Rises}
+use Rattle.ge_model_rows.proofs.Sets.{form_rises, without_number_form}
+use Rattle.ge_model_rows.proofs.Unique.{in_form_stays}
+use Rattle.ge_model_rows.specs.Spans.{in_form}
 
 none_below : (spans : List TaskSpan) → below 0 spans ≡ []
 none_below [] = refl

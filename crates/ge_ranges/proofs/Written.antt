@@ -1,10 +1,10 @@
 -- A written range's numbers of 32 bits, as a set.
 use Rattle.std.proofs.Common.{◌≡◌, ℕ, ◌+◌, ◌-◌, ◌*◌, ◌/◌, ◌^◌, ◌≤◌, Bool, true, false, if◌then◌else◌, nat_lt, min, [], ◌∷◌, refl, arith}
 use Rattle.ge_model_rows.specs.TaskRows.{TaskSpan, is_form}
-use Rattle.ge_model_tasks.specs.Spans.{span_of}
-use Rattle.ge_model_tasks.specs.Ranges.{range_set}
-use Rattle.ge_model_tasks.proofs.Cuts.{stretched}
-use Rattle.ge_model_tasks.proofs.Runs.{made_end}
+use Rattle.ge_model_rows.specs.Spans.{span_of}
+use Rattle.ge_model_rows.specs.Ranges.{range_set}
+use Rattle.ge_model_rows.proofs.Cuts.{stretched}
+use Rattle.ge_model_rows.proofs.Runs.{made_end}
 
 -- such a set is in the form
 pub written_form : (range : TaskSpan) → 1 ≤ range.first → range.first ≤ range.last → 1 ≤ range.step → is_form (range_set range) ≡ true

@@ -2,7 +2,7 @@
 use Rattle.std.specs.Prelude.{ℕ, ◌+◌, Bool, true, ◌||◌, ◌&&◌, nat_lt, nat_le, List, [], ◌∷◌, Option, Some, None}
 use Rattle.std.specs.List.{list_all}
 use Rattle.ge_model_rows.specs.TaskRows.{TaskSpan}
-use Rattle.ge_model_tasks.specs.Spans.{is_one, runs_from, in_form}
+use Rattle.ge_model_rows.specs.Spans.{is_one, runs_from, in_form}
 
 -- what the run that is being made and the spans to come make
 abbrev pub formed_from : Option TaskSpan → List TaskSpan → List TaskSpan

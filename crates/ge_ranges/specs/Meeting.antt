@@ -2,7 +2,7 @@
 -- on, by the distance of that and the next one that both have.
 use Rattle.std.specs.Prelude.{ℕ, zero, suc, ◌+◌, ◌-◌, min, if◌then◌else◌, nat_lt, nat_le, List, [], ◌∷◌, ◌++◌, Option, Some, None}
 use Rattle.ge_model_rows.specs.TaskRows.{TaskSpan}
-use Rattle.ge_model_tasks.specs.Spans.{one, in_span, stretch, above_in}
+use Rattle.ge_model_rows.specs.Spans.{one, in_span, stretch, above_in}
 
 -- from a number on, by a step and up to a last one, the first that a span has; so many numbers are looked at
 abbrev pub first_inside : ℕ → TaskSpan → ℕ → ℕ → ℕ → Option ℕ

@@ -1,8 +1,8 @@
 -- What the reader of a set answers.
 use Rattle.std.specs.Prelude.{◌≡◌, List, Option, Some, None, Result, Ok, Err}
 use Rattle.ge_model_rows.specs.TaskRows.{TaskSpan}
-use Rattle.ge_model_tasks.specs.declared.RangeFault.{RangeFault}
-use Rattle.ge_model_tasks.specs.declared.RangeFault.TheVariants.{Syntax, Limit, NoMemory}
+use Rattle.ge_model_rows.specs.declared.RangeFault.{RangeFault}
+use Rattle.ge_model_rows.specs.declared.RangeFault.TheVariants.{Syntax, Limit, NoMemory}
 
 -- the set of a text, or why it has none; want of memory is a free answer
 abbrev pub IsParsed : Result (List TaskSpan) RangeFault → Result (List TaskSpan) RangeFault → Type 0

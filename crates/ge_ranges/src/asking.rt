@@ -1,7 +1,7 @@
 // What is asked of a set.
 ghost use Rattle.std.specs.Prelude.{◌≡◌, ◌-◌, ◌+◌, ◌*◌, ◌/◌, ◌%◌, ◌<◌, ◌≤◌, ◌^◌, min, IsTrue, ◌↔◌, []};
-ghost use Rattle.ge_model_tasks.specs.Spans.{in_span, steps_of};
-ghost use Rattle.ge_model_tasks.specs.Sets.{has_number, first_number, next_number, add_count, count_of};
+ghost use Rattle.ge_model_rows.specs.Spans.{in_span, steps_of};
+ghost use Rattle.ge_model_rows.specs.Sets.{has_number, first_number, next_number, add_count, count_of};
 
 use crate::cutting::{above_part, quotient, rest_of};
 use ge_rows::{TaskSet, TaskSpan};

@@ -1,7 +1,7 @@
 // Two sets together.
 ghost use Rattle.std.specs.Prelude.{◌≡◌, ◌+◌, IfOk, IsTrue};
 ghost use Rattle.ge_model_rows.specs.TaskRows.{is_form};
-ghost use Rattle.ge_model_tasks.specs.Sets.{together, count_of, union as union_of, meet as meet_of, difference as difference_of};
+ghost use Rattle.ge_model_rows.specs.Sets.{together, count_of, union as union_of, meet as meet_of, difference as difference_of};
 
 use crate::asking::len;
 use crate::meeting::meet_together;

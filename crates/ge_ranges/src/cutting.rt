@@ -1,7 +1,7 @@
 // Parts of spans.
 ghost use Rattle.std.specs.Prelude.{◌≡◌, ◌-◌, ◌+◌, ◌*◌, ◌/◌, ◌%◌, ◌<◌, ◌^◌};
 ghost use Rattle.std.specs.Option.{option_to_list};
-ghost use Rattle.ge_model_tasks.specs.Spans.{is_one as has_one, span_of, stretch, below_in, above_in};
+ghost use Rattle.ge_model_rows.specs.Spans.{is_one as has_one, span_of, stretch, below_in, above_in};
 
 use ge_rows::TaskSpan;
 

@@ -2,7 +2,7 @@
 ghost use Rattle.std.specs.Prelude.{◌≡◌, ◌++◌, ◌∷◌, [], List as Items, IfOk, OnOk, IsTrue};
 ghost use Rattle.std.specs.Option.{option_to_list};
 ghost use Rattle.ge_model_rows.specs.TaskRows.{TaskSpan as SpanOf};
-ghost use Rattle.ge_model_tasks.specs.Spans.{run_goes_on, lengthened, runs_from, in_form};
+ghost use Rattle.ge_model_rows.specs.Spans.{run_goes_on, lengthened, runs_from, in_form};
 ghost use Rattle.ge_ranges.specs.Forming.{formed_from, has_second, have_seconds};
 
 use crate::cutting::{is_one, span_by};

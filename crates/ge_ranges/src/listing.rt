@@ -1,8 +1,8 @@
 // Sets and the lists of their numbers.
 ghost use Rattle.std.specs.Prelude.{◌≡◌, ◌≤◌, ◌+◌, ◌*◌, ◌++◌, IfOk, OnOk, IsTrue, map, take, List as Items};
 ghost use Rattle.ge_model_rows.specs.TaskRows.{TaskSpan as SpanOf};
-ghost use Rattle.ge_model_tasks.specs.Spans.{one, steps_of, span_numbers};
-ghost use Rattle.ge_model_tasks.specs.Sets.{numbers_of, set_of as set_of_numbers};
+ghost use Rattle.ge_model_rows.specs.Spans.{one, steps_of, span_numbers};
+ghost use Rattle.ge_model_rows.specs.Sets.{numbers_of, set_of as set_of_numbers};
 ghost use Rattle.ge_ranges.specs.Forming.{formed_from, has_second, is_rising};
 
 use crate::asking::{len, steps};

@@ -2,8 +2,8 @@
 ghost use Rattle.std.specs.Prelude.{◌≡◌, IfOk, IsTrue};
 ghost use Rattle.std.specs.Option.{option_to_list};
 ghost use Rattle.ge_model_rows.specs.TaskRows.{is_form};
-ghost use Rattle.ge_model_tasks.specs.Spans.{in_form};
-ghost use Rattle.ge_model_tasks.specs.Sets.{meet as meet_of};
+ghost use Rattle.ge_model_rows.specs.Spans.{in_form};
+ghost use Rattle.ge_model_rows.specs.Sets.{meet as meet_of};
 ghost use Rattle.ge_ranges.specs.Forming.{have_seconds};
 ghost use Rattle.ge_ranges.specs.Meeting.{met};
 ghost use Rattle.ge_ranges.specs.Meeting as common;

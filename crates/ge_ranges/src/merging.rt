@@ -2,8 +2,8 @@
 ghost use Rattle.std.specs.Prelude.{◌≡◌, ◌+◌, ◌++◌, ◌∷◌, [], ℕ, suc, List as Items, IfOk, OnOk, IfSome, IfNone, Some, None, IsTrue};
 ghost use Rattle.std.specs.Option.{option_to_list};
 ghost use Rattle.ge_model_rows.specs.TaskRows.{TaskSpan as SpanOf};
-ghost use Rattle.ge_model_tasks.specs.Spans.{in_form, below_in, above_in};
-ghost use Rattle.ge_model_tasks.specs.Sets.{kept, shared_end as shared_end_of, merged};
+ghost use Rattle.ge_model_rows.specs.Spans.{in_form, below_in, above_in};
+ghost use Rattle.ge_model_rows.specs.Sets.{kept, shared_end as shared_end_of, merged};
 ghost use Rattle.ge_ranges.specs.Forming.{formed_from, has_second, have_seconds, parted};
 
 use crate::cutting::{above_part, below_part, part_up_to};

@@ -1,14 +1,14 @@
 // The set of a text.
 ghost use Rattle.std.specs.Prelude.{◌≡◌, ◌++◌, [], ◌∷◌, IfOk, OnOk, map, Some, None};
-ghost use Rattle.ge_model_tasks.specs.Ranges.{ranges_of, range_set, is_within_limits, with_ranges, parsed_set};
-ghost use Rattle.ge_model_tasks.specs.Sets.{union as union_of};
+ghost use Rattle.ge_model_rows.specs.Ranges.{ranges_of, range_set, is_within_limits, with_ranges, parsed_set};
+ghost use Rattle.ge_model_rows.specs.Sets.{union as union_of};
 ghost use Rattle.ge_ranges.specs.Parsing.{IsParsed, or_limit, or_fault};
 
 use crate::asking::len;
 use crate::combining::union;
 use crate::ranges::{WrittenRange, read_range};
 use ge_limits::TASKS;
-use ge_model_tasks::RangeFault;
+use ge_model_rows::RangeFault;
 use ge_pieces::slices_at;
 use ge_rows::{List, TaskSet};
 use std::alloc::{AllocError, Global};
@@ -72,7 +72,7 @@ fn join_ranges(alloc: Global, ranges: &[WrittenRange]) -> Result<Option<TaskSet>
 }
 
 // The set of a text: none where it is off the grammar, and none within that where a limit is passed.
-#[tactic(auto, unfolding(ge_model_tasks::specs::Ranges::parsed_set))]
+#[tactic(auto, unfolding(ge_model_rows::specs::Ranges::parsed_set))]
 fn read_set(alloc: Global, text: &[u8]) -> Result<Option<Option<TaskSet>>, AllocError>
     ensures { IfOk result (λ read. or_fault read ≡ parsed_set text.now) }
 {

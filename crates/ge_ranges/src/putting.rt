@@ -1,8 +1,8 @@
 // Numbers put into a set and taken out.
 ghost use Rattle.std.specs.Prelude.{◌≡◌, ◌≤◌, ◌++◌, ◌∷◌, [], List as Items, IfOk, OnOk, OnErr, IsTrue};
 ghost use Rattle.ge_model_rows.specs.TaskRows.{TaskSpan as SpanOf, is_form};
-ghost use Rattle.ge_model_tasks.specs.Spans.{one};
-ghost use Rattle.ge_model_tasks.specs.Sets.{below, above, with_number as with_one, without_number as without_one};
+ghost use Rattle.ge_model_rows.specs.Spans.{one};
+ghost use Rattle.ge_model_rows.specs.Sets.{below, above, with_number as with_one, without_number as without_one};
 ghost use Rattle.ge_ranges.specs.Forming.{formed_from, have_seconds};
 
 use crate::cutting::{above_part, below_part};

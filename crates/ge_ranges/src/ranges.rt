@@ -2,9 +2,9 @@
 ghost use Rattle.std.specs.Prelude.{◌≡◌, ◌≤◌, ◌+◌, ◌-◌, ◌*◌, ◌/◌, ◌^◌, ◌<◌, min, IsTrue, codes};
 ghost use Rattle.std.specs.Option.{option_to_list};
 ghost use Rattle.ge_model_rows.specs.TaskRows.{is_form};
-ghost use Rattle.ge_model_value.specs.Pieces.{number_of};
-ghost use Rattle.ge_model_tasks.specs.Spans.{steps_of};
-ghost use Rattle.ge_model_tasks.specs.Ranges.{range_from, digits_number, range_of_texts, range_up_to, range_of, reached, is_within_limits, range_set};
+ghost use Rattle.ge_model_rows.specs.Pieces.{number_of};
+ghost use Rattle.ge_model_rows.specs.Spans.{steps_of};
+ghost use Rattle.ge_model_rows.specs.Ranges.{range_from, digits_number, range_of_texts, range_up_to, range_of, reached, is_within_limits, range_set};
 
 use ge_limits::{LAST_TASK, TASKS};
 use ge_pieces::{before, behind, has, has_digits};

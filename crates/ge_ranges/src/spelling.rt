@@ -1,6 +1,6 @@
 // A set as text.
 ghost use Rattle.std.specs.Prelude.{◌≡◌, ◌++◌, IfOk, OnOk, map, codes};
-ghost use Rattle.ge_model_tasks.specs.SetText.{range_text, span_text, set_text};
+ghost use Rattle.ge_model_rows.specs.SetText.{range_text, span_text, set_text};
 
 use crate::cutting::is_one;
 use ge_pieces::join;

@@ -1,8 +1,8 @@
 // The plan of qrdel.
 ghost use Rattle.std.specs.Prelude.{◌≡◌, ◌++◌, IfOk, codes, decimal, flat_map, length};
 ghost use Rattle.std.specs.Option.{option_copied};
-ghost use Rattle.ge_model_site.specs.Access as access;
-ghost use Rattle.ge_model_value.specs.Faults.{after_faults, first_fault};
+ghost use Rattle.ge_model_rows.specs.Access as access;
+ghost use Rattle.ge_model_rows.specs.Faults.{after_faults, first_fault};
 ghost use Rattle.ge_model_core.specs.Booking.{unbook_faults_of, unbook_faults, unbook_plan};
 
 use crate::joining::is_joined;

@@ -1,6 +1,6 @@
 // The plan of end.
 ghost use Rattle.std.specs.Prelude.{◌≡◌, ◌++◌, IfOk};
-ghost use Rattle.ge_model_value.specs.Faults.{after_faults, first_fault};
+ghost use Rattle.ge_model_rows.specs.Faults.{after_faults, first_fault};
 ghost use Rattle.ge_model_rows.specs.EntryRows.{End};
 ghost use Rattle.ge_model_core.specs.Answers.{changed, done_lines};
 ghost use Rattle.ge_model_core.specs.Configuring.{manager_faults};

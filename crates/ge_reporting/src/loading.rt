@@ -1,6 +1,6 @@
 // The plan of load.
 ghost use Rattle.std.specs.Prelude.{◌≡◌, [], ◌++◌, IfOk, OnOk, flat_map, fold};
-ghost use Rattle.ge_model_value.specs.Faults.{after_faults, first_fault};
+ghost use Rattle.ge_model_rows.specs.Faults.{after_faults, first_fault};
 ghost use Rattle.ge_model_core.specs.Reports.{host_faults, report_faults, report_of, load_plan};
 ghost use Rattle.ge_model_core.specs.Reports as reports;
 ghost use Rattle.ge_pieces.specs.Gives.{Reads};

@@ -1,6 +1,6 @@
 // What managers alone may do, and the plan of qconf -km.
 ghost use Rattle.std.specs.Prelude.{◌≡◌, true, IfOk};
-ghost use Rattle.ge_model_value.specs.Faults.{after_faults, first_fault};
+ghost use Rattle.ge_model_rows.specs.Faults.{after_faults, first_fault};
 ghost use Rattle.ge_model_core.specs.Configuring.{manager_faults};
 ghost use Rattle.ge_model_core.specs.Reports.{stop_plan};
 ghost use Rattle.ge_model_core.specs.Answers.{shown, done_lines};

@@ -7,8 +7,8 @@ use Rattle.std.proofs.lemmas.List.Sums.{fold-append}
 use Rattle.ge_base.specs.declared.refusal.Refusal.{Refusal}
 use Rattle.ge_model_rows.specs.ClusterRows.{Cluster}
 use Rattle.ge_model_rows.specs.ValueRows.{Value}
-use Rattle.ge_model_value.specs.Faults.{after_faults}
-use Rattle.ge_model_value.proofs.FaultLaws.{after_faults-append}
+use Rattle.ge_model_rows.specs.Faults.{after_faults}
+use Rattle.ge_model_rows.proofs.FaultLaws.{after_faults-append}
 use Rattle.ge_model_config.specs.Cited.{Read}
 use Rattle.ge_model_config.specs.Pairs.{put_value, with_value}
 use Rattle.ge_model_config.specs.Requests.{asked_read, with_asked}

@@ -2,7 +2,7 @@
 use Rattle.std.specs.Prelude.{◌≡◌, ℕ, List, Option}
 use Rattle.ge_base.specs.declared.refusal.Refusal.{Refusal}
 use Rattle.ge_model_rows.specs.ValueRows.{Value}
-use Rattle.ge_model_value.specs.Faults.{after_faults}
+use Rattle.ge_model_rows.specs.Faults.{after_faults}
 use Rattle.ge_model_config.specs.Cited.{Read}
 use Rattle.ge_model_config.specs.Pairs.{put_value}
 

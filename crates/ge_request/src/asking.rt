@@ -2,7 +2,7 @@
 
 ghost use Rattle.std.specs.Prelude.{◌≡◌, [], OnOk, map, fold};
 ghost use Rattle.std.specs.Option.{option_map};
-ghost use Rattle.ge_model_value.specs.Faults.{after_faults};
+ghost use Rattle.ge_model_rows.specs.Faults.{after_faults};
 ghost use Rattle.ge_model_config.specs.Pairs.{beside, put_value};
 ghost use Rattle.ge_model_config.specs.Requests.{asked_text, asked_item, asked_read, is_unrequestable, with_asked, all_asked};
 ghost use Rattle.ge_pieces.specs.Gives.{Reads};

@@ -4,7 +4,7 @@ ghost use Rattle.std.specs.Prelude.{◌≡◌, ◌++◌, IfOk, OnOk, flat_map, m
 ghost use Rattle.std.specs.BTreeMap.{is_at};
 ghost use Rattle.std.specs.Option.{option_copied};
 ghost use Rattle.ge_collections.specs.Keyed.{text_cmp};
-ghost use Rattle.ge_model_value.specs.Pieces.{pieces_at};
+ghost use Rattle.ge_model_rows.specs.Pieces.{pieces_at};
 ghost use Rattle.ge_model_grammar.specs.Options.{option_words};
 
 use ge_pieces::slices_at;

@@ -2,8 +2,8 @@
 
 ghost use Rattle.std.specs.Prelude.{◌≡◌, ℕ};
 ghost use Rattle.std.specs.Option.{option_map};
-ghost use Rattle.ge_model_value.specs.Pieces.{number_of};
-ghost use Rattle.ge_model_tasks.specs.Ranges.{digits_number};
+ghost use Rattle.ge_model_rows.specs.Pieces.{number_of};
+ghost use Rattle.ge_model_rows.specs.Ranges.{digits_number};
 ghost use Rattle.ge_model_grammar.specs.Options.{number_or, open_range, slot_range_of};
 ghost use Rattle.ge_model_config.specs.Cited.{has_name};
 ghost use Rattle.ge_model_config.specs.Requests.{slots_cut, is_bad_range, range_read, pe_read};

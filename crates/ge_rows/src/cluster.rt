@@ -12,7 +12,6 @@ use ge_collections::{List, Table, Text, Twin, twins4};
 use std::alloc::{AllocError, Global};
 
 /// All that the master keeps. An entry of the spool changes it, and nothing else does.
-#[derive(PartialEq, Eq)]
 pub struct Cluster {
     /// The moment of the last entry, in seconds.
     pub last: u64,
@@ -88,63 +87,5 @@ impl Drop for Cluster {
             next_advance: _,
             advances: _,
         } = self;
-    }
-}
-
-impl Twin for Cluster {
-    fn twin(&self, alloc: Global) -> Result<Cluster, AllocError> {
-        let (complexes, hosts, groups, queues) = twins4(
-            alloc,
-            &self.complexes,
-            &self.hosts,
-            &self.groups,
-            &self.queues,
-        )?;
-        let (pes, quotas, sets, users) = twins4(
-            alloc,
-            &self.pes,
-            &self.quotas,
-            &self.sets,
-            &self.users,
-        )?;
-        let (projects, shares, sched, managers) = twins4(
-            alloc,
-            &self.projects,
-            &self.shares,
-            &self.sched,
-            &self.managers,
-        )?;
-        let (operators, jobs, usage, lines) = twins4(
-            alloc,
-            &self.operators,
-            &self.jobs,
-            &self.usage,
-            &self.lines,
-        )?;
-        let advances = self.advances.twin(alloc)?;
-        Ok(Cluster {
-            last: self.last,
-            last_run: self.last_run,
-            next_job: self.next_job,
-            next_serial: self.next_serial,
-            complexes,
-            hosts,
-            groups,
-            queues,
-            pes,
-            quotas,
-            sets,
-            users,
-            projects,
-            shares,
-            sched,
-            managers,
-            operators,
-            jobs,
-            usage,
-            lines,
-            next_advance: self.next_advance,
-            advances,
-        })
     }
 }

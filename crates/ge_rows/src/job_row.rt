@@ -54,31 +54,6 @@ pub fn job_at(jobs: &Table<u32, JobRow>, number: u32) -> Option<&Job>
     }
 }
 
-impl PartialEq for JobRow {
-    ghost use Rattle.ge_rows.specs.contracts.jobs.JobPartialEq.TheImpl.Laws.{laws-law};
-
-    ghost eq = { ⟦<Job as PartialEq>⟧.eq };
-
-    ghost laws = { laws-law };
-
-    fn eq(&self, other: &JobRow) -> bool {
-        self.own == other.own
-    }
-}
-
-impl Eq for JobRow {
-    ghost use Rattle.ge_rows.specs.contracts.jobs.JobEq.TheImpl.Laws.{laws-law};
-
-    ghost laws = { laws-law };
-}
-
-impl Twin for JobRow {
-    fn twin(&self, alloc: Global) -> Result<JobRow, AllocError> {
-        let job = self.own.twin(alloc)?;
-        JobRow::new(alloc, job)
-    }
-}
-
 impl Row for JobRow {
     ghost use Rattle.ge_rows.specs.Marks.{job_marks};
     ghost use Rattle.ge_rows.specs.Weights.{live_tasks, script_bytes};

@@ -25,8 +25,8 @@ use Rattle.ge_model_place.proofs.Moments.{admissible_is}
 use Rattle.ge_model_place.proofs.Same.{text_same, limit_same}
 use Rattle.ge_model_place.proofs.Sums.{room_or_none}
 use Rattle.ge_model_place.proofs.Whole.{demands_each}
-use Rattle.ge_model_site.specs.Queues.{attr_at}
-use Rattle.ge_model_value.specs.Complexes.{is_consumable}
+use Rattle.ge_model_rows.specs.Queues.{attr_at}
+use Rattle.ge_model_rows.specs.Complexes.{is_consumable}
 use Rattle.ge_scheduling.specs.Vacant.{slots_of}
 
 pub any_first : {X : Type 0} (test : X → Bool) (xs ys : List X) → list_any test xs ≡ true → list_any test (xs ++ ys) ≡ true

@@ -12,7 +12,7 @@ use Rattle.ge_model_rows.specs.HostRows.{Groups, InstanceId}
 use Rattle.ge_model_rows.specs.JobRows.{Job}
 use Rattle.ge_model_rows.specs.QueueRows.{QueueRow}
 use Rattle.ge_model_rows.specs.ValueRows.{Value}
-use Rattle.ge_model_value.specs.Complexes.{is_consumable}
+use Rattle.ge_model_rows.specs.Complexes.{is_consumable}
 use Rattle.ge_model_place.specs.Opening.{has_host, is_asked_for, admits_owner, admits_project, admits_no_project, admits_pe, admits_value, has_value, is_configured, consumes_what_is, meets_forced, reaches_threshold, is_open_in, is_open}
 use Rattle.ge_model_place.proofs.Same.{texts_equal}
 use Rattle.ge_scheduling.specs.Amounts.{IsInTable, asks_itself}

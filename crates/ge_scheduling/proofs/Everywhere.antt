@@ -31,7 +31,7 @@ use Rattle.ge_model_place.proofs.First.{takes_one}
 use Rattle.ge_model_place.proofs.Once.{Each}
 use Rattle.ge_model_place.proofs.Taken.{IsCounted, counted_at_each, together}
 use Rattle.ge_model_place.proofs.Whole.{demands_each}
-use Rattle.ge_model_site.specs.Queues.{attr_at}
+use Rattle.ge_model_rows.specs.Queues.{attr_at}
 use Rattle.ge_scheduling.specs.Common.{names_places, set_names_places, counts_alike, is_common, lacks_room, is_exhausted, rules_out, IsAsked}
 use Rattle.ge_scheduling.specs.Vacant.{slots_of}
 use Rattle.ge_scheduling.proofs.Admitting.{any_first, any_second, grant_at, counts_here, has_room_for}

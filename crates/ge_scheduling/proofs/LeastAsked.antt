@@ -14,8 +14,8 @@ use Rattle.ge_demands.proofs.Gathered.{asked_is}
 use Rattle.ge_model_rows.specs.ClusterRows.{Cluster}
 use Rattle.ge_model_rows.specs.JobRows.{Job}
 use Rattle.ge_model_rows.specs.ValueRows.{Value, ComplexDef}
-use Rattle.ge_model_value.specs.Complexes.{complex_at, is_consumable}
-use Rattle.ge_model_value.specs.Pieces.{is_one_of}
+use Rattle.ge_model_rows.specs.Complexes.{complex_at, is_consumable}
+use Rattle.ge_model_rows.specs.Pieces.{is_one_of}
 use Rattle.ge_model_place.specs.Limits.{greatest_demand, per_slot}
 use Rattle.ge_model_place.specs.Opening.{slots_name}
 use Rattle.ge_model_place.proofs.Same.{texts_equal}

@@ -13,7 +13,7 @@ use Rattle.ge_model_rows.specs.HostRows.{Groups, InstanceId}
 use Rattle.ge_model_rows.specs.JobRows.{Job, PeRequest}
 use Rattle.ge_model_rows.specs.PeRows.{PeRow, Allocation, Fixed, PeSlots, FillUp, RoundRobin}
 use Rattle.ge_model_rows.specs.ScheduleRows.{LimitId, Booking}
-use Rattle.ge_model_value.specs.Pieces.{is_one_of, with_text, each_once}
+use Rattle.ge_model_rows.specs.Pieces.{is_one_of, with_text, each_once}
 use Rattle.ge_model_place.specs.Limits.{greatest_demand}
 use Rattle.ge_model_place.specs.Placement.{Room, Cell, cell_of, slot_asks, cell_asks, asked_so_far, asked_with_one, fits_one_more, takes_one_more, with_slot, next_slot, filled, slots_given, everywhere, is_on, hosts_in, fuller, on_one_host, with_block, in_blocks, with_turn, with_round, with_rounds, spread, grant_of, granted, placed_with, placed_by, placement_of}
 use Rattle.ge_model_place.proofs.First.{takes_one}

@@ -6,8 +6,8 @@ use Rattle.ge_demands.specs.Found.{amount_or_default}
 use Rattle.ge_model_rows.specs.ClusterRows.{Cluster}
 use Rattle.ge_model_rows.specs.JobRows.{Job}
 use Rattle.ge_model_rows.specs.ValueRows.{ComplexDef}
-use Rattle.ge_model_value.specs.Pieces.{is_one_of}
-use Rattle.ge_model_value.specs.Values.{amount_in}
+use Rattle.ge_model_rows.specs.Pieces.{is_one_of}
+use Rattle.ge_model_rows.specs.Values.{amount_in}
 use Rattle.ge_model_place.specs.Limits.{greatest_demand, per_slot}
 use Rattle.ge_model_place.specs.Opening.{has_value}
 use Rattle.ge_rows.specs.JobShort.{job_facts}

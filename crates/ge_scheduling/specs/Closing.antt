@@ -6,7 +6,7 @@ use Rattle.ge_model_rows.specs.ClusterRows.{Cluster}
 use Rattle.ge_model_rows.specs.HostRows.{Groups, InstanceId}
 use Rattle.ge_model_rows.specs.JobRows.{Job}
 use Rattle.ge_model_rows.specs.QueueRows.{QueueRow}
-use Rattle.ge_model_value.specs.Complexes.{is_consumable}
+use Rattle.ge_model_rows.specs.Complexes.{is_consumable}
 use Rattle.ge_model_place.specs.Opening.{is_configured, is_open}
 use Rattle.ge_scheduling.specs.Amounts.{IsInTable, asks_itself}
 

@@ -1,7 +1,7 @@
 // What is left at each instance, so that one which has too little is passed by before anything else is asked of it.
 ghost use Rattle.std.specs.Prelude.{◌≡◌, ℕ, ◌<◌, ◌++◌, ◌∷◌, [], None, cond, length, map, filter, slice_index_or, IfOk, OnOk};
 ghost use Rattle.ge_model_bookings.specs.Bookings.{same_instance};
-ghost use Rattle.ge_model_value.specs.Complexes.{is_consumable as is_consumed};
+ghost use Rattle.ge_model_rows.specs.Complexes.{is_consumable as is_consumed};
 ghost use Rattle.ge_model_place.specs.Limits.{consumables, resource_of};
 ghost use Rattle.ge_model_rows.specs.ScheduleRows.{Host};
 ghost use Rattle.ge_scheduling.specs.Amounts.{number_in};

@@ -1,6 +1,6 @@
 // Instances that have a slot left.
 ghost use Rattle.std.specs.Prelude.{◌≡◌, ◌++◌, ◌&&◌, ◌∷◌, [], IfOk, IsTrue, OnOk, filter};
-ghost use Rattle.ge_model_value.specs.Pieces.{is_empty};
+ghost use Rattle.ge_model_rows.specs.Pieces.{is_empty};
 ghost use Rattle.std.specs.Option.{option_copied};
 ghost use Rattle.ge_model_bookings.specs.Bookings.{forever};
 ghost use Rattle.ge_model_place.specs.Windows.{no_later_than};

@@ -13,7 +13,7 @@ use std::alloc::{AllocError, Global};
 const CHUNK: usize = 65_536;
 
 /// Why a script could not be read to its end.
-#[derive(Clone, Copy, Debug, PartialEq, Eq)]
+#[derive(Clone, Copy, PartialEq, Eq)]
 pub enum ScriptFault {
     /// A read failed.
     Read,

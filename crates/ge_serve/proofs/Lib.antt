@@ -5,3 +5,5 @@ pub mod Steps
 pub mod Exits
 pub mod Turns
 pub mod SoFar
+pub use Rattle.ge_master.proofs.Staged
+pub use Rattle.ge_master.proofs.Standing

@@ -2,3 +2,11 @@ pub mod Leaving
 pub mod Replies
 pub mod Ends
 pub mod Serves
+pub use Rattle.ge_master.specs.Areas
+pub use Rattle.ge_master.specs.Handling
+pub use Rattle.ge_master.specs.Homes
+pub use Rattle.ge_master.specs.Masters
+pub use Rattle.ge_master.specs.OpeningMasters
+pub use Rattle.ge_master.specs.Storing
+pub use Rattle.ge_master.specs.declared.faults.Stop
+pub use Rattle.ge_master.specs.declared.master.Master

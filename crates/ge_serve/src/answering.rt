@@ -8,8 +8,7 @@ ghost use Rattle.ge_model_serve.specs.Answered.{own_reply};
 ghost use Rattle.ge_serve.specs.Replies.{AnswersFrame};
 
 use crate::moments::events_of_frame;
-use ge_core::render;
-use ge_master::{Master, Stop};
+use ge_master::{Master, Stop, render};
 use ge_outside::{Clock, Disk};
 use ge_rows::{List, Reply, Text};
 use std::alloc::Global;

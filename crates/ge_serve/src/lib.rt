@@ -3,6 +3,7 @@
 //!
 //! - [`serve_link`]: one connection, up to its end.
 //! - [`serve`]: connections of a door, one after the other.
+//! - [`Master`], [`Stop`], [`plan`], [`apply`], [`render`]: the master's and the core's own, for crates above.
 #![tactic(auto)]
 
 mod answering;
@@ -11,6 +12,7 @@ mod moments;
 mod serving;
 mod statuses;
 
+pub use ge_master::{Master, Stop, apply, plan, render};
 pub use ge_model_serve::LinkEnd;
 pub use linking::serve_link;
 pub use serving::serve;

@@ -20,7 +20,7 @@ const DOOR_FAULT: u8 = 9;
 const NO_MEMORY: u8 = 10;
 
 /// Why not all connections were served.
-#[derive(Debug, Drop)]
+#[derive(Drop)]
 pub(crate) enum ServeFault {
     /// The master stopped.
     Stopped(Stop),

@@ -4,7 +4,7 @@ use Rattle.std.specs.Prelude.{if◌then◌else◌}
 use Rattle.ge_collections.specs.Keyed.{at_number, at_text}
 use Rattle.ge_model_rows.specs.ClusterRows.{Cluster}
 use Rattle.ge_model_rows.specs.JobRows.{Job}
-use Rattle.ge_model_value.specs.Pieces.{is_empty}
+use Rattle.ge_model_rows.specs.Pieces.{is_empty}
 use Rattle.ge_model_order.specs.Share.{usage_by_node, jobs_by_node, tickets_by_node, leaf_tickets, job_share_tickets, share_tickets_of}
 use Rattle.ge_model_order.specs.ShareTables.{places_of, leaf_below}
 use Rattle.ge_model_order.specs.ShareTree.{Entered, walked, most_levels, nothing_walked, root_id, tree_of}

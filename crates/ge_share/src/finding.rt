@@ -2,7 +2,7 @@
 
 ghost use Rattle.std.specs.Prelude.{◌≡◌, ℕ, [], ◌∷◌, IfOk, OnOk, fold, codes};
 ghost use Rattle.std.specs.Option.{option_or, option_copied};
-ghost use Rattle.ge_model_value.specs.Pieces.{is_empty};
+ghost use Rattle.ge_model_rows.specs.Pieces.{is_empty};
 ghost use Rattle.ge_model_order.specs.ShareTables.{with_leaf, with_project, outside, scope_of_project, leaf_in, leaf_at, leaf_below, project_at, if_childless, at_leaf};
 ghost use Rattle.ge_share.specs.Found.{with_child, with_projects, with_node_found, finder_of, places_by, line_by};
 

@@ -8,11 +8,11 @@ use Rattle.std.proofs.Math.Nat.{zero-mod, sub_self}
 use Rattle.std.proofs.lemmas.Bool.{and_from, or_left, eq-eqb, le-leb}
 use Rattle.ge_model_rows.specs.JobRows.{Job, Running}
 use Rattle.ge_model_rows.specs.TaskRows.{TaskSpan, is_form}
-use Rattle.ge_model_value.specs.Pieces.{is_empty}
-use Rattle.ge_model_tasks.specs.Spans.{in_span}
-use Rattle.ge_model_tasks.specs.Sets.{has_number, union}
-use Rattle.ge_model_tasks.proofs.Sets.{form_rises}
-use Rattle.ge_model_tasks.proofs.Together.{union_has}
+use Rattle.ge_model_rows.specs.Pieces.{is_empty}
+use Rattle.ge_model_rows.specs.Spans.{in_span}
+use Rattle.ge_model_rows.specs.Sets.{has_number, union}
+use Rattle.ge_model_rows.proofs.Sets.{form_rises}
+use Rattle.ge_model_rows.proofs.Together.{union_has}
 use Rattle.ge_model_jobs.specs.Soundness.{HasTask, serial_of}
 use Rattle.ge_model_jobs.specs.Picks.{names_task, named_in}
 use Rattle.ge_model_jobs.specs.declared.After.{After}

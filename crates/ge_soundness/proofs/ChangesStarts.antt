@@ -13,7 +13,7 @@ use Rattle.ge_soundness.proofs.Lists.{IsJoined, joined_all, joined_distinct, joi
 use Rattle.ge_soundness.proofs.Lists.IsJoined.{same}
 use Rattle.ge_soundness.proofs.Starts.{serials_put, waits_alone}
 use Rattle.ge_soundness.proofs.Starts.{FollowOn}
-use Rattle.ge_model_tasks.specs.Sets.{has_number, without_number}
+use Rattle.ge_model_rows.specs.Sets.{has_number, without_number}
 use Rattle.ge_model_jobs.specs.Orderly.{has_key, KeysFrom, IsOrderly, AllOrderly}
 use Rattle.ge_model_jobs.specs.Starting.{running_from, with_start, start_task}
 use Rattle.ge_model_jobs.proofs.Keys.{put_keys}

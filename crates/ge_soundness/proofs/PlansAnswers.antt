@@ -5,7 +5,7 @@ use Rattle.ge_base.specs.declared.refusal.Refusal.{Refusal}
 use Rattle.ge_model_rows.specs.ClusterRows.{Cluster}
 use Rattle.ge_model_rows.specs.EntryRows.{Change}
 use Rattle.ge_model_rows.specs.EventRows.{Event, Planned}
-use Rattle.ge_model_value.specs.Faults.{when, first_fault}
+use Rattle.ge_model_rows.specs.Faults.{when, first_fault}
 use Rattle.ge_model_core.specs.Refusals.{refused, unless_refused}
 use Rattle.ge_model_core.proofs.NamedPlans.{none_holds}
 use Rattle.ge_model_core.specs.Answers.{changed, shown, unless_faulty}

@@ -10,9 +10,9 @@ use Rattle.ge_collections.specs.Keyed.{text_eq, at_number}
 use Rattle.ge_model_rows.specs.ClusterRows.{Cluster}
 use Rattle.ge_model_rows.specs.EventRows.{Event}
 use Rattle.ge_model_rows.specs.JobRows.{Grant, Advance}
-use Rattle.ge_model_value.specs.Faults.{when}
-use Rattle.ge_model_value.specs.Pieces.{with_one_number}
-use Rattle.ge_model_site.specs.Access.{is_operator}
+use Rattle.ge_model_rows.specs.Faults.{when}
+use Rattle.ge_model_rows.specs.Pieces.{with_one_number}
+use Rattle.ge_model_rows.specs.Access.{is_operator}
 use Rattle.ge_model_jobs.specs.Orderly.{has_key}
 use Rattle.ge_model_jobs.specs.Starting.{is_joined}
 use Rattle.ge_model_place.specs.Advances.{advance_grants}

@@ -9,7 +9,7 @@ use Rattle.ge_collections.specs.Keyed.{text_cmp, at_text, put_text, drop_text, a
 use Rattle.ge_model_rows.specs.ClusterRows.{Cluster}
 use Rattle.ge_model_rows.specs.JobRows.{Job, Grant, Advance}
 use Rattle.ge_model_rows.specs.ValueRows.{Value}
-use Rattle.ge_model_value.specs.Pieces.{pieces_at, is_empty}
+use Rattle.ge_model_rows.specs.Pieces.{pieces_at, is_empty}
 use Rattle.ge_model_jobs.specs.Soundness.{IsAdvance, IsBooked, IsSound, has_advance}
 use Rattle.ge_model_jobs.specs.Orderly.{has_key}
 use Rattle.ge_model_place.specs.Advances.{advance_grants, IsBookable, KeepsBeside}

@@ -14,8 +14,8 @@ use Rattle.ge_model_core.specs.Scheduling.{decisions_at, sched_plan}
 use Rattle.ge_model_core.specs.Targets.{target_faults}
 use Rattle.ge_model_jobs.proofs.Orderly.{ArePicks}
 use Rattle.ge_model_grammar.specs.Options.{Given}
-use Rattle.ge_model_site.specs.Access.{is_operator}
-use Rattle.ge_model_value.specs.Faults.{when}
+use Rattle.ge_model_rows.specs.Access.{is_operator}
+use Rattle.ge_model_rows.specs.Faults.{when}
 use Rattle.ge_soundness.proofs.PlansAnswers.{EntryFits, entry_change}
 use Rattle.ge_soundness.proofs.PlansRuns.{run_is_numbered}
 

@@ -2,13 +2,13 @@
 use Rattle.std.proofs.Common.{◌≡◌, ℕ, ◌+◌, ◌-◌, ◌^◌, ◌≤◌, ◌<◌, ◌&&◌, Bool, true, false, if◌then◌else◌, min, nat_lt, nat_le, List, [], ◌∷◌, Option, Some, None, option_and_then, codes, refl, ap, ◌∙◌, arith}
 use Rattle.std.specs.Prelude.{IfSome}
 use Rattle.ge_model_rows.specs.TaskRows.{TaskSpan, is_form}
-use Rattle.ge_model_value.specs.Pieces.{before_byte, behind_byte, has_byte}
-use Rattle.ge_model_tasks.specs.Spans.{span_of, in_span, stretch}
-use Rattle.ge_model_tasks.specs.Sets.{has_number}
-use Rattle.ge_model_tasks.specs.Ranges.{range_from, digits_number, range_of_texts, range_up_to, range_of, range_set}
-use Rattle.ge_model_tasks.proofs.Steps.{raw}
-use Rattle.ge_model_tasks.proofs.Runs.{made_end}
-use Rattle.ge_model_tasks.proofs.Cuts.{stretched, stretch_numbers, floor}
+use Rattle.ge_model_rows.specs.Pieces.{before_byte, behind_byte, has_byte}
+use Rattle.ge_model_rows.specs.Spans.{span_of, in_span, stretch}
+use Rattle.ge_model_rows.specs.Sets.{has_number}
+use Rattle.ge_model_rows.specs.Ranges.{range_from, digits_number, range_of_texts, range_up_to, range_of, range_set}
+use Rattle.ge_model_rows.proofs.Steps.{raw}
+use Rattle.ge_model_rows.proofs.Runs.{made_end}
+use Rattle.ge_model_rows.proofs.Cuts.{stretched, stretch_numbers, floor}
 
 -- a range: its first number and its step are at least 1, and its last number isn't below the first
 pub record IsRange (range : TaskSpan) : Type 0 where

@@ -19,7 +19,7 @@ use Rattle.ge_model_core.specs.Showing.{show_plan, account_plan}
 use Rattle.ge_model_core.specs.Reports.{load_plan, end_plan, orders_plan, task_plan, stop_plan, host_faults, report_faults, serial_faults, end_faults}
 use Rattle.ge_model_report.specs.Orders.{orders_of, task_lines}
 use Rattle.ge_model_jobs.specs.Serials.{running_with}
-use Rattle.ge_model_value.specs.Faults.{when}
+use Rattle.ge_model_rows.specs.Faults.{when}
 use Rattle.ge_soundness.proofs.PlansAnswers.{EntryFits, entry_refused, entry_shown, entry_unless, entry_change, entry_if, entry_where}
 
 -- ---- qconf

@@ -7,10 +7,10 @@ use Rattle.ge_model_rows.specs.ClusterRows.{Cluster}
 use Rattle.ge_model_rows.specs.EntryRows.{Patch}
 use Rattle.ge_model_rows.specs.EventRows.{Event}
 use Rattle.ge_model_rows.specs.TaskRows.{TaskSpan}
-use Rattle.ge_model_tasks.specs.Spans.{in_span}
-use Rattle.ge_model_tasks.specs.Sets.{has_number}
-use Rattle.ge_model_tasks.specs.Ranges.{range_of, range_count, range_set}
-use Rattle.ge_model_tasks.proofs.Steps.{lies_back}
+use Rattle.ge_model_rows.specs.Spans.{in_span}
+use Rattle.ge_model_rows.specs.Sets.{has_number}
+use Rattle.ge_model_rows.specs.Ranges.{range_of, range_count, range_set}
+use Rattle.ge_model_rows.proofs.Steps.{lies_back}
 use Rattle.ge_model_jobs.specs.Orderly.{has_key, one_at_most}
 use Rattle.ge_model_grammar.specs.Options.{Given}
 use Rattle.ge_model_core.specs.OptionValues.{option_word}

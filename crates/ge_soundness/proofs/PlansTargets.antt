@@ -3,8 +3,8 @@ use Rattle.std.proofs.Common.{ℕ, Bool, true, false, if◌then◌else◌, List,
 use Rattle.std.specs.Prelude.{IfSome}
 use Rattle.ge_model_rows.specs.EntryRows.{Pick}
 use Rattle.ge_model_rows.specs.TaskRows.{TaskSpan}
-use Rattle.ge_model_value.specs.Pieces.{is_empty, before_byte, behind_byte, has_byte}
-use Rattle.ge_model_tasks.specs.Ranges.{range_of}
+use Rattle.ge_model_rows.specs.Pieces.{is_empty, before_byte, behind_byte, has_byte}
+use Rattle.ge_model_rows.specs.Ranges.{range_of}
 use Rattle.ge_model_jobs.proofs.Places.{IsPick}
 use Rattle.ge_model_jobs.proofs.Orderly.{ArePicks}
 use Rattle.ge_model_grammar.specs.Lines.{read_after, read_each}

@@ -7,11 +7,11 @@ use Rattle.ge_base.specs.declared.refusal.Refusal.{Refusal}
 use Rattle.ge_base.specs.declared.refusal.Refusal.TheVariants.{Cycle}
 use Rattle.ge_model_rows.specs.ClusterRows.{Cluster}
 use Rattle.ge_model_rows.specs.EventRows.{Event}
-use Rattle.ge_model_value.specs.Faults.{when, turn_of, after_faults, first_fault}
-use Rattle.ge_model_value.proofs.FaultLaws.{after_faults-append}
+use Rattle.ge_model_rows.specs.Faults.{when, turn_of, after_faults, first_fault}
+use Rattle.ge_model_rows.proofs.FaultLaws.{after_faults-append}
 use Rattle.ge_model_grammar.specs.Options.{Given, has_option}
 use Rattle.ge_model_core.specs.Refusals.{refused, unless_refused}
-use Rattle.ge_model_value.specs.Pieces.{each_number_once}
+use Rattle.ge_model_rows.specs.Pieces.{each_number_once}
 use Rattle.ge_model_core.specs.Altering.{alter_faults, patch_at, patches_of, closes_a_cycle, altered, alter_plan}
 use Rattle.ge_model_rows.specs.EntryRows.{Patch}
 use Rattle.ge_model_rows.specs.JobRows.{Request}

@@ -6,8 +6,8 @@ use Rattle.ge_base.specs.declared.refusal.Refusal.{Refusal}
 use Rattle.ge_base.specs.declared.refusal.Refusal.TheVariants.{Syntax, TooLong, TimeBack, NoSuchObject, NotPermitted, Exists, InUse, BadValue, NotRequestable, Cycle, Limit, StaleReport, NoMemory}
 use Rattle.ge_model_rows.specs.ClusterRows.{Cluster}
 use Rattle.ge_model_rows.specs.TaskRows.{TaskSpan}
-use Rattle.ge_model_value.specs.Faults.{when, earlier_fault, after_faults}
-use Rattle.ge_model_value.specs.Pieces.{pieces_at}
+use Rattle.ge_model_rows.specs.Faults.{when, earlier_fault, after_faults}
+use Rattle.ge_model_rows.specs.Pieces.{pieces_at}
 use Rattle.ge_model_grammar.specs.Options.{Given}
 use Rattle.ge_model_core.specs.OptionValues.{option_word}
 use Rattle.ge_model_core.specs.HoldLists.{predecessors, is_unknown_number, hold_faults, range_faults}

@@ -4,7 +4,7 @@ use Rattle.std.specs.Prelude.{map, filter, fold}
 use Rattle.ge_collections.specs.Keyed.{text_eq}
 use Rattle.ge_model_rows.specs.JobRows.{Job}
 use Rattle.ge_model_text.specs.Pattern.{pattern_covers}
-use Rattle.ge_model_value.specs.Pieces.{with_one_number}
+use Rattle.ge_model_rows.specs.Pieces.{with_one_number}
 use Rattle.ge_model_core.specs.HoldLists.{is_named_by, number_in}
 use Rattle.ge_submitting.specs.Holding.{jobs_of_owner, numbers_matching}
 

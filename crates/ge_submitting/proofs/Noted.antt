@@ -5,8 +5,8 @@ use Rattle.ge_base.specs.declared.refusal.Refusal.{Refusal}
 use Rattle.ge_model_rows.specs.ClusterRows.{Cluster}
 use Rattle.ge_model_rows.specs.EventRows.{Event}
 use Rattle.ge_model_rows.specs.TaskRows.{TaskSpan}
-use Rattle.ge_model_value.specs.Faults.{after_faults, first_fault}
-use Rattle.ge_model_value.proofs.FaultLaws.{after_faults-append}
+use Rattle.ge_model_rows.specs.Faults.{after_faults, first_fault}
+use Rattle.ge_model_rows.proofs.FaultLaws.{after_faults-append}
 use Rattle.ge_model_grammar.specs.Options.{Given}
 use Rattle.ge_model_config.specs.Requests.{request_of}
 use Rattle.ge_model_core.specs.Refusals.{refused, unless_refused}

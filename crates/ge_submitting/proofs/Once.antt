@@ -5,7 +5,7 @@ use Rattle.std.specs.BTreeMap.{is_at}
 use Rattle.std.specs.BTreeSet.{BTreeSet, contains}
 use Rattle.std.specs.Cmp.{unsigned_ties}
 use Rattle.std.specs.Ordering.{nat_cmp}
-use Rattle.ge_model_value.specs.Pieces.{lists_number, with_one_number}
+use Rattle.ge_model_rows.specs.Pieces.{lists_number, with_one_number}
 
 abbrev HasAll : BTreeSet ℕ → List ℕ → Type 0
 HasAll seen numbers = (q : ℕ) → contains nat_cmp seen q ≡ lists_number numbers q

@@ -4,7 +4,7 @@ use Rattle.ge_base.specs.declared.refusal.Refusal.{Refusal}
 use Rattle.ge_base.specs.declared.refusal.Refusal.TheVariants.{Cycle}
 use Rattle.ge_model_rows.specs.ClusterRows.{Cluster}
 use Rattle.ge_model_rows.specs.EventRows.{Event, Planned}
-use Rattle.ge_model_value.specs.Faults.{when, after_faults}
+use Rattle.ge_model_rows.specs.Faults.{when, after_faults}
 use Rattle.ge_model_grammar.specs.Options.{Given}
 use Rattle.ge_model_core.specs.Refusals.{unless_refused}
 use Rattle.ge_model_core.specs.Altering.{patches_of, closes_a_cycle, altered}

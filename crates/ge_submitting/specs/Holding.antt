@@ -13,7 +13,7 @@ use Rattle.ge_model_rows.specs.ClusterRows.{Cluster}
 use Rattle.ge_model_rows.specs.JobRows.{Job}
 use Rattle.ge_model_rows.specs.TaskRows.{TaskSpan}
 use Rattle.ge_model_text.specs.Pattern.{pattern_covers}
-use Rattle.ge_model_value.specs.Pieces.{pieces_at}
+use Rattle.ge_model_rows.specs.Pieces.{pieces_at}
 use Rattle.ge_model_grammar.specs.Options.{Given}
 use Rattle.ge_model_core.specs.OptionValues.{option_word}
 use Rattle.ge_model_core.specs.HoldLists.{predecessors, is_unknown_number, range_faults}

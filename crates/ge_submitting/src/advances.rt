@@ -3,9 +3,9 @@
 ghost use Rattle.std.specs.Prelude.{◌≡◌, ◌^◌, ◌-◌, min, codes};
 ghost use Rattle.std.specs.List.{list_any};
 ghost use Rattle.std.specs.Option.{option_copied};
-ghost use Rattle.ge_model_value.specs.Complexes as complexes;
-ghost use Rattle.ge_model_value.specs.Faults.{after_faults};
-ghost use Rattle.ge_model_value.specs.Pieces.{number_of};
+ghost use Rattle.ge_model_rows.specs.Complexes as complexes;
+ghost use Rattle.ge_model_rows.specs.Faults.{after_faults};
+ghost use Rattle.ge_model_rows.specs.Pieces.{number_of};
 ghost use Rattle.ge_model_grammar.specs.Targets.{job_number_of};
 ghost use Rattle.ge_model_config.specs.Requests.{request_of, no_request as nothing_asked};
 ghost use Rattle.ge_model_config.specs.Used as used;

@@ -2,7 +2,7 @@
 
 ghost use Rattle.std.specs.Prelude.{◌≡◌, ◌++◌, Bool, IfOk, OnOk, IfSome, Some, ◌||◌, codes, filter_map, flat_map, nat_lt, option_to_list};
 ghost use Rattle.ge_base.specs.declared.refusal.Refusal.TheVariants.{Cycle};
-ghost use Rattle.ge_model_value.specs.Faults.{when, after_faults, turn_of};
+ghost use Rattle.ge_model_rows.specs.Faults.{when, after_faults, turn_of};
 ghost use Rattle.ge_model_grammar.specs.Options.{has_option as has_given};
 ghost use Rattle.ge_model_core.specs.Refusals.{unless_refused};
 ghost use Rattle.ge_model_core.specs.JobOptions.{patch_of};

@@ -4,8 +4,8 @@ ghost use Rattle.std.specs.Prelude.{◌≡◌, ◌||◌, ◌==◌, not, true, fa
 ghost use Rattle.std.specs.List.{list_any};
 ghost use Rattle.std.specs.Option.{option_copied};
 ghost use Rattle.ge_collections.specs.Keyed.{text_eq, at_number};
-ghost use Rattle.ge_model_value.specs.Faults.{after_faults};
-ghost use Rattle.ge_model_value.specs.Pieces.{number_of, with_one_number};
+ghost use Rattle.ge_model_rows.specs.Faults.{after_faults};
+ghost use Rattle.ge_model_rows.specs.Pieces.{number_of, with_one_number};
 ghost use Rattle.ge_model_core.specs.HoldLists.{live_number, named_by, number_in, is_named_by, is_unknown_number, has_other_range, range_faults};
 ghost use Rattle.ge_options.specs.Shown.{range_shown};
 ghost use Rattle.ge_submitting.specs.Listing.{Knows};

@@ -2,7 +2,7 @@
 
 ghost use Rattle.std.specs.Prelude.{◌≡◌, ◌^◌, IfOk, OnOk, Some, if◌then◌else◌, None, codes, option_map};
 ghost use Rattle.std.specs.Option.{option_copied};
-ghost use Rattle.ge_model_value.specs.Faults.{after_faults};
+ghost use Rattle.ge_model_rows.specs.Faults.{after_faults};
 ghost use Rattle.ge_model_grammar.specs.Options.{option_words as words_of_option};
 ghost use Rattle.ge_model_config.specs.Requests.{request_of};
 ghost use Rattle.ge_model_core.specs.OptionValues.{option_word as word_given, number_given as given_number, integer_of};

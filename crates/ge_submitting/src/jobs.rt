@@ -1,7 +1,7 @@
 //! The job that a user submits, and the line that answers it (qsub).
 
 ghost use Rattle.std.specs.Prelude.{◌≡◌, ◌++◌, ◌∷◌, [], IfOk, OnOk, IsTrue, Some, None, if◌then◌else◌, unwrap_or, codes, decimal};
-ghost use Rattle.ge_model_tasks.specs.Ranges.{range_set};
+ghost use Rattle.ge_model_rows.specs.Ranges.{range_set};
 ghost use Rattle.ge_model_grammar.specs.Options.{has_option as option_is_there};
 ghost use Rattle.ge_model_config.specs.Requests as requests;
 ghost use Rattle.ge_model_core.specs.JobOptions as job_options;

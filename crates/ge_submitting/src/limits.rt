@@ -1,7 +1,7 @@
 //! What refuses a submission for its size (qsub).
 
 ghost use Rattle.std.specs.Prelude.{◌≡◌, ◌+◌, nat_lt, length, sum_by};
-ghost use Rattle.ge_model_value.specs.Faults.{after_faults};
+ghost use Rattle.ge_model_rows.specs.Faults.{after_faults};
 ghost use Rattle.ge_model_core.specs.Submitting as submitting;
 ghost use Rattle.ge_options.specs.Shown.{range_shown};
 

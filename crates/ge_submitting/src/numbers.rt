@@ -1,7 +1,7 @@
 //! Numbers listed once each, in the order in which they come.
 
 ghost use Rattle.std.specs.Prelude.{◌≡◌, [], IfOk, OnOk, fold};
-ghost use Rattle.ge_model_value.specs.Pieces.{with_one_number, each_number_once};
+ghost use Rattle.ge_model_rows.specs.Pieces.{with_one_number, each_number_once};
 ghost use Rattle.ge_submitting.specs.Listing.{Knows};
 
 use ge_rows::List;

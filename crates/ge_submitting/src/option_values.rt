@@ -2,8 +2,8 @@
 
 ghost use Rattle.std.specs.Prelude.{◌≡◌, ◌-◌, IfOk, IfSome};
 ghost use Rattle.std.specs.Option.{option_copied, option_map};
-ghost use Rattle.ge_model_value.specs.Faults.{after_faults};
-ghost use Rattle.ge_model_value.specs.Pieces.{number_of};
+ghost use Rattle.ge_model_rows.specs.Faults.{after_faults};
+ghost use Rattle.ge_model_rows.specs.Pieces.{number_of};
 ghost use Rattle.ge_model_core.specs.OptionValues as values;
 ghost use Rattle.ge_model_core.specs.JobOptions.{faults_in, width_faults, moment_faults, deadline_faults};
 

@@ -2,7 +2,7 @@
 
 ghost use Rattle.std.specs.Prelude.{◌≡◌, ◌≤◌, ◌-◌, ◌*◌, ◌/◌, IfOk, IfSome, IsTrue, codes};
 ghost use Rattle.std.specs.Option.{option_map, option_and_then};
-ghost use Rattle.ge_model_tasks.specs.Ranges.{range_of, reached as reached_of, range_set};
+ghost use Rattle.ge_model_rows.specs.Ranges.{range_of, reached as reached_of, range_set};
 ghost use Rattle.ge_model_core.specs.OptionValues.{option_word as word_given};
 ghost use Rattle.ge_model_core.specs.Submitting.{one_task as one_task_of, submitted_tasks, is_wide as is_wide_span};
 ghost use Rattle.ge_options.specs.Real.{is_real};

@@ -1,7 +1,7 @@
 //! The plan of qsub.
 
 ghost use Rattle.std.specs.Prelude.{◌≡◌, ◌++◌, Some, IfOk, IsTrue, codes, option_map};
-ghost use Rattle.ge_model_value.specs.Faults.{after_faults};
+ghost use Rattle.ge_model_rows.specs.Faults.{after_faults};
 ghost use Rattle.ge_model_config.specs.Requests.{request_of, no_request as nothing_asked};
 ghost use Rattle.ge_model_core.specs.JobOptions.{option_faults};
 ghost use Rattle.ge_model_core.specs.JobAdvances.{join_faults};

@@ -9,7 +9,7 @@ use ge_model_text::Span;
 use std::alloc::{AllocError, AllocFailed};
 
 /// Why a line has no words.
-#[derive(Clone, Copy, Debug, PartialEq, Eq)]
+#[derive(Clone, Copy, PartialEq, Eq)]
 pub enum TextFault {
     /// A word begins with a quote, and the next same quote is missing or no blank and no end follows it.
     /// It holds the place, from 0, of the first such quote that begins a word.

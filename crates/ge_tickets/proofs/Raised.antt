@@ -16,7 +16,7 @@ use Rattle.std.proofs.lemmas.List.{take_more}
 use Rattle.std.proofs.lemmas.List.Elements.{filter_map-append}
 use Rattle.std.proofs.lemmas.List.Sums.{sum_by-append}
 use Rattle.ge_collections.specs.Keyed.{text_eq, text_cmp, at_text, put_text}
-use Rattle.ge_model_value.specs.Pieces.{is_empty}
+use Rattle.ge_model_rows.specs.Pieces.{is_empty}
 use Rattle.ge_tickets.specs.Counted.{count_at, is_named}
 
 equal : (o : Ordering) → is_eq o ≡ true → o ≡ Equal

@@ -4,7 +4,7 @@ use Rattle.ge_base.specs.Fixed.{cut_sum, cut_product}
 use Rattle.ge_collections.specs.Keyed.{at_text, at_number, text_eq}
 use Rattle.ge_model_rows.specs.ClusterRows.{Cluster}
 use Rattle.ge_model_rows.specs.JobRows.{Job}
-use Rattle.ge_model_value.specs.Pieces.{is_empty}
+use Rattle.ge_model_rows.specs.Pieces.{is_empty}
 use Rattle.ge_model_order.specs.Amounts.{cut_total, cut_at_64, portion, equal_part}
 use Rattle.ge_model_order.specs.Tickets.{user_of, project_of, weighted, is_owned_by, is_in_project}
 use Rattle.ge_tickets.specs.declared.counting.Counts.{Counts}

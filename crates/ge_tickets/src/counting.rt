@@ -3,7 +3,7 @@
 ghost use Rattle.std.specs.Prelude.{◌≡◌, ◌+◌, [], ◌∷◌, ℕ, cond, IfOk, OnOk, List as Items};
 ghost use Rattle.std.specs.List.{count_by};
 ghost use Rattle.ge_collections.specs.Keyed.{text_eq};
-ghost use Rattle.ge_model_value.specs.Pieces.{is_empty};
+ghost use Rattle.ge_model_rows.specs.Pieces.{is_empty};
 ghost use Rattle.ge_model_order.specs.Tickets.{is_owned_by, is_in_project, jobs_of};
 ghost use Rattle.ge_tickets.specs.Counted.{count_at, is_named, AreCounts};
 

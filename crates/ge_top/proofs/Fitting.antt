@@ -14,8 +14,8 @@ use Rattle.ge_model_disk.specs.Disk.{Content, read_bytes}
 use Rattle.ge_model_journal.specs.Journal.{State, picked}
 use Rattle.ge_spool.specs.declared.spool.Spool.{Spool}
 use Rattle.ge_spool.proofs.Places.{end-found}
-use Rattle.ge_master.specs.Storing.{record_end, IsStored}
-use Rattle.ge_master.specs.Handling.{traced_size, traced_end, traced_compacts, HadRoom, KeepsTrace}
+use Rattle.ge_serve.specs.Storing.{record_end, IsStored}
+use Rattle.ge_serve.specs.Handling.{traced_size, traced_end, traced_compacts, HadRoom, KeepsTrace}
 use Rattle.ge_top.specs.Ledgers.{ledger_of}
 use Rattle.ge_top.proofs.TracedBatches.{traced-alone}
 

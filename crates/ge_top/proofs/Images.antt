@@ -3,9 +3,9 @@ use Rattle.std.proofs.Common.{ℕ, ◌≤◌, List, [], ◌∷◌, length, inl, 
 use Rattle.ge_model_disk.specs.Disk.{Content, IsImageNow, IsImageSince}
 use Rattle.ge_model_replay.specs.Runs.{EachStandsFor}
 use Rattle.ge_spool.proofs.Settling.{still-moments}
-use Rattle.ge_master.specs.Areas.{Areas}
-use Rattle.ge_master.specs.Homes.{Parts, IsHome}
-use Rattle.ge_master.proofs.Standing.{stands-for}
+use Rattle.ge_serve.specs.Areas.{Areas}
+use Rattle.ge_serve.specs.Homes.{Parts, IsHome}
+use Rattle.ge_serve.proofs.Standing.{stands-for}
 
 -- what a stop may leave now is what it may have left since some moment before
 pub now-since : (told : List Content) (start : ℕ) (image : List ℕ) → start ≤ length told → IsImageNow told image → IsImageSince start told image

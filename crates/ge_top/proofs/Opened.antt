@@ -13,7 +13,7 @@ use Rattle.ge_model_replay.specs.Runs.{EachStandsFor, Syncs, RanTo, RanCut, RanA
 use Rattle.ge_model_replay.specs.Replaying.{HasCauses, Replays, opened_view}
 use Rattle.ge_spool.specs.Moments.{IsQuiet}
 use Rattle.ge_spool.specs.Opening.{Tells}
-use Rattle.ge_master.specs.Areas.{Areas}
+use Rattle.ge_serve.specs.Areas.{Areas}
 use Rattle.ge_top.proofs.Fitting.{nothing-fits}
 use Rattle.ge_top.proofs.Told.{no_some, same_some, on-some}
 use Rattle.ge_top.proofs.Held.{Gains-nothing}

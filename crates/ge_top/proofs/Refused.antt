@@ -11,7 +11,7 @@ use Rattle.ge_model_store.specs.StandsFor.{held, or_bad, or_frame, stands_for}
 use Rattle.ge_model_store.specs.declared.Wrong.{Wrong}
 use Rattle.ge_model_replay.specs.View.{View, IsKept, AreKept, both_bytes}
 use Rattle.ge_spool.specs.declared.faults.OpenFault.TheVariants as fault
-use Rattle.ge_master.specs.OpeningMasters.{OpensMaster}
+use Rattle.ge_serve.specs.OpeningMasters.{OpensMaster}
 use Rattle.ge_top.proofs.Opened.{areas_in, if_said}
 
 -- nothing stands for the cluster before the first command

@@ -11,8 +11,8 @@ use Rattle.ge_model_replay.specs.View.{View, DiskRose}
 use Rattle.ge_model_replay.specs.Keeping.{Ledger}
 use Rattle.ge_model_replay.specs.Runs.{EachStandsFor, RanTo, RanCut, RanAll, RanFull}
 use Rattle.ge_model_replay.specs.Replaying.{EndsOrStops, Replays}
-use Rattle.ge_master.specs.declared.faults.Stop.{Stop}
-use Rattle.ge_master.specs.declared.faults.Stop.TheVariants as stop
+use Rattle.ge_serve.specs.Stop.{Stop}
+use Rattle.ge_serve.specs.Stop.TheVariants as stop
 use Rattle.ge_top.specs.Ends.{StopsAs, OnFull, Blames}
 use Rattle.ge_top.specs.declared.replaying.ReplayFault.TheVariants.{Stopped}
 use Rattle.ge_top.proofs.Opened.{none-begun}

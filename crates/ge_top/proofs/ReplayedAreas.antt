@@ -15,10 +15,10 @@ use Rattle.ge_model_replay.specs.Replaying.{IsReplayStatus, Replays, ReplaysArea
 use Rattle.ge_spool.specs.Opening.{Tells}
 use Rattle.ge_spool.specs.declared.faults.OpenFault.{OpenFault}
 use Rattle.ge_spool.specs.declared.faults.OpenFault.TheVariants as fault
-use Rattle.ge_master.specs.Homes.{IsHome}
-use Rattle.ge_master.specs.Masters.{cluster_of, spool_of, parts_of}
-use Rattle.ge_master.specs.OpeningMasters.{OpensMaster}
-use Rattle.ge_master.specs.declared.master.Master.{Master}
+use Rattle.ge_serve.specs.Homes.{IsHome}
+use Rattle.ge_serve.specs.Masters.{cluster_of, spool_of, parts_of}
+use Rattle.ge_serve.specs.OpeningMasters.{OpensMaster}
+use Rattle.ge_serve.specs.Master.{Master}
 use Rattle.ge_top.specs.Ends.{OpensNoneAs}
 use Rattle.ge_top.specs.Ledgers.{ledger_of}
 use Rattle.ge_top.proofs.Fitting.{ledger-settled}

@@ -14,7 +14,7 @@ use Rattle.ge_model_batch.specs.Traced.{Traced, onto, ends_at, traced}
 use Rattle.ge_model_store.specs.StandsFor.{stands_for, StandsForOneOf}
 use Rattle.ge_model_replay.specs.Runs.{written_of, EachStandsFor, EachStandsForOneOf, IsTooLong, Syncs, RanTo, RanCut, RanAll, RanFull}
 use Rattle.ge_model_replay.specs.Keeping.{Ledger, FitsBatch, IsNextLedger, BatchesFit}
-use Rattle.ge_master.proofs.Staged.{onto-onto, onto-end}
+use Rattle.ge_serve.proofs.Staged.{onto-onto, onto-end}
 use Rattle.ge_top.proofs.Fitting.{nothing-fits, last-fits, full-fits}
 use Rattle.ge_top.proofs.Held.{Gains-nothing}
 use Rattle.ge_top.proofs.TracedBatches.{traced-batch, traced-alone}

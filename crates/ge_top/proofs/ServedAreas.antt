@@ -22,11 +22,11 @@ use Rattle.ge_spool.specs.Opening.{Tells}
 use Rattle.ge_spool.specs.Settled.{generation_of}
 use Rattle.ge_spool.specs.declared.faults.OpenFault.{OpenFault}
 use Rattle.ge_spool.specs.declared.faults.OpenFault.TheVariants as fault
-use Rattle.ge_master.specs.Areas.{Areas, HasFailed}
-use Rattle.ge_master.specs.Homes.{Parts, IsHome}
-use Rattle.ge_master.specs.Masters.{cluster_of, spool_of, parts_of}
-use Rattle.ge_master.specs.OpeningMasters.{OpensMaster}
-use Rattle.ge_master.specs.declared.master.Master.{Master}
+use Rattle.ge_serve.specs.Areas.{Areas, HasFailed}
+use Rattle.ge_serve.specs.Homes.{Parts, IsHome}
+use Rattle.ge_serve.specs.Masters.{cluster_of, spool_of, parts_of}
+use Rattle.ge_serve.specs.OpeningMasters.{OpensMaster}
+use Rattle.ge_serve.specs.Master.{Master}
 use Rattle.ge_serve.proofs.Kept.{failed-since}
 use Rattle.ge_serve.specs.Leaving.{IsTooLongFrom}
 use Rattle.ge_serve.specs.Serves.{LeavesWith, IsServeStatus, Serves}

@@ -15,9 +15,9 @@ use Rattle.ge_spool.specs.Opening.{Tells}
 use Rattle.ge_spool.specs.Settled.{generation_of, record_count}
 use Rattle.ge_spool.specs.declared.faults.OpenFault.{OpenFault}
 use Rattle.ge_spool.specs.declared.faults.OpenFault.TheVariants as fault
-use Rattle.ge_master.specs.Masters.{cluster_of, spool_of}
-use Rattle.ge_master.specs.OpeningMasters.{OpensMaster}
-use Rattle.ge_master.specs.declared.master.Master.{Master}
+use Rattle.ge_serve.specs.Masters.{cluster_of, spool_of}
+use Rattle.ge_serve.specs.OpeningMasters.{OpensMaster}
+use Rattle.ge_serve.specs.Master.{Master}
 use Rattle.ge_top.specs.Ends.{OpensNoneAs}
 use Rattle.ge_top.specs.Shows.{Shows}
 use Rattle.ge_top.proofs.Opened.{areas_in, said, if_said, still-quiet}

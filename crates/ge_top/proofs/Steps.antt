@@ -4,8 +4,8 @@ use Rattle.std.specs.Prelude.{◌||◌, ◌↔◌}
 use Rattle.ge_model_batch.specs.Traced.{Traced}
 use Rattle.ge_spool.specs.Settled.{generation_of}
 use Rattle.ge_spool.specs.declared.spool.Spool.{Spool}
-use Rattle.ge_master.specs.Storing.{IsStored, stored_syncs}
-use Rattle.ge_master.specs.Handling.{KeepsTrace}
+use Rattle.ge_serve.specs.Storing.{IsStored, stored_syncs}
+use Rattle.ge_serve.specs.Handling.{KeepsTrace}
 
 -- whether a batch stops the master, from what the master tells before and after it
 pub stops-as : (before after stops : Bool) → before ≡ false → after ≡ (before || stops) → stops ≡ after

@@ -8,10 +8,10 @@ use Rattle.ge_model_store.specs.StandsFor.{cluster_bytes}
 use Rattle.ge_model_replay.specs.Runs.{IsTooLong}
 use Rattle.ge_spool.specs.Settled.{generation_of}
 use Rattle.ge_spool.specs.declared.spool.Spool.{Spool}
-use Rattle.ge_master.specs.Storing.{last_generation, record_end, OnUnwritten}
-use Rattle.ge_master.specs.Handling.{traced_size, HadNoRoom, RepliesAs}
-use Rattle.ge_master.specs.declared.faults.Stop.{Stop}
-use Rattle.ge_master.specs.declared.faults.Stop.TheVariants as stop
+use Rattle.ge_serve.specs.Storing.{last_generation, record_end, OnUnwritten}
+use Rattle.ge_serve.specs.Handling.{traced_size, HadNoRoom, RepliesAs}
+use Rattle.ge_serve.specs.Stop.{Stop}
+use Rattle.ge_serve.specs.Stop.TheVariants as stop
 use Rattle.ge_top.specs.Ends.{OnFull}
 use Rattle.ge_top.specs.declared.replaying.ReplayFault.TheVariants.{Stopped}
 

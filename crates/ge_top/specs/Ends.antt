@@ -2,8 +2,8 @@
 use Rattle.std.specs.Prelude.{◌≡◌, ℕ, Result, Ok, Err}
 use Rattle.ge_spool.specs.declared.faults.OpenFault.{OpenFault}
 use Rattle.ge_spool.specs.declared.faults.OpenFault.TheVariants as fault
-use Rattle.ge_master.specs.declared.faults.Stop.{Stop}
-use Rattle.ge_master.specs.declared.faults.Stop.TheVariants as stop
+use Rattle.ge_serve.specs.Stop.{Stop}
+use Rattle.ge_serve.specs.Stop.TheVariants as stop
 use Rattle.ge_top.specs.declared.replaying.ReplayFault.{ReplayFault}
 use Rattle.ge_top.specs.declared.replaying.ReplayFault.TheVariants.{Stopped, Read, Long, Write, Memory}
 

@@ -15,8 +15,8 @@ use Rattle.ge_model_wire.specs.Frames.{frames_of}
 use Rattle.ge_model_serve.specs.Answered.{FrameMarks, answered}
 use Rattle.ge_model_serve.specs.Served.{frames_in, Served}
 use Rattle.ge_model_serve.specs.Doors.{OnDoor, ServedTo}
-use Rattle.ge_master.specs.Areas.{Areas, HasFailed}
-use Rattle.ge_master.specs.Storing.{last_generation}
+use Rattle.ge_serve.specs.Areas.{Areas, HasFailed}
+use Rattle.ge_serve.specs.Storing.{last_generation}
 use Rattle.ge_serve.specs.Serves.{LeavesWith, IsServeStatus}
 
 -- the areas where opening has synced them, six times at most

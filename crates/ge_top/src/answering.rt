@@ -16,10 +16,10 @@ ghost use Rattle.ge_top.specs.Holding.{HasGained, KeepsHeld};
 
 use crate::changing::follow;
 use crate::holding::{hold, write_held};
-use ge_core::{plan, render};
 use ge_outside::{Failed, Sink, Source};
 use ge_rows::{Cluster, Event, Text, opening};
 use ge_script::{Script, ScriptFault};
+use ge_serve::{plan, render};
 use std::alloc::{AllocError, Global};
 use std::mem::forget;
 
@@ -40,7 +40,7 @@ pub(crate) struct Answer {
 }
 
 /// Why not all events were answered.
-#[derive(Clone, Copy, Debug, PartialEq, Eq)]
+#[derive(Clone, Copy, PartialEq, Eq)]
 pub(crate) enum AnswerFault {
     /// A read failed.
     Read,

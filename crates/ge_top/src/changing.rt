@@ -2,8 +2,8 @@
 ghost use Rattle.std.specs.Prelude.{◌≡◌, OnOk};
 ghost use Rattle.ge_model_core.specs.Trace.{after_entries};
 
-use ge_core::apply;
 use ge_rows::{Cluster, Entry, Planned};
+use ge_serve::apply;
 use std::alloc::{AllocError, Global};
 
 fn change(alloc: Global, cluster: &mut Cluster, entry: Option<Entry>) -> Result<(), AllocError>

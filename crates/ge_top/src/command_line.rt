@@ -3,17 +3,12 @@ ghost use Rattle.std.specs.Prelude.{◌≡◌, ◌≢◌, ◌↔◌, map, string
 ghost use Rattle.std.specs.IoError.{error_kind};
 ghost use Rattle.ge_model_top.specs.Words.{word_of};
 
+use crate::statuses::{NO_MEMORY, USAGE};
+use crate::top::gridmaster;
 use ge_outside::{Clock, Disk, Door, Sink, Source};
-use ge_top::gridmaster;
 use std::alloc::Global;
 use std::io;
 use std::io::ErrorKind;
-
-/// The status of a command line that can't be read.
-const USAGE: u8 = 2;
-
-/// The status of a run that found no memory.
-pub(crate) const NO_MEMORY: u8 = 10;
 
 /// The status of the program with the words that were read: that of the top call. Words that could not
 /// be read are a faulty command line, status 2, unless memory was wanted, status 10; then nothing of

@@ -3,15 +3,14 @@ ghost use Rattle.std.specs.Prelude.{◌<◌};
 ghost use Rattle.ge_model_replay.specs.View.{view_of};
 ghost use Rattle.ge_model_replay.specs.Replaying.{ReplaysAreas};
 ghost use Rattle.ge_model_replay.specs.Showing.{ShowsAreas};
-ghost use Rattle.ge_master.specs.Areas.{areas_of};
+ghost use Rattle.ge_serve.specs.Areas.{areas_of};
 ghost use Rattle.ge_top.specs.ServingAreas.{ServesAreas};
 
 use crate::replaying::replay;
 use crate::showing::show;
 use crate::statuses::status_of_fault;
-use ge_master::Master;
 use ge_outside::{Clock, Disk, Door, Sink, Source};
-use ge_serve::serve;
+use ge_serve::{Master, serve};
 use std::alloc::Global;
 
 /// Opens the two areas and replays a script over them.

@@ -9,9 +9,9 @@ ghost use Rattle.ge_model_top.specs.Simulating.{IfRead};
 ghost use Rattle.ge_model_replay.specs.Runs.{RanTo, RanCut, RanAll, RanFull};
 ghost use Rattle.ge_model_replay.specs.View.{view_of};
 ghost use Rattle.ge_model_replay.specs.Replaying.{Replays};
-ghost use Rattle.ge_master.specs.Areas.{HasFailed, areas_of};
-ghost use Rattle.ge_master.specs.Homes.{IsHome};
-ghost use Rattle.ge_master.specs.Masters.{HasLength, cluster_of, spool_of, parts_of, is_gone, is_stopping};
+ghost use Rattle.ge_serve.specs.Areas.{HasFailed, areas_of};
+ghost use Rattle.ge_serve.specs.Homes.{IsHome};
+ghost use Rattle.ge_serve.specs.Masters.{HasLength, cluster_of, spool_of, parts_of, is_gone, is_stopping};
 ghost use Rattle.ge_spool.specs.Settled.{generation_of};
 ghost use Rattle.ge_top.specs.Ledgers.{ledger_of};
 ghost use Rattle.ge_top.specs.Ends.{OnWritten, OnCut, OnFull, OnLong, OnBelow, Blames};
@@ -20,13 +20,13 @@ use crate::batches::next_batch;
 use crate::replies::write_replies;
 use crate::statuses::{DONE, LONG, NO_MEMORY, READ_FAULT, WRITE_FAULT, status_of_stop};
 use crate::writing::WriteFault;
-use ge_master::{Master, Stop};
 use ge_outside::{Disk, Sink, Source};
 use ge_script::{Script, ScriptFault};
+use ge_serve::{Master, Stop};
 use std::alloc::Global;
 
 /// Why not all events were answered.
-#[derive(Debug, Drop)]
+#[derive(Drop)]
 pub(crate) enum ReplayFault {
     /// The master stopped.
     Stopped(Stop),

@@ -5,9 +5,9 @@ ghost use Rattle.ge_outside.specs.Faults.{Rose};
 ghost use Rattle.ge_outside.specs.Streams.{Gains, GainsPrefix};
 
 use crate::writing::WriteFault;
-use ge_core::render;
 use ge_outside::{Sink, write_all};
 use ge_rows::{List, Reply, Text};
+use ge_serve::render;
 use std::alloc::{AllocError, Global};
 
 fn render_next(alloc: Global, text: &mut Text, reply: &Reply) -> Result<(), AllocError>

@@ -1,14 +1,14 @@
 // What the areas hold, in one line.
 ghost use Rattle.std.specs.Prelude.{◌≡◌, ◌++◌, ◌∷◌, [], codes, decimal, length, IfOk};
 ghost use Rattle.ge_model_replay.specs.Showing.{status_line};
-ghost use Rattle.ge_master.specs.Masters.{cluster_of, spool_of};
+ghost use Rattle.ge_serve.specs.Masters.{cluster_of, spool_of};
 ghost use Rattle.ge_spool.specs.Settled.{generation_of, record_count};
 ghost use Rattle.ge_top.specs.Shows.{Shows};
 
 use crate::statuses::{DONE, NO_MEMORY, WRITE_FAULT};
-use ge_master::Master;
 use ge_outside::{Sink, write_all};
 use ge_rows::Text;
+use ge_serve::Master;
 use std::alloc::{AllocError, Global};
 
 #[tactic(auto, unfolding(ge_model_replay::specs::Showing::status_line))]

@@ -1,7 +1,7 @@
 // The statuses that a run ends with.
 ghost use Rattle.ge_top.specs.Ends.{StopsAs, OpensNoneAs};
 
-use ge_master::Stop;
+use ge_serve::Stop;
 use ge_spool::OpenFault;
 
 /// All was done.
@@ -27,6 +27,9 @@ pub(crate) const WRITE_FAULT: u8 = 7;
 
 /// An area failed.
 pub(crate) const DISK_FAULT: u8 = 8;
+
+/// The standard streams could not be held.
+pub(crate) const NO_STREAMS: u8 = 8;
 
 /// There is no memory.
 pub(crate) const NO_MEMORY: u8 = 10;

@@ -5,7 +5,7 @@ ghost use Rattle.ge_model_replay.specs.View.{view_of};
 ghost use Rattle.ge_model_replay.specs.Replaying.{ReplaysAreas};
 ghost use Rattle.ge_model_replay.specs.Faultless.{AreFaultless, AreSound};
 ghost use Rattle.ge_model_replay.specs.Showing.{ShowsAreas};
-ghost use Rattle.ge_master.specs.Areas.{areas_of};
+ghost use Rattle.ge_serve.specs.Areas.{areas_of};
 ghost use Rattle.ge_model_top.specs.Words.{word_of};
 ghost use Rattle.ge_top.specs.ServingAreas.{ServesAreas, AreServable};
 ghost use Rattle.ge_model_top.specs.Simulating.{Simulates, AreFaultlessStreams};

@@ -11,11 +11,11 @@ use crate::changing::follow;
 use crate::statuses::{DONE, NO_MEMORY, WRITE_FAULT};
 use crate::tallying::Tally;
 use crate::writing::WriteFault;
-use ge_core::plan;
 use ge_generator::Generator;
 use ge_outside::{Sink, write_all};
 use ge_rows::{Cluster, Event, opening};
 use ge_script::read_event;
+use ge_serve::plan;
 use std::alloc::{AllocError, Global};
 
 /// The code of the reply to an event that found no memory.

@@ -5,7 +5,7 @@ use ge_outside::Failed;
 use std::alloc::AllocError;
 
 /// Why not all was written.
-#[derive(Clone, Copy, Debug, PartialEq, Eq)]
+#[derive(Clone, Copy, PartialEq, Eq)]
 pub(crate) enum WriteFault {
     /// A write failed.
     Write,

@@ -1,8 +1,9 @@
 //! The program's words and its status.
 
+use ge_edge::read_words;
 use ge_outside::{MemClock, MemDisk, MemDoor, MemSink, MemSource};
 use ge_pieces::{before, behind, slices_at};
-use ge_program::{read_words, status_of};
+use ge_top::status_of;
 use std::alloc::{AllocError, Global};
 use std::env::{Env, FillError};
 use std::io;

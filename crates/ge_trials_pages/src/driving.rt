@@ -1,9 +1,15 @@
-//! A faulty line, then a server, and two questions to it.
+//! A faulty line, then a server, two questions to it and a run beside it; then the adapters, closed streams, and what the program
+//! says of itself.
+use crate::closing::{tell_closed, tell_end};
 use crate::ports::{is_free, port_at};
-use crate::starting::{FAULTY, Place, answer, end_of_faulty, own_program, start_server};
+use crate::sockets::tell_adapters;
+use crate::starting::{Place, answer, end_of, own_program, start_server};
 use std::io::{ErrorKind, Print};
 use std::process::{Child, Output};
 use std::{fs, io, process};
+
+/// A word that is no command.
+const FAULTY: &str = "simulat";
 
 /// How many ports are tried.
 const PORTS: u32 = 20;
@@ -63,15 +69,17 @@ fn tell(rt: &HostRuntime, question: &str, output: &Output) -> io::Result<()> {
     }
 }
 
-// Asks the server twice, and tells whether it was there.
-fn converse(rt: &HostRuntime, place: &Place<'_>, server: &mut Child) -> io::Result<bool> {
+// Asks the server twice, and tells of it. It gives how `status` ended over the same files in between; none where the server
+// wasn't there.
+fn converse(rt: &HostRuntime, place: &Place<'_>, server: &mut Child) -> io::Result<Option<Output>> {
     let Some(output) = first_answer(rt, place, server, "qsub -N one x")? else {
-        return Ok(false);
+        return Ok(None);
     };
     tell(rt, "qsub -N one x", &output)?;
+    let beside = end_of(rt, place.program, place.folder, "status")?;
     let output = answer(rt, place, "qstat")?;
     tell(rt, "qstat", &output)?;
-    Ok(true)
+    Ok(Some(beside))
 }
 
 // Serves two questions at a place, and tells whether that could be done there.
@@ -83,11 +91,12 @@ fn serve_at(rt: &HostRuntime, place: &Place<'_>) -> io::Result<bool> {
         let _ = server.kill();
     }
     let status = server.wait()?;
-    let was_there = conversed?;
-    if was_there {
-        println!(rt; "serve: {status}")?;
-    }
-    Ok(was_there)
+    let Some(beside) = conversed? else {
+        return Ok(false);
+    };
+    println!(rt; "serve: {status}")?;
+    tell_end(rt, "status beside it", &beside)?;
+    Ok(true)
 }
 
 // Serves two questions at a port, unless another listens there, and tells whether that could be done.
@@ -105,29 +114,46 @@ fn serve_at_port(rt: &HostRuntime, program: &str, folder: &str, port: u16) -> io
 }
 
 // Tells how the program ends with a word that is no command: its status is not to be lost.
-fn tell_faulty(rt: &HostRuntime, program: &str) -> io::Result<()> {
-    let status = end_of_faulty(rt, program)?.status;
+fn tell_faulty(rt: &HostRuntime, program: &str, folder: &str) -> io::Result<()> {
+    let status = end_of(rt, program, folder, FAULTY)?.status;
     println!(rt; "{FAULTY}: {status}")
 }
 
 // Serves two questions at the first port where that can be done.
-fn serve(rt: &HostRuntime, process: u32, folder: &str) -> io::Result<()> {
-    let program = own_program(rt)?;
-    tell_faulty(rt, program.as_str())?;
+fn serve(rt: &HostRuntime, process: u32, program: &str, folder: &str) -> io::Result<()> {
     for turn in 0..PORTS {
-        if serve_at_port(rt, program.as_str(), folder, port_at(process, turn))? {
+        if serve_at_port(rt, program, folder, port_at(process, turn))? {
             return Ok(());
         }
     }
     Err(io::Error::from(ErrorKind::AddrInUse))
 }
 
-/// Serves two questions in a folder that is made for it and taken away, and tells what is seen of it.
+// Tells what the program says of itself.
+fn tell_about(rt: &HostRuntime, program: &str, folder: &str) -> io::Result<()> {
+    for word in ["--help", "--version"] {
+        let output = end_of(rt, program, folder, word)?;
+        tell(rt, word, &output)?;
+    }
+    Ok(())
+}
+
+fn drive_in(rt: &HostRuntime, process: u32, folder: &str) -> io::Result<()> {
+    let program = own_program(rt)?;
+    let program = program.as_str();
+    tell_faulty(rt, program, folder)?;
+    serve(rt, process, program, folder)?;
+    tell_adapters(rt, folder)?;
+    tell_closed(rt, program, folder)?;
+    tell_about(rt, program, folder)
+}
+
+/// Drives the program in a folder that is made for it and taken away, and tells what is seen of it.
 pub(crate) fn drive(rt: &HostRuntime) -> io::Result<()> {
     let process = process::id(rt.process());
     let folder = format!(in rt.alloc(); "served-{process}")?;
     fs::create_dir(rt, folder.as_str())?;
-    let served = serve(rt, process, folder.as_str());
+    let driven = drive_in(rt, process, folder.as_str());
     fs::remove_dir_all(rt, folder.as_str())?;
-    served
+    driven
 }

@@ -1,10 +1,10 @@
 //! Runs over areas that go on from what the page before left.
 
-use crate::areas::{Areas, Given, area, bytes_of, push_area};
-use crate::making::made;
+use crate::areas::{Areas, Given, push_area};
 use crate::running::{run, shown};
 use ge_outside::MemSource;
 use ge_pieces::{before, behind, behind_word, digits_worth, first_word, is_word};
+use ge_trials_rows::{area, bytes_of, made};
 use std::alloc::Global;
 use std::io;
 

@@ -4,9 +4,9 @@
 //! stored line is that program's; else it is what that program answers to a shorter script of the same kind, with the
 //! numbers of the longer one.
 
-use crate::making::made;
 use crate::running::simulated;
 use ge_outside::PlainSource;
+use ge_trials_rows::{checksum, made};
 use std::alloc::{AllocError, Global};
 
 fn is_feed(byte: &u8) -> bool {
@@ -22,15 +22,6 @@ fn last_line(output: &[u8]) -> &[u8] {
         }
     }
     line.get(..80).unwrap_or(line)
-}
-
-// The checksum of Fowler, Noll and Vo, of 64 bits, in the order that xors first.
-fn checksum(bytes: &[u8]) -> u64 {
-    let mut sum: u64 = 14_695_981_039_346_656_037;
-    for byte in bytes {
-        sum = (sum ^ u64::from(*byte)).wrapping_mul(1_099_511_628_211);
-    }
-    sum
 }
 
 /// A page `large`, which is the lines of a script that is made. Its line is its name, the size of its script, the status, the size and the checksum of what is answered, and the front

@@ -6,18 +6,20 @@
 //! reading of the rules.
 //!
 //! Behind the pages come processes: the program starts itself with a word that is no command, then as a server of two
-//! connections and twice as a client, and writes what the clients wrote and how each of the four ended. With `ask` and the words
-//! of `gq` it does what `gq` does, and with any other words what `gridmaster` does with them.
+//! connections, twice as a client and once over the server's files, and writes what the clients wrote and how each of the five
+//! ended. Then it tells what is seen of the adapters of connections, files and the clock, starts itself with standard streams that
+//! are closed, and asks itself what it is. With `ask` and the words of `gq` it does what `gq` does, and with any other words what
+//! `gridmaster` does with them.
 #![tactic(auto)]
 
 mod areas;
 mod asking;
+mod closing;
 mod command_lines;
 mod driving;
 mod generating;
 mod keeping;
 mod large;
-mod making;
 mod masters;
 mod pages;
 mod parsing;
@@ -26,12 +28,14 @@ mod ports;
 mod readers;
 mod rendering;
 mod running;
+mod sockets;
 mod starting;
 mod stepping;
 mod streaming;
 
 use crate::areas::Areas;
-use ge_program::{read_words, run};
+use ge_edge::read_words;
+use ge_top::run;
 use std::io;
 use std::io::{BufRead, BufReader, BufWriter, Eprint, Write};
 use std::process::ExitCode;

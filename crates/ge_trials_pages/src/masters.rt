@@ -1,12 +1,12 @@
 //! A master that is opened, handles events, one alone or a batch, and is opened again.
 
-use crate::areas::{area, bytes_of};
-use crate::planning::{first_event, read_events};
+use crate::planning::first_event;
 use ge_core::render;
 use ge_master::Master;
 use ge_outside::MemDisk;
 use ge_pieces::{before, behind};
 use ge_spool::OpenFault;
+use ge_trials_rows::{area, bytes_of, read_events};
 use std::alloc::{AllocError, Global};
 use std::io;
 use std::io::ErrorKind;

@@ -5,6 +5,7 @@ use ge_outside::PlainSource;
 use ge_pieces::{before, behind, digits_worth, slices_at};
 use ge_rows::{Event, Form, List, Reply, Text, opening};
 use ge_script::{next_request, read_event, read_script};
+use ge_trials_rows::read_events;
 use std::alloc::{AllocError, Global};
 use std::io;
 use std::io::ErrorKind;
@@ -18,22 +19,6 @@ pub(crate) fn first_event(alloc: Global, script: &[u8]) -> io::Result<Event> {
         }
         None => Err(io::Error::from(ErrorKind::InvalidInput)),
     }
-}
-
-/// The events of a script.
-pub(crate) fn read_events(alloc: Global, script: &[u8]) -> Result<List<Event>, AllocError> {
-    let mut events = List::new(alloc);
-    let mut rest = script;
-    for _ in 0..script.len() {
-        match next_request(rest) {
-            Some((request, after)) => {
-                events.push(read_event(alloc, request)?)?;
-                rest = after;
-            }
-            None => return Ok(events),
-        }
-    }
-    Ok(events)
 }
 
 fn form_word(form: Form) -> &'static str {

@@ -3,9 +3,6 @@ use std::io::{ErrorKind, Write};
 use std::process::{Child, Command, Output, Stdio};
 use std::{env, fs, io};
 
-/// A word that is no command.
-pub(crate) const FAULTY: &str = "simulat";
-
 /// Where a server is: the program that it and its clients run, the folder of its files, and its port.
 #[derive(Drop)]
 pub(crate) struct Place<'a> {
@@ -22,14 +19,19 @@ pub(crate) fn own_program(rt: &HostRuntime) -> io::Result<String> {
     }
 }
 
-/// How this program ends with a word that is no command.
-pub(crate) fn end_of_faulty(rt: &HostRuntime, program: &str) -> io::Result<Output> {
+/// How this program ends with one word in a folder, and what it writes.
+pub(crate) fn end_of(
+    rt: &HostRuntime,
+    program: &str,
+    folder: &str,
+    word: &str,
+) -> io::Result<Output> {
     let mut command = Command::new(rt.alloc(), program)?;
-    command.arg(FAULTY)?;
+    command.arg(word)?.current_dir(folder)?;
     command
         .stdin(Stdio::null())
         .stdout(Stdio::piped())
-        .stderr(Stdio::null());
+        .stderr(Stdio::piped());
     command.spawn(rt)?.wait_with_output(rt.alloc())
 }
 

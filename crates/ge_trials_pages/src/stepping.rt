@@ -1,10 +1,10 @@
 //! Runs where each call of an area fails in its turn, and what a stop may leave then.
 
-use crate::areas::{Given, area, bytes_of};
-use crate::making::made;
+use crate::areas::Given;
 use crate::running::{Ran, run, shown};
 use ge_outside::{MemDisk, MemSource};
 use ge_pieces::{before, behind, is_word};
+use ge_trials_rows::{area, bytes_of, made};
 use std::alloc::{AllocError, Global};
 use std::io;
 

@@ -1,13 +1,12 @@
 //! Runs over streams that fail, are interrupted, or give and take little.
 
-use crate::areas::area;
-use crate::making::made;
 use crate::readers::{Dripping, Interrupted, Narrow, Slow};
 use crate::running::{Ran, run, shown, simulated};
 use ge_edge::{StdinSource, StdoutSink};
 use ge_outside::PlainSource;
 use ge_pieces::{before, behind, behind_word, digits_worth, first_word, is_word};
 use ge_top::simulate;
+use ge_trials_rows::{area, made};
 use std::alloc::{AllocError, Global};
 use std::io;
 use std::io::{ErrorKind, Read};

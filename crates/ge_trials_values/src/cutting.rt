@@ -1,9 +1,13 @@
 //! Texts cut and joined.
 
-use crate::is_named;
+use crate::answers::{is_named, no_call};
 use ge_pieces::*;
 use ge_rows::{List, Text};
+use ge_text::{TextFault, words};
 use std::alloc::{AllocError, Global};
+
+/// Longer lines are not tried as words.
+const MOST: usize = 1000;
 
 // Texts as one line, each in brackets.
 fn bracketed(alloc: Global, texts: &List<Text>) -> Result<Text, AllocError> {
@@ -17,7 +21,7 @@ fn bracketed(alloc: Global, texts: &List<Text>) -> Result<Text, AllocError> {
 }
 
 // Lent texts as one line, each in brackets.
-pub(crate) fn lent_bracketed(alloc: Global, texts: &[&[u8]]) -> Result<Text, AllocError> {
+fn lent_bracketed(alloc: Global, texts: &[&[u8]]) -> Result<Text, AllocError> {
     let mut line = Text::new(alloc);
     for text in texts {
         line.append(b"[")?;
@@ -25,6 +29,21 @@ pub(crate) fn lent_bracketed(alloc: Global, texts: &[&[u8]]) -> Result<Text, All
         line.append(b"]")?;
     }
     Ok(line)
+}
+
+// The words of a line, or where a quote is open.
+fn words_of(alloc: Global, line: &[u8]) -> Result<Text, AllocError> {
+    if line.len() > MOST {
+        return Ok(Text::new(alloc));
+    }
+    match words(alloc, line) {
+        Ok(found) => lent_bracketed(alloc, found.as_slice()),
+        Err(TextFault::Quote(place)) => Text::from_bytes(
+            alloc,
+            format!(in alloc; "quote {place}")?.as_bytes(),
+        ),
+        Err(TextFault::NoMemory) => Err(AllocError),
+    }
 }
 
 // What bars part; nothing where the text is empty.
@@ -50,10 +69,6 @@ fn first_of(text: &[u8]) -> &[u8] {
     }
 }
 
-fn first_len(text: &[u8]) -> usize {
-    if text.is_empty() { 0 } else { line_len(text) }
-}
-
 fn from_second(text: &[u8]) -> &[u8] {
     if text.is_empty() {
         text
@@ -67,37 +82,35 @@ fn or_none(alloc: Global, text: &[u8]) -> Result<Text, AllocError> {
     Text::from_bytes(alloc, or_none_text(&word))
 }
 
-// The calls that make lists of texts.
-fn listed(alloc: Global, name: &[u8], given: &[u8]) -> Result<Option<Text>, AllocError> {
-    let text = if is_named(name, b"slices_at") {
-        lent_bracketed(alloc, slices_at(alloc, b',', given)?.as_slice())?
+// The calls that make lists of texts, and such that join them.
+fn listed(alloc: Global, name: &[u8], given: &[u8]) -> Result<Text, AllocError> {
+    if is_named(name, b"words") {
+        words_of(alloc, given)
+    } else if is_named(name, b"slices_at") {
+        lent_bracketed(alloc, slices_at(alloc, b',', given)?.as_slice())
     } else if is_named(name, b"pieces") {
-        bracketed(alloc, &pieces(alloc, b'@', given)?)?
+        bracketed(alloc, &pieces(alloc, b'@', given)?)
     } else if is_named(name, b"words_between") {
-        bracketed(alloc, &words_between(alloc, given)?)?
+        bracketed(alloc, &words_between(alloc, given)?)
     } else if is_named(name, b"items_of_list") {
-        bracketed(alloc, &items_of_list(alloc, given)?)?
+        bracketed(alloc, &items_of_list(alloc, given)?)
     } else if is_named(name, b"lines_of_body") {
-        bracketed(alloc, &lines_of_body(alloc, given)?)?
+        bracketed(alloc, &lines_of_body(alloc, given)?)
     } else if is_named(name, b"join_list") {
-        join_list(alloc, parts(alloc, given)?.items())?
+        join_list(alloc, parts(alloc, given)?.items())
     } else if is_named(name, b"join") {
-        join(alloc, b" ", parts(alloc, given)?.items())?
+        join(alloc, b" ", parts(alloc, given)?.items())
     } else if is_named(name, b"append_joined") {
-        behind_a_word(alloc, given)?
+        behind_a_word(alloc, given)
     } else if is_named(name, b"lower") {
-        lower(alloc, given)?
+        lower(alloc, given)
     } else {
-        return Ok(None)
-    };
-    Ok(Some(text))
+        no_call(alloc)
+    }
 }
 
-/// The answer of a call of this name.
+/// What a call answers: each text of a list in brackets, or one text. Bars part what is joined.
 pub(crate) fn answer(alloc: Global, name: &[u8], given: &[u8]) -> Result<Text, AllocError> {
-    if let Some(text) = listed(alloc, name, given)? {
-        return Ok(text);
-    }
     if is_named(name, b"first_word") {
         Text::from_bytes(alloc, first_word(given))
     } else if is_named(name, b"behind_word") {
@@ -112,11 +125,9 @@ pub(crate) fn answer(alloc: Global, name: &[u8], given: &[u8]) -> Result<Text, A
         Text::from_bytes(alloc, bare_line(given))
     } else if is_named(name, b"bytes_from") {
         Text::from_bytes(alloc, from_second(given))
-    } else if is_named(name, b"line_len") {
-        Text::from_bytes(alloc, first_len(given).to_string(alloc)?.as_bytes())
     } else if is_named(name, b"or_none_text") {
         or_none(alloc, given)
     } else {
-        Text::from_bytes(alloc, b"no such call")
+        listed(alloc, name, given)
     }
 }

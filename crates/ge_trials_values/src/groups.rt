@@ -1,15 +1,13 @@
-//! Groups of hosts.
+//! Groups of hosts, which a row has as `@a=h1 @b;@b=h2`.
 
-use crate::is_named;
-use crate::values::yes_or_no;
+use crate::answers::{is_named, no_call, yes_or_no};
 use ge_hosts::{MembersFault, expand, group_has, has_loop, hosts_of, is_a_group, members};
-use ge_model_site::GroupFault;
+use ge_model_rows::GroupFault;
 use ge_pieces::{before, behind, join, slices_at, words_between};
 use ge_rows::{Groups, List, Table, Text, opening};
 use std::alloc::{AllocError, Global};
 
-/// Groups that are written as `@a=h1 @b;@b=h2`.
-pub(crate) fn groups_of(alloc: Global, text: &[u8]) -> Result<Table<Text, List<Text>>, AllocError> {
+fn groups_of(alloc: Global, text: &[u8]) -> Result<Table<Text, List<Text>>, AllocError> {
     let mut groups = Table::new(alloc);
     for row in slices_at(alloc, b';', text)?.as_slice() {
         let name = Text::from_bytes(alloc, before(b'=', row))?;
@@ -39,11 +37,6 @@ fn hosts_of_a(alloc: Global, given: &[u8]) -> Result<Text, AllocError> {
     }
 }
 
-fn looped(alloc: Global, given: &[u8]) -> Result<Text, AllocError> {
-    let groups = groups_of(alloc, given)?;
-    yes_or_no(alloc, has_loop(alloc, &groups)?)
-}
-
 // The hosts of all groups.
 fn spelled(alloc: Global, given: &[u8]) -> Result<Groups, AllocError> {
     let mut cluster = opening(alloc)?;
@@ -63,36 +56,34 @@ fn written(alloc: Global, groups: &Groups) -> Result<Text, AllocError> {
     Ok(line)
 }
 
-/// Groups of which two calls are asked.
-const GROUPS: &[u8] = b"@a=@b h1;@b=h2;@c=@x h3";
-
-fn is_member(alloc: Global, group: &[u8], host: &[u8]) -> Result<Text, AllocError> {
-    let group = Text::from_bytes(alloc, group)?;
-    let host = Text::from_bytes(alloc, host)?;
-    yes_or_no(alloc, group_has(&spelled(alloc, GROUPS)?, &group, &host))
-}
-
-fn hosts_named(alloc: Global, group: &[u8]) -> Result<Text, AllocError> {
-    let group = Text::from_bytes(alloc, group)?;
-    join(alloc, b" ", hosts_of(&spelled(alloc, GROUPS)?, &group))
-}
-
-/// The answer of a call of this name, if it is one of these.
-pub(crate) fn answer(alloc: Global, name: &[u8], given: &[u8]) -> Result<Option<Text>, AllocError> {
-    let text = if is_named(name, b"members") {
-        hosts_of_a(alloc, given)?
-    } else if is_named(name, b"has_loop") {
-        looped(alloc, given)?
-    } else if is_named(name, b"expand") {
-        written(alloc, &spelled(alloc, given)?)?
-    } else if is_named(name, b"is_a_group") {
-        yes_or_no(alloc, is_a_group(given))?
+// What the calls on all groups answer: the groups, and behind bars the name of a group and of a host.
+fn answer_of_all(alloc: Global, name: &[u8], given: &[u8]) -> Result<Text, AllocError> {
+    let groups = spelled(alloc, before(b'|', given))?;
+    let rest = behind(b'|', given);
+    let group = Text::from_bytes(alloc, before(b'|', rest))?;
+    let host = Text::from_bytes(alloc, behind(b'|', rest))?;
+    if is_named(name, b"expand") {
+        written(alloc, &groups)
     } else if is_named(name, b"group_has") {
-        is_member(alloc, before(b'|', given), behind(b'|', given))?
+        yes_or_no(alloc, group_has(&groups, &group, &host))
     } else if is_named(name, b"hosts_of") {
-        hosts_named(alloc, given)?
+        join(alloc, b" ", hosts_of(&groups, &group))
     } else {
-        return Ok(None)
-    };
-    Ok(Some(text))
+        no_call(alloc)
+    }
+}
+
+/// What a call answers: `members`, `has_loop` and `expand` are given groups, `group_has` and `hosts_of` further names, and
+/// `is_a_group` a name.
+pub(crate) fn answer(alloc: Global, name: &[u8], given: &[u8]) -> Result<Text, AllocError> {
+    if is_named(name, b"members") {
+        hosts_of_a(alloc, given)
+    } else if is_named(name, b"has_loop") {
+        let groups = groups_of(alloc, given)?;
+        yes_or_no(alloc, has_loop(alloc, &groups)?)
+    } else if is_named(name, b"is_a_group") {
+        yes_or_no(alloc, is_a_group(given))
+    } else {
+        answer_of_all(alloc, name, given)
+    }
 }

@@ -1,14 +1,12 @@
-//! Tries texts and values: how texts are read, cut, joined and written (words, patterns, amounts, names, numbers, refusals, sets
-//! of tasks); texts of values read, printed and compared, complexes looked up, who may, requests, groups of hosts, attributes and
-//! values at instances, and what quotas count by.
+//! Single calls, a row each: what texts are worth, texts cut and joined, values, who may, requests, groups of hosts, instances.
 //!
-//! A row of the input is the name of a call, a blank, and what it is given: `|` parts what several are given, and where texts are
-//! cut and joined `~` stands for a line feed. The row is written with what the call answers. The stored answers were worked out by
-//! hand from the rules of the manual pages, or are those of programs in another language.
+//! Pages are parted by form feeds. A page's first line is its kind, a blank and its name; what stands behind it is told at the kind's
+//! function. The stored lines were worked out by hand, or are those of an independent reading of the rules.
 #![tactic(auto)]
 
 mod access;
 mod amounts;
+mod answers;
 mod cutting;
 mod groups;
 mod naming;
@@ -16,78 +14,35 @@ mod queues;
 mod quotas;
 mod refusals;
 mod requests;
+mod sites;
 mod values;
 mod writing;
 
-use ge_pieces::{before, behind, join, pieces};
-use ge_rows::Text;
-use std::alloc::{AllocError, Global};
+use ge_pieces::{before, behind, behind_word, first_word};
+use std::alloc::Global;
 use std::io;
 use std::io::{BufRead, BufReader, BufWriter, Write};
 
-/// Whether a word is this one. Its caller need not know what that says of each byte, as it would of a pattern.
-pub(crate) fn is_named(word: &[u8], other: &[u8]) -> bool {
-    word == other
-}
+/// What stands between two pages: a form feed.
+const PAGE_END: u8 = 0x0c;
 
-// What a call on texts answers, by its name.
-fn answer_on_text(alloc: Global, name: &[u8], given: &[u8]) -> Result<Option<Text>, AllocError> {
-    if let Some(text) = amounts::answer(alloc, name, given)? {
-        return Ok(Some(text));
-    }
-    if let Some(text) = naming::answer(alloc, name, given)? {
-        return Ok(Some(text));
-    }
-    if let Some(text) = refusals::answer(alloc, name, given)? {
-        return Ok(Some(text));
-    }
-    writing::answer(alloc, name, given)
-}
-
-// What a call on values, requests or a site answers, by its name.
-fn answer_on_value(alloc: Global, name: &[u8], given: &[u8]) -> Result<Option<Text>, AllocError> {
-    if let Some(text) = values::answer(alloc, name, given)? {
-        return Ok(Some(text));
-    }
-    if let Some(text) = access::answer(alloc, name, given)? {
-        return Ok(Some(text));
-    }
-    if let Some(text) = requests::answer(alloc, name, given)? {
-        return Ok(Some(text));
-    }
-    if let Some(text) = groups::answer(alloc, name, given)? {
-        return Ok(Some(text));
-    }
-    queues::answer(alloc, name, given)
-}
-
-// What a call of this name answers.
-fn answer(alloc: Global, name: &[u8], given: &[u8]) -> Result<Text, AllocError> {
-    if let Some(text) = answer_on_text(alloc, name, given)? {
-        return Ok(text);
-    }
-    if let Some(text) = answer_on_value(alloc, name, given)? {
-        return Ok(text);
-    }
-    let plain = join(alloc, b"\n", pieces(alloc, b'~', given)?.items())?;
-    let text = cutting::answer(alloc, name, plain.bytes())?;
-    join(alloc, b"~", pieces(alloc, b'\n', text.bytes())?.items())
+// What is told of a page: a line with its name, and what its kind tells.
+fn report(alloc: Global, page: &[u8]) -> io::Result<Vec<u8>> {
+    let (head, body) = (before(b'\n', page), behind(b'\n', page));
+    let (kind, name) = (first_word(head), behind_word(head));
+    let mut text = Vec::from_slice(alloc, b"== ")?;
+    text.extend_from_slice(name)?;
+    text.extend_from_slice(b"\n")?;
+    text.extend_from_slice(answers::rows_page(alloc, kind, body)?.as_slice())?;
+    Ok(text)
 }
 
 fn main(rt: HostRuntime) -> io::Result<()> {
     let alloc = rt.alloc();
     let mut output = BufWriter::new(alloc, io::writer(&rt))?;
-    for row in BufReader::new(alloc, rt.reader())?.split(alloc, b'\n') {
-        let row = row?;
-        output.write_all(row.as_slice())?;
-        output.write_all(b" = ")?;
-        let text = answer(
-            alloc,
-            before(b' ', row.as_slice()),
-            behind(b' ', row.as_slice()),
-        )?;
-        output.write_all(text.bytes())?;
-        output.write_all(b"\n")?;
+    for page in BufReader::new(alloc, rt.reader())?.split(alloc, PAGE_END) {
+        let text = report(alloc, page?.as_slice())?;
+        output.write_all(text.as_slice())?;
     }
     output.flush()
 }

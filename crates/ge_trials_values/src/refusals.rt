@@ -1,6 +1,6 @@
 //! Refusals gathered.
 
-use crate::is_named;
+use crate::answers::is_named;
 use ge_base::Refusal;
 use ge_pieces::{before, behind, earlier, note, sooner_of};
 use ge_rows::Text;
@@ -43,24 +43,23 @@ fn noted(first: Option<Refusal>, rest: &[u8]) -> Option<Refusal> {
     let mut faults = first;
     note(
         &mut faults,
-        before(b'|', rest) == b"yes".as_slice(),
+        is_named(before(b'|', rest), b"yes"),
         second(behind(b'|', rest)),
     );
     faults
 }
 
-/// The answer of a call of this name, if it is one of these.
-pub(crate) fn answer(alloc: Global, name: &[u8], given: &[u8]) -> Result<Option<Text>, AllocError> {
-    let first = named(before(b'|', given));
-    let rest = behind(b'|', given);
-    let refusal = if is_named(name, b"note") {
-        noted(first, rest)
+/// The refusal that is left of a first one, or `none`, and others.
+pub(crate) fn answer(alloc: Global, name: &[u8], given: &[u8]) -> Result<Text, AllocError> {
+    let (first, rest) = (named(before(b'|', given)), behind(b'|', given));
+    let word: &[u8] = if is_named(name, b"note") {
+        word_of(noted(first, rest))
     } else if is_named(name, b"earlier") {
-        earlier(first, second(rest))
+        word_of(earlier(first, second(rest)))
     } else if is_named(name, b"sooner_of") {
-        sooner_of(first, named(rest))
+        word_of(sooner_of(first, named(rest)))
     } else {
-        return Ok(None)
+        b"no such call"
     };
-    Ok(Some(Text::from_bytes(alloc, word_of(refusal))?))
+    Text::from_bytes(alloc, word)
 }

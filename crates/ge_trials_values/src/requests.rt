@@ -1,28 +1,12 @@
 //! The options of jobs read, and what refuses them.
 
-use crate::is_named;
+use crate::answers::{is_named, no_call};
 use ge_base::{Refusal, code};
 use ge_complex::pair_text;
-use ge_pieces::{before, behind, digits_worth, join};
+use ge_pieces::{before, behind, join};
 use ge_request::{change_request, read_request};
-use ge_rows::{
-    Allocation, Cluster, ComplexDef, Consumable, Kind, List, Options, PeRow, Relop, Request,
-    Requestable, Text, UrgencySlots, Value, opening,
-};
+use ge_rows::{Cluster, List, Options, Request, Text};
 use std::alloc::{AllocError, Global};
-
-fn cluster(alloc: Global) -> Result<Cluster, AllocError> {
-    let mut c = opening(alloc)?;
-    let row = PeRow {
-        slots: 4,
-        users: List::new(alloc),
-        xusers: List::new(alloc),
-        rule: Allocation::FillUp,
-        urgency_slots: UrgencySlots::Min,
-    };
-    c.pes.insert(Text::from_bytes(alloc, b"mpi")?, row)?;
-    Ok(c)
-}
 
 // An option with a word and perhaps a second, left out where the last of them is empty.
 fn give(
@@ -101,78 +85,27 @@ fn shown(alloc: Global, c: &Cluster, answer: Result<Request, Refusal>) -> Result
     }
 }
 
-fn read(alloc: Global, c: &Cluster, given: &[u8]) -> Result<Text, AllocError> {
-    let options = options(alloc, given)?;
-    shown(alloc, c, read_request(alloc, c, &options))
-}
-
-fn changed(alloc: Global, c: &Cluster, older: &Request, given: &[u8]) -> Result<Text, AllocError> {
-    let options = options(alloc, given)?;
-    shown(alloc, c, change_request(alloc, c, &options, older))
-}
-
-// A request of one hour in all.q on two slots of mpi, changed by the options.
-fn change(alloc: Global, c: &Cluster, given: &[u8]) -> Result<Text, AllocError> {
+// A request of one hour in all.q on two slots of mpi, changed by options.
+fn changed(alloc: Global, c: &Cluster, given: &Options) -> Result<Text, AllocError> {
     match read_request(alloc, c, &options(alloc, b"h_rt=60|all.q|mpi|2")?) {
-        Ok(older) => changed(alloc, c, &older, given),
+        Ok(older) => shown(alloc, c, change_request(alloc, c, given, &older)),
         Err(_) => Text::from_bytes(alloc, b"no request"),
     }
 }
 
-// A complex that is asked for by two letters.
-fn put_complex(alloc: Global, c: &mut Cluster, letters: &[u8]) -> Result<(), AllocError> {
-    let row = ComplexDef {
-        shortcut: Text::from_bytes(alloc, letters)?,
-        kind: Kind::Bool,
-        relop: Relop::Eq,
-        requestable: Requestable::Yes,
-        consumable: Consumable::No,
-        fallback: Value::Flag(false),
-        urgency: 0,
-    };
-    let mut name = Text::from_bytes(alloc, b"long_")?;
-    name.append(letters)?;
-    c.complexes.insert(name, row)?;
-    Ok(())
-}
-
-// Asks for so many attributes, each by its shortcut.
-fn answer_to(alloc: Global, count: u8) -> Result<Result<Request, Refusal>, AllocError> {
-    let mut c = opening(alloc)?;
-    let mut words = List::new(alloc);
-    for n in 0..count {
-        let letters = [b'A' + n / 16, b'A' + n % 16];
-        put_complex(alloc, &mut c, &letters)?;
-        words.push(Text::from_bytes(alloc, &letters)?)?;
-    }
-    let mut options = Options {
-        items: List::new(alloc),
-    };
-    options
-        .items
-        .push((Text::from_bytes(alloc, b"-l")?, words))?;
-    Ok(read_request(alloc, &c, &options))
-}
-
-// How many attributes are then asked for.
-fn attributes(alloc: Global, count: u8) -> Result<Text, AllocError> {
-    match answer_to(alloc, count)? {
-        Ok(request) => Text::from_bytes(alloc, request.asked.len().to_string(alloc)?.as_bytes()),
-        Err(Refusal::Limit) => Text::from_bytes(alloc, b"limit"),
-        Err(_) => Text::from_bytes(alloc, b"refused"),
-    }
-}
-
-/// The answer of a call of this name, if it is one of these.
-pub(crate) fn answer(alloc: Global, name: &[u8], given: &[u8]) -> Result<Option<Text>, AllocError> {
-    let text = if is_named(name, b"request") {
-        read(alloc, &cluster(alloc)?, given)?
+/// What a call answers that is given options: `request`, and `change` of another request.
+pub(crate) fn answer(
+    alloc: Global,
+    c: &Cluster,
+    name: &[u8],
+    given: &[u8],
+) -> Result<Text, AllocError> {
+    let options = options(alloc, given)?;
+    if is_named(name, b"request") {
+        shown(alloc, c, read_request(alloc, c, &options))
     } else if is_named(name, b"change") {
-        change(alloc, &cluster(alloc)?, given)?
-    } else if is_named(name, b"attributes") {
-        attributes(alloc, digits_worth(given).min(100) as u8)?
+        changed(alloc, c, &options)
     } else {
-        return Ok(None)
-    };
-    Ok(Some(text))
+        no_call(alloc)
+    }
 }

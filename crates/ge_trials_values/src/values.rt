@@ -1,17 +1,12 @@
 //! Values read, printed and compared, and complexes looked up.
 
-use crate::is_named;
+use crate::answers::{is_named, no_call, yes_or_no};
 use ge_complex::{
     ComplexFinder, ValueError, admits, complex_named, pair_text, read_value, value_text,
 };
 use ge_pieces::{before, behind, digits_worth};
 use ge_rows::{Cluster, ComplexDef, Consumable, Kind, Relop, Requestable, Text, Value, opening};
 use std::alloc::{AllocError, Global};
-
-/// A word of whether something holds.
-pub(crate) fn yes_or_no(alloc: Global, holds: bool) -> Result<Text, AllocError> {
-    Text::from_bytes(alloc, if holds { b"yes" } else { b"no" })
-}
 
 fn kind_by(letter: u8) -> Kind {
     match letter {
@@ -147,21 +142,21 @@ fn pair(alloc: Global, name: &[u8], value: &Value) -> Result<Text, AllocError> {
     pair_text(alloc, &opening(alloc)?, &name, value)
 }
 
-/// The answer of a call of this name, if it is one of these.
-pub(crate) fn answer(alloc: Global, name: &[u8], given: &[u8]) -> Result<Option<Text>, AllocError> {
+/// What a call answers: `value` is given a letter of a kind and a text, `admits` the letters of a kind and an operator and what is
+/// asked, and behind a bar a letter of a kind and what is there; `complex` a word; `amount` a name and an amount, `flag` a name.
+pub(crate) fn answer(alloc: Global, name: &[u8], given: &[u8]) -> Result<Text, AllocError> {
     let (first, second) = (before(b'|', given), behind(b'|', given));
-    let text = if is_named(name, b"value") {
-        value(alloc, given)?
+    if is_named(name, b"value") {
+        value(alloc, given)
     } else if is_named(name, b"admits") {
-        compared(alloc, first, second)?
+        compared(alloc, first, second)
     } else if is_named(name, b"complex") {
-        named(alloc, given)?
+        named(alloc, given)
     } else if is_named(name, b"amount") {
-        pair(alloc, first, &Value::Amount(digits_worth(second)))?
+        pair(alloc, first, &Value::Amount(digits_worth(second)))
     } else if is_named(name, b"flag") {
-        pair(alloc, given, &Value::Flag(true))?
+        pair(alloc, given, &Value::Flag(true))
     } else {
-        return Ok(None)
-    };
-    Ok(Some(text))
+        no_call(alloc)
+    }
 }

@@ -1,18 +1,11 @@
 //! Numbers read and written, and sets of tasks.
 
-use crate::is_named;
-use ge_pieces::{digits_worth, number_up_to, slices_at};
+use crate::answers::{is_named, no_call, number};
+use ge_pieces::{digits_worth, line_len, number_up_to, slices_at};
 use ge_ranges::{RangeFault, parse_set, text};
 use ge_rows::Text;
 use ge_wording::{decimal_text, decimals4, fixed, join_words, number_list};
 use std::alloc::{AllocError, Global};
-
-fn number(alloc: Global, number: Option<u64>) -> Result<Text, AllocError> {
-    match number {
-        Some(number) => Text::from_bytes(alloc, number.to_string(alloc)?.as_bytes()),
-        None => Text::from_bytes(alloc, b"none"),
-    }
-}
 
 // What commas part as numbers; nothing where the text is empty.
 fn numbers(alloc: Global, given: &[u8]) -> Result<Vec<u32>, AllocError> {
@@ -46,24 +39,29 @@ fn printed(alloc: Global, written: &[u8]) -> Result<Text, AllocError> {
     }
 }
 
-/// The answer of a call of this name, if it is one of these.
-pub(crate) fn answer(alloc: Global, name: &[u8], given: &[u8]) -> Result<Option<Text>, AllocError> {
-    let text = if is_named(name, b"digits_worth") {
-        number(alloc, Some(digits_worth(given)))?
+fn first_len(text: &[u8]) -> usize {
+    if text.is_empty() { 0 } else { line_len(text) }
+}
+
+/// What a call answers: numbers as they are written, and sets of tasks.
+pub(crate) fn answer(alloc: Global, name: &[u8], given: &[u8]) -> Result<Text, AllocError> {
+    if is_named(name, b"digits_worth") {
+        number(alloc, Some(digits_worth(given)))
     } else if is_named(name, b"number_up_to_1024") {
-        number(alloc, number_up_to(1024, given))?
+        number(alloc, number_up_to(1024, given))
     } else if is_named(name, b"decimals") {
-        decimals(alloc, given)?
+        decimals(alloc, given)
     } else if is_named(name, b"decimal_text") {
-        decimal_text(alloc, u128::from(digits_worth(given)))?
+        decimal_text(alloc, u128::from(digits_worth(given)))
     } else if is_named(name, b"fixed_text") {
-        fixed(alloc, u128::from(digits_worth(given)))?
+        fixed(alloc, u128::from(digits_worth(given)))
     } else if is_named(name, b"number_list") {
-        number_list(alloc, numbers(alloc, given)?.as_slice())?
+        number_list(alloc, numbers(alloc, given)?.as_slice())
+    } else if is_named(name, b"line_len") {
+        number(alloc, Some(first_len(given) as u64))
     } else if is_named(name, b"set") {
-        printed(alloc, given)?
+        printed(alloc, given)
     } else {
-        return Ok(None)
-    };
-    Ok(Some(text))
+        no_call(alloc)
+    }
 }

@@ -3,7 +3,7 @@ ghost use Rattle.std.specs.Prelude.{◌≡◌, map};
 ghost use Rattle.std.specs.List.{list_any};
 ghost use Rattle.std.specs.Map.{keys_of};
 ghost use Rattle.ge_model_config.specs.Cited.{has_name};
-ghost use Rattle.ge_model_value.specs.Complexes.{opening_complexes};
+ghost use Rattle.ge_model_rows.specs.Complexes.{opening_complexes};
 
 use ge_pieces::is_in;
 use ge_rows::Text;

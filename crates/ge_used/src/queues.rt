@@ -3,7 +3,7 @@ ghost use Rattle.std.specs.Prelude.{◌≡◌, ◌||◌};
 ghost use Rattle.std.specs.List.{list_any};
 ghost use Rattle.ge_model_config.specs.Cited.{has_name as has_name_in};
 ghost use Rattle.ge_model_config.specs.Used as used;
-ghost use Rattle.ge_model_value.specs.Pieces.{is_one_of};
+ghost use Rattle.ge_model_rows.specs.Pieces.{is_one_of};
 
 use crate::attributes::{has_value, lists_name, overrides_at};
 use ge_pieces::is_among;

@@ -5,7 +5,7 @@ ghost use Rattle.ge_collections.specs.Keyed.{text_eq};
 ghost use Rattle.ge_model_config.specs.Cited.{has_name as has_name_in};
 ghost use Rattle.ge_model_config.specs.Quotas.{elements_of};
 ghost use Rattle.ge_model_config.specs.Used as used;
-ghost use Rattle.ge_model_value.specs.Pieces.{is_one_of};
+ghost use Rattle.ge_model_rows.specs.Pieces.{is_one_of};
 
 use crate::there::has_name;
 use ge_pieces::{is_among, is_word};

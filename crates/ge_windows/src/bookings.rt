@@ -4,7 +4,7 @@ ghost use Rattle.std.specs.Prelude.{◌≡◌, ◌++◌, ◌||◌, ℕ, IfOk, On
 ghost use Rattle.std.specs.List.{list_any};
 ghost use Rattle.std.specs.BTreeSet.{contains};
 ghost use Rattle.std.specs.Ordering.{nat_cmp};
-ghost use Rattle.ge_model_value.specs.Pieces.{is_empty};
+ghost use Rattle.ge_model_rows.specs.Pieces.{is_empty};
 ghost use Rattle.ge_model_place.specs.Limits.{demands_of};
 ghost use Rattle.ge_model_place.specs.Windows.{booked_until, job_bookings, runs_in_advance};
 ghost use Rattle.ge_model_place.specs.Windows as windows;

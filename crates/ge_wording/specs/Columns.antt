@@ -1,6 +1,6 @@
 -- What a column of a line shows, in words.
 use Rattle.std.specs.Prelude.{ℕ, List, decimal}
-use Rattle.ge_model_value.specs.Values.{fixed_text}
+use Rattle.ge_model_rows.specs.Values.{fixed_text}
 use Rattle.ge_wording.specs.declared.columns.Column.{Column}
 use Rattle.ge_wording.specs.declared.columns.Column.TheVariants.{Word, Number, Fixed}
 

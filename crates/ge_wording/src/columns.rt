@@ -1,7 +1,7 @@
 //! Columns of a line.
 
 ghost use Rattle.std.specs.Prelude.{◌≡◌, ◌++◌, IfOk, OnOk, codes, flat_map, map};
-ghost use Rattle.ge_model_value.specs.Pieces.{joined_by};
+ghost use Rattle.ge_model_rows.specs.Pieces.{joined_by};
 ghost use Rattle.ge_wording.specs.Columns.{column_text};
 
 use crate::joining::LINE_ROOM;

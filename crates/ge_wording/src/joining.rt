@@ -1,7 +1,7 @@
 //! Words joined.
 
 ghost use Rattle.std.specs.Prelude.{◌≡◌, ◌++◌, IfOk, OnOk, flat_map, map};
-ghost use Rattle.ge_model_value.specs.Pieces.{joined_by};
+ghost use Rattle.ge_model_rows.specs.Pieces.{joined_by};
 
 use ge_rows::Text;
 use std::alloc::{AllocError, Global};

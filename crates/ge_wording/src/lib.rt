@@ -5,7 +5,7 @@
 //! - [`decimal_text`], [`append_decimal`], [`decimals4`]: numbers in decimal; [`number_list`]: as a list of them is printed.
 //! - [`fixed`]: millionths with six decimals.
 //!
-//! Contracts see texts as the lists of their bytes, and say by the definitions of `ge_model_value` what is made. Each
+//! Contracts see texts as the lists of their bytes, and say by the definitions of `ge_model_rows` what is made. Each
 //! call copies what it is lent, and wants memory as its one failure.
 #![tactic(auto)]
 

@@ -1,8 +1,8 @@
 //! Numbers in words.
 
 ghost use Rattle.std.specs.Prelude.{◌≡◌, ◌⊎◌, ◌++◌, ◌∷◌, [], IfOk, OnOk, decimal, map};
-ghost use Rattle.ge_model_value.specs.Pieces.{list_text};
-ghost use Rattle.ge_model_value.specs.Values.{digit_at, fixed_text};
+ghost use Rattle.ge_model_rows.specs.Pieces.{list_text};
+ghost use Rattle.ge_model_rows.specs.Values.{digit_at, fixed_text};
 
 use ge_pieces::join_list;
 use ge_rows::{List, Text};

@@ -4,5 +4,5 @@
 use std::process::ExitCode;
 
 fn main(rt: HostRuntime) -> ExitCode {
-    ge_program::run(&rt)
+    ge_top::run(&rt)
 }

@@ -1,7 +1,7 @@
 use Rattle.std.proofs.Common.{◌≡◌, take}
 use Rattle.std.specs.Prelude.{flat_map}
 use Rattle.ge_model_config.specs.Complexes.{row_faults}
-use Rattle.ge_model_value.specs.Faults.{after_faults}
+use Rattle.ge_model_rows.specs.Faults.{after_faults}
 use Rattle.ge_config.proofs.complexes.note_rows.Given as goal
 
 abbrev pub invariant-loop-line : goal.invariant-loop-line

@@ -1,7 +1,7 @@
 use Rattle.std.proofs.Common.{◌≡◌, ◌∙◌, ap, fold}
 use Rattle.std.specs.Prelude.{if◌then◌else◌, []}
 use Rattle.ge_model_rows.specs.EntryRows.{Complexes}
-use Rattle.ge_model_value.specs.Faults.{after_faults}
+use Rattle.ge_model_rows.specs.Faults.{after_faults}
 use Rattle.ge_model_config.specs.Complexes.{put_complex, complexes_item}
 use Rattle.ge_config.specs.Words.{table_faults}
 use Rattle.ge_config.proofs.complexes.read_complexes.Goals as goal

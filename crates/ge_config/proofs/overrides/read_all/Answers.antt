@@ -2,7 +2,7 @@ use Rattle.std.proofs.Common.{List, ℕ, ap, ◌∙◌, take_all, map}
 use Rattle.std.specs.Prelude.{flat_map}
 use Rattle.ge_base.specs.declared.refusal.Refusal.{Refusal}
 use Rattle.ge_model_config.specs.Overrides.{override_read}
-use Rattle.ge_model_value.specs.Faults.{after_faults}
+use Rattle.ge_model_rows.specs.Faults.{after_faults}
 use Rattle.ge_config.proofs.overrides.read_all.Goals as goal
 
 pub returns-clause-faults : goal.returns-clause-faults

@@ -1,7 +1,7 @@
 use Rattle.std.proofs.Common.{◌≡◌, map, take}
 use Rattle.std.specs.Prelude.{flat_map}
 use Rattle.ge_model_config.specs.Overrides.{override_read}
-use Rattle.ge_model_value.specs.Faults.{after_faults}
+use Rattle.ge_model_rows.specs.Faults.{after_faults}
 use Rattle.ge_config.proofs.overrides.read_all.Given as goal
 
 abbrev pub invariant-loop-pair : goal.invariant-loop-pair

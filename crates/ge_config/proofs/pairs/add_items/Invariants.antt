@@ -1,7 +1,7 @@
 use Rattle.std.proofs.Common.{◌≡◌, [], take}
 use Rattle.std.specs.Prelude.{fold}
 use Rattle.ge_model_config.specs.Pairs.{with_pair}
-use Rattle.ge_model_value.specs.Faults.{after_faults}
+use Rattle.ge_model_rows.specs.Faults.{after_faults}
 use Rattle.ge_config.specs.Fitting.{fits_by}
 use Rattle.ge_config.proofs.pairs.add_items.Given as goal
 

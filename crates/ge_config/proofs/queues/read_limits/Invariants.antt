@@ -1,6 +1,6 @@
 use Rattle.std.proofs.Common.{◌≡◌, [], take, map}
 use Rattle.std.specs.Prelude.{fold}
-use Rattle.ge_model_value.specs.Faults.{after_faults}
+use Rattle.ge_model_rows.specs.Faults.{after_faults}
 use Rattle.ge_model_config.specs.Queues.{with_queue_limit}
 use Rattle.ge_config.proofs.queues.read_limits.Given as goal
 

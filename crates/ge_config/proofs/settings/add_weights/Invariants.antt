@@ -1,6 +1,6 @@
 use Rattle.std.proofs.Common.{◌≡◌, [], take}
 use Rattle.std.specs.Prelude.{fold}
-use Rattle.ge_model_value.specs.Faults.{after_faults}
+use Rattle.ge_model_rows.specs.Faults.{after_faults}
 use Rattle.ge_model_config.specs.Settings.{with_weight_item}
 use Rattle.ge_config.proofs.settings.add_weights.Given as goal
 

@@ -1,5 +1,5 @@
 use Rattle.std.proofs.Common.{◌≡◌, ◌++◌, drop, map, filter}
-use Rattle.ge_model_value.specs.Pieces.{is_digits, number_of}
+use Rattle.ge_model_rows.specs.Pieces.{is_digits, number_of}
 use Rattle.ge_model_config.specs.Shares.{id_cut}
 use Rattle.ge_config.proofs.share_lines.cut_ids.Given as goal
 

@@ -1,6 +1,6 @@
 use Rattle.std.proofs.Common.{◌≡◌, [], take}
 use Rattle.std.specs.Prelude.{fold, flat_map}
-use Rattle.ge_model_value.specs.Pieces.{with_one_number}
+use Rattle.ge_model_rows.specs.Pieces.{with_one_number}
 use Rattle.ge_model_config.specs.Shares.{children_at}
 use Rattle.ge_config.proofs.share_tree.children_once.Given as goal
 

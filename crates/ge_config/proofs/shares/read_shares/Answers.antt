@@ -1,6 +1,6 @@
 use Rattle.std.proofs.Common.{◌≡◌, ◌∙◌, ap}
 use Rattle.ge_model_rows.specs.EntryRows.{Shares}
-use Rattle.ge_model_value.specs.Faults.{after_faults}
+use Rattle.ge_model_rows.specs.Faults.{after_faults}
 use Rattle.ge_model_config.specs.Shares.{shares_item}
 use Rattle.ge_config.specs.ShareTree.{has_short_ids, share_faults}
 use Rattle.ge_config.proofs.ShareTree.{short_ids}

@@ -1,7 +1,7 @@
 use Rattle.std.proofs.Common.{◌≡◌, drop}
 use Rattle.std.specs.Prelude.{flat_map}
 use Rattle.ge_collections.specs.Keyed.{at_number}
-use Rattle.ge_model_value.specs.Faults.{after_faults}
+use Rattle.ge_model_rows.specs.Faults.{after_faults}
 use Rattle.ge_model_core.specs.Holding.{job_hold_faults}
 use Rattle.ge_deleting.proofs.holding.note_jobs.Given as goal
 

@@ -1,5 +1,5 @@
 use Rattle.std.proofs.Common.{◌≡◌, fold, drop}
-use Rattle.ge_model_value.specs.Pieces.{with_one_number, each_number_once}
+use Rattle.ge_model_rows.specs.Pieces.{with_one_number, each_number_once}
 use Rattle.ge_deleting.specs.Once.{HasMet}
 use Rattle.ge_deleting.proofs.meeting.each_once.Given as goal
 

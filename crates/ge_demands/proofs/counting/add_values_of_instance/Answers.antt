@@ -1,7 +1,7 @@
 use Rattle.std.proofs.Common.{◌≡◌, ℕ, List, ap, subst, rules, fold}
 use Rattle.std.specs.Map.{keys_of}
 use Rattle.ge_model_rows.specs.ValueRows.{Value}
-use Rattle.ge_model_site.specs.Queues.{attr_at}
+use Rattle.ge_model_rows.specs.Queues.{attr_at}
 use Rattle.ge_demands.specs.Counts.{all_counted}
 use Rattle.ge_demands.specs.Found.{AreRising, with_instance_value}
 use Rattle.ge_demands.proofs.Sets.{has_instance}

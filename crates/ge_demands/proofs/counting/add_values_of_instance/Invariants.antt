@@ -1,7 +1,7 @@
 use Rattle.std.proofs.Common.{◌≡◌, fold}
 use Rattle.std.specs.List.{AllByRecursion}
 use Rattle.std.specs.Map.{keys_of}
-use Rattle.ge_model_site.specs.Queues.{attr_at}
+use Rattle.ge_model_rows.specs.Queues.{attr_at}
 use Rattle.ge_demands.specs.Counts.{all_counted}
 use Rattle.ge_demands.specs.Found.{HasOtherAmount, with_instance_value}
 use Rattle.ge_demands.proofs.counting.add_values_of_instance.Given as goal

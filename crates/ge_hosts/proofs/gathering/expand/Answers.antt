@@ -2,7 +2,7 @@ use Rattle.std.proofs.Common.{◌≡◌, map}
 use Rattle.std.specs.Map.{keys_of}
 use Rattle.std.specs.Map.Iter.{deref}
 use Rattle.std.proofs.lemmas.Map.Iter.{rest_more}
-use Rattle.ge_model_site.specs.Groups.{members_of, members_or_none, expanded}
+use Rattle.ge_model_rows.specs.Groups.{members_of, members_or_none, expanded}
 use Rattle.ge_hosts.proofs.Spelling.{spelled_more, all_spelled}
 use Rattle.ge_hosts.proofs.gathering.expand.Goals as goal
 

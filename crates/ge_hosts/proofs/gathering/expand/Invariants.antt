@@ -1,6 +1,6 @@
 use Rattle.std.proofs.Common.{◌≡◌, map, ◌++◌}
 use Rattle.std.specs.Map.{keys_of}
-use Rattle.ge_model_site.specs.Groups.{members_of, members_or_none}
+use Rattle.ge_model_rows.specs.Groups.{members_of, members_or_none}
 use Rattle.ge_hosts.proofs.gathering.expand.Given as goal
 
 abbrev pub invariant-loop-name : goal.invariant-loop-name

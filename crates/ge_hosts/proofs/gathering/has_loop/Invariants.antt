@@ -1,6 +1,6 @@
 use Rattle.std.proofs.Common.{◌≡◌, suc, [], length, fold}
 use Rattle.std.specs.Map.{keys_of}
-use Rattle.ge_model_site.specs.Groups.{through_group, walk_over}
+use Rattle.ge_model_rows.specs.Groups.{through_group, walk_over}
 use Rattle.ge_hosts.proofs.gathering.has_loop.Given as goal
 
 abbrev pub invariant-loop-name : goal.invariant-loop-name

@@ -1,6 +1,6 @@
 use Rattle.std.proofs.Common.{◌≡◌, ◌∙◌, ◌++◌, ◌∷◌, [], false, Some, sym, ap}
 use Rattle.ge_collections.specs.Keyed.{at_text}
-use Rattle.ge_model_value.specs.Pieces.{is_one_of}
+use Rattle.ge_model_rows.specs.Pieces.{is_one_of}
 use Rattle.ge_hosts.specs.Walks.{names_on}
 use Rattle.ge_hosts.proofs.Going.{comes_of}
 use Rattle.ge_hosts.proofs.Steps.{steps_after}

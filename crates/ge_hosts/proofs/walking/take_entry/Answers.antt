@@ -1,5 +1,5 @@
 use Rattle.std.proofs.Common.{◌≡◌, ◌∙◌, true, suc, sym, ap, subst, arith, IfOk}
-use Rattle.ge_model_site.specs.Groups.{is_group}
+use Rattle.ge_model_rows.specs.Groups.{is_group}
 use Rattle.ge_hosts.specs.Walks.{names_on, outcome}
 use Rattle.ge_hosts.proofs.Going.{taken_deeper}
 use Rattle.ge_hosts.proofs.walking.take_entry.Goals as goal

@@ -1,5 +1,5 @@
 use Rattle.std.proofs.Common.{◌≡◌, fold, drop}
-use Rattle.ge_model_tasks.specs.Sets.{difference}
+use Rattle.ge_model_rows.specs.Sets.{difference}
 use Rattle.ge_jobs.proofs.gathered.without_each.Given as goal
 
 abbrev pub invariant-loop-tasks : goal.invariant-loop-tasks

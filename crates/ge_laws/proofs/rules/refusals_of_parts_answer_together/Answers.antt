@@ -1,4 +1,4 @@
-use Rattle.ge_model_value.proofs.FaultLaws.{first_fault-append}
+use Rattle.ge_model_rows.proofs.FaultLaws.{first_fault-append}
 use Rattle.ge_laws.proofs.rules.refusals_of_parts_answer_together.Goals as goal
 
 pub returns : goal.returns

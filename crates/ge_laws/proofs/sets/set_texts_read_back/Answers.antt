@@ -1,8 +1,8 @@
 use Rattle.std.proofs.Common.{◌≡◌, List, [], ◌∷◌, Ok, refl}
 use Rattle.ge_model_rows.specs.TaskRows.{TaskSpan}
-use Rattle.ge_model_tasks.specs.Ranges.{parsed_set}
-use Rattle.ge_model_tasks.specs.SetText.{set_text}
-use Rattle.ge_model_tasks.proofs.Limits.{reads_back}
+use Rattle.ge_model_rows.specs.Ranges.{parsed_set}
+use Rattle.ge_model_rows.specs.SetText.{set_text}
+use Rattle.ge_model_rows.proofs.Limits.{reads_back}
 use Rattle.ge_laws.specs.TaskSets.{IsTaskSet}
 use Rattle.ge_laws.proofs.sets.set_texts_read_back.Goals as goal
 

@@ -1,5 +1,5 @@
-use Rattle.ge_model_tasks.proofs.Limits.{count_numbers}
-use Rattle.ge_model_tasks.proofs.Walks.{first_numbers_take}
+use Rattle.ge_model_rows.proofs.Limits.{count_numbers}
+use Rattle.ge_model_rows.proofs.Walks.{first_numbers_take}
 use Rattle.ge_laws.proofs.sets.sets_are_counted_and_walked.Goals as goal
 
 pub returns-clause-counted : goal.returns-clause-counted

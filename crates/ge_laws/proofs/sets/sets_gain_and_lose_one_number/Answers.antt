@@ -1,4 +1,4 @@
-use Rattle.ge_model_tasks.proofs.Sets.{with_number_form, with_number_has, without_number_form, without_number_has}
+use Rattle.ge_model_rows.proofs.Sets.{with_number_form, with_number_has, without_number_form, without_number_has}
 use Rattle.ge_laws.proofs.sets.sets_gain_and_lose_one_number.Goals as goal
 
 pub returns-clause-put_in : goal.returns-clause-put_in

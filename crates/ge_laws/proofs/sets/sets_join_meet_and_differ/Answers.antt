@@ -1,4 +1,4 @@
-use Rattle.ge_model_tasks.proofs.Together.{union_form, union_has, meet_form, meet_has, difference_form, difference_has}
+use Rattle.ge_model_rows.proofs.Together.{union_form, union_has, meet_form, meet_has, difference_form, difference_has}
 use Rattle.ge_laws.proofs.sets.sets_join_meet_and_differ.Goals as goal
 
 pub returns-clause-joined : goal.returns-clause-joined

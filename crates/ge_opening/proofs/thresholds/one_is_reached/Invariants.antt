@@ -1,7 +1,7 @@
 use Rattle.std.proofs.Common.{◌≡◌}
 use Rattle.std.specs.List.{list_any}
 use Rattle.std.specs.Option.{option_copied}
-use Rattle.ge_model_value.specs.Complexes.{complex_at}
+use Rattle.ge_model_rows.specs.Complexes.{complex_at}
 use Rattle.ge_model_place.specs.Opening.{reaches, reported_load}
 use Rattle.ge_opening.proofs.thresholds.one_is_reached.Given as goal
 

@@ -1,6 +1,6 @@
 use Rattle.std.proofs.Common.{◌≡◌, ◌≤◌, ◌^◌, ◌-◌, min, drop}
 use Rattle.ge_model_text.specs.Value.{number_with_digits}
-use Rattle.ge_model_value.specs.Pieces.{number_of}
+use Rattle.ge_model_rows.specs.Pieces.{number_of}
 use Rattle.ge_options.proofs.ranges.wide_worth.Given as goal
 
 abbrev pub invariant-loop-digit : goal.invariant-loop-digit

@@ -1,5 +1,5 @@
 use Rattle.std.proofs.Common.{◌≡◌, drop, map}
-use Rattle.ge_model_value.specs.Pieces.{is_one_of}
+use Rattle.ge_model_rows.specs.Pieces.{is_one_of}
 use Rattle.ge_pieces.proofs.comparing.is_in.Given as goal
 
 abbrev pub invariant-loop-word : goal.invariant-loop-word

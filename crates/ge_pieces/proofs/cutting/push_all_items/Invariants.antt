@@ -1,6 +1,6 @@
 use Rattle.std.proofs.Common.{◌≡◌, ◌++◌, take, map}
 use Rattle.std.specs.Prelude.{flat_map}
-use Rattle.ge_model_value.specs.Pieces.{items_between}
+use Rattle.ge_model_rows.specs.Pieces.{items_between}
 use Rattle.ge_pieces.proofs.cutting.push_all_items.Given as goal
 
 abbrev pub invariant-loop-slice : goal.invariant-loop-slice

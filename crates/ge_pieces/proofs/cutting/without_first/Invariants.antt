@@ -1,5 +1,5 @@
 use Rattle.std.proofs.Common.{◌≡◌, length}
-use Rattle.ge_model_value.specs.Pieces.{without_first_blanks}
+use Rattle.ge_model_rows.specs.Pieces.{without_first_blanks}
 use Rattle.ge_pieces.proofs.cutting.without_first.Given as goal
 
 abbrev pub invariant-loop-first : goal.invariant-loop-first

@@ -1,5 +1,5 @@
 use Rattle.std.proofs.Common.{◌≡◌, length}
-use Rattle.ge_model_value.specs.Pieces.{without_last_blanks}
+use Rattle.ge_model_rows.specs.Pieces.{without_last_blanks}
 use Rattle.ge_pieces.proofs.cutting.without_last.Given as goal
 
 abbrev pub invariant-loop-last : goal.invariant-loop-last

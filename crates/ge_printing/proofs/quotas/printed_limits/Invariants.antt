@@ -1,6 +1,6 @@
 use Rattle.std.proofs.Common.{◌≡◌, ◌++◌, map}
 use Rattle.ge_model_rows.specs.ValueRows.{Amount}
-use Rattle.ge_model_value.specs.Complexes.{pair_text}
+use Rattle.ge_model_rows.specs.Complexes.{pair_text}
 use Rattle.ge_printing.proofs.quotas.printed_limits.Given as goal
 
 abbrev pub invariant-loop-name : goal.invariant-loop-name

@@ -1,5 +1,5 @@
 use Rattle.std.proofs.Common.{◌≡◌, ◌++◌, map}
-use Rattle.ge_model_value.specs.Complexes.{pair_text}
+use Rattle.ge_model_rows.specs.Complexes.{pair_text}
 use Rattle.ge_printing.proofs.values.printed_pairs.Given as goal
 
 abbrev pub invariant-loop-name : goal.invariant-loop-name

@@ -1,6 +1,6 @@
 use Rattle.std.proofs.Common.{◌≡◌, drop, fold}
-use Rattle.ge_model_site.specs.Groups.{hostlist_hosts}
-use Rattle.ge_model_site.specs.Queues.{with_host}
+use Rattle.ge_model_rows.specs.Groups.{hostlist_hosts}
+use Rattle.ge_model_rows.specs.Queues.{with_host}
 use Rattle.ge_queues.proofs.hostlists.add_entries.Given as goal
 
 abbrev pub invariant-loop-entry : goal.invariant-loop-entry

@@ -1,5 +1,5 @@
 use Rattle.std.proofs.Common.{◌≡◌, drop, fold}
-use Rattle.ge_model_site.specs.Queues.{with_host}
+use Rattle.ge_model_rows.specs.Queues.{with_host}
 use Rattle.ge_queues.proofs.hostlists.add_hosts.Given as goal
 
 abbrev pub invariant-loop-host : goal.invariant-loop-host

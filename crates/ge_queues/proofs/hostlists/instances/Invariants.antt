@@ -1,6 +1,6 @@
 use Rattle.std.proofs.Common.{◌≡◌, ◌++◌}
 use Rattle.std.specs.Prelude.{flat_map}
-use Rattle.ge_model_site.specs.Queues.{queue_instances}
+use Rattle.ge_model_rows.specs.Queues.{queue_instances}
 use Rattle.ge_queues.proofs.hostlists.instances.Given as goal
 
 abbrev pub invariant-loop-name : goal.invariant-loop-name

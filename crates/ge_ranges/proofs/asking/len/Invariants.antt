@@ -1,5 +1,5 @@
 use Rattle.std.proofs.Common.{◌≡◌, take}
-use Rattle.ge_model_tasks.specs.Sets.{count_of}
+use Rattle.ge_model_rows.specs.Sets.{count_of}
 use Rattle.ge_ranges.proofs.asking.len.Given as goal
 
 abbrev pub invariant-loop-span : goal.invariant-loop-span

@@ -1,6 +1,6 @@
 use Rattle.std.proofs.Common.{List, ap, ◌∙◌}
 use Rattle.ge_model_rows.specs.TaskRows.{TaskSpan, is_form}
-use Rattle.ge_model_tasks.proofs.Together.{union_form}
+use Rattle.ge_model_rows.proofs.Together.{union_form}
 use Rattle.ge_ranges.proofs.combining.union.Goals as goal
 
 pub from_spans-requires : goal.from_spans-requires

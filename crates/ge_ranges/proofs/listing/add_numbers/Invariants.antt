@@ -1,6 +1,6 @@
 use Rattle.std.proofs.Common.{◌≡◌, ◌++◌, List, drop, map}
 use Rattle.ge_model_rows.specs.TaskRows.{TaskSpan}
-use Rattle.ge_model_tasks.specs.Spans.{one}
+use Rattle.ge_model_rows.specs.Spans.{one}
 use Rattle.ge_ranges.specs.Forming.{formed_from}
 use Rattle.ge_ranges.proofs.listing.add_numbers.Given as goal
 

@@ -1,6 +1,6 @@
 use Rattle.std.proofs.Common.{◌-◌, List, take, ap, ◌∙◌, arith}
 use Rattle.ge_model_rows.specs.TaskRows.{TaskSpan}
-use Rattle.ge_model_tasks.specs.Sets.{numbers_of}
+use Rattle.ge_model_rows.specs.Sets.{numbers_of}
 use Rattle.ge_ranges.specs.Forming.{have_seconds}
 use Rattle.ge_ranges.proofs.Seconds.{form_seconds, second_there}
 use Rattle.ge_ranges.proofs.Listed.{more_taken, no_room}

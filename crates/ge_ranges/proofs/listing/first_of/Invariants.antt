@@ -1,5 +1,5 @@
 use Rattle.std.proofs.Common.{◌≡◌, take}
-use Rattle.ge_model_tasks.specs.Sets.{numbers_of}
+use Rattle.ge_model_rows.specs.Sets.{numbers_of}
 use Rattle.ge_ranges.proofs.listing.first_of.Given as goal
 
 abbrev pub invariant-loop-span : goal.invariant-loop-span

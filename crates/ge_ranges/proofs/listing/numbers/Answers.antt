@@ -1,5 +1,5 @@
 use Rattle.std.proofs.Common.{take, ap, ◌∙◌}
-use Rattle.ge_model_tasks.specs.Sets.{numbers_of}
+use Rattle.ge_model_rows.specs.Sets.{numbers_of}
 use Rattle.ge_ranges.proofs.Listed.{all_numbers}
 use Rattle.ge_ranges.proofs.listing.numbers.Goals as goal
 

@@ -1,5 +1,5 @@
 use Rattle.std.proofs.Common.{◌≡◌, ◌+◌, ◌-◌, ◌*◌, ◌++◌, ℕ, List, [], ◌∷◌, min, sym, ap, ◌∙◌, arith, append-nil}
-use Rattle.ge_model_tasks.specs.Spans.{steps_of, stepping}
+use Rattle.ge_model_rows.specs.Spans.{steps_of, stepping}
 use Rattle.ge_ranges.proofs.Listed.{next_number, steps_taken}
 use Rattle.ge_ranges.proofs.listing.push_span.Goals as goal
 

@@ -1,5 +1,5 @@
 use Rattle.std.proofs.Common.{◌≡◌, ◌+◌, ◌-◌, ◌*◌, ◌++◌}
-use Rattle.ge_model_tasks.specs.Spans.{stepping}
+use Rattle.ge_model_rows.specs.Spans.{stepping}
 use Rattle.ge_ranges.proofs.listing.push_span.Given as goal
 
 abbrev pub invariant-loop-place : goal.invariant-loop-place

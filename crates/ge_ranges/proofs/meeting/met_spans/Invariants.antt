@@ -1,5 +1,5 @@
 use Rattle.std.proofs.Common.{◌≡◌, ◌+◌, ◌++◌, length}
-use Rattle.ge_model_tasks.specs.Spans.{in_form}
+use Rattle.ge_model_rows.specs.Spans.{in_form}
 use Rattle.ge_ranges.specs.Forming.{formed_from}
 use Rattle.ge_ranges.specs.Meeting.{met}
 use Rattle.ge_ranges.proofs.meeting.met_spans.Given as goal

@@ -1,7 +1,7 @@
 use Rattle.std.proofs.Common.{◌≡◌, ◌++◌, true}
 use Rattle.std.specs.Option.{option_to_list}
-use Rattle.ge_model_tasks.specs.Spans.{in_form}
-use Rattle.ge_model_tasks.specs.Sets.{merged}
+use Rattle.ge_model_rows.specs.Spans.{in_form}
+use Rattle.ge_model_rows.specs.Sets.{merged}
 use Rattle.ge_ranges.specs.Forming.{formed_from, have_seconds}
 use Rattle.ge_ranges.proofs.merging.merge.Given as goal
 

@@ -1,5 +1,5 @@
 use Rattle.std.proofs.Common.{◌≡◌, drop, []}
-use Rattle.ge_model_tasks.specs.Ranges.{with_ranges}
+use Rattle.ge_model_rows.specs.Ranges.{with_ranges}
 use Rattle.ge_ranges.proofs.parsing.join_ranges.Given as goal
 
 abbrev pub invariant-loop-range : goal.invariant-loop-range

@@ -1,6 +1,6 @@
 use Rattle.std.proofs.Common.{◌≡◌, ◌++◌, drop, map}
 use Rattle.std.specs.Prelude.{option_map}
-use Rattle.ge_model_tasks.specs.Ranges.{ranges_of}
+use Rattle.ge_model_rows.specs.Ranges.{ranges_of}
 use Rattle.ge_ranges.proofs.parsing.read_ranges.Given as goal
 
 abbrev pub invariant-loop-text : goal.invariant-loop-text

@@ -1,6 +1,6 @@
 use Rattle.std.proofs.Common.{◌≡◌, ◌++◌, List, drop}
 use Rattle.ge_model_rows.specs.TaskRows.{TaskSpan}
-use Rattle.ge_model_tasks.specs.Sets.{above}
+use Rattle.ge_model_rows.specs.Sets.{above}
 use Rattle.ge_ranges.specs.Forming.{formed_from}
 use Rattle.ge_ranges.proofs.putting.add_above.Given as goal
 

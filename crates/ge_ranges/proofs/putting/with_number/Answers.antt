@@ -1,7 +1,7 @@
 use Rattle.std.proofs.Common.{List, ap, ◌∙◌}
 use Rattle.ge_model_rows.specs.TaskRows.{TaskSpan, is_form}
-use Rattle.ge_model_tasks.specs.Sets.{with_number}
-use Rattle.ge_model_tasks.proofs.Sets.{with_number_form}
+use Rattle.ge_model_rows.specs.Sets.{with_number}
+use Rattle.ge_model_rows.proofs.Sets.{with_number_form}
 use Rattle.ge_ranges.specs.Forming.{have_seconds}
 use Rattle.ge_ranges.proofs.Seconds.{form_seconds}
 use Rattle.ge_ranges.proofs.putting.with_number.Goals as goal

@@ -1,6 +1,6 @@
 use Rattle.std.proofs.Common.{List, ap, ◌∙◌}
 use Rattle.ge_model_rows.specs.TaskRows.{TaskSpan, is_form}
-use Rattle.ge_model_tasks.specs.Sets.{without_number}
+use Rattle.ge_model_rows.specs.Sets.{without_number}
 use Rattle.ge_ranges.proofs.Stays.{without_form}
 use Rattle.ge_ranges.specs.Forming.{have_seconds}
 use Rattle.ge_ranges.proofs.Seconds.{form_seconds}

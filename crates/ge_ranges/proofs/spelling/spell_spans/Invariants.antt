@@ -1,5 +1,5 @@
 use Rattle.std.proofs.Common.{◌≡◌, map, take}
-use Rattle.ge_model_tasks.specs.SetText.{span_text}
+use Rattle.ge_model_rows.specs.SetText.{span_text}
 use Rattle.ge_ranges.proofs.spelling.spell_spans.Given as goal
 
 abbrev pub invariant-loop-span : goal.invariant-loop-span

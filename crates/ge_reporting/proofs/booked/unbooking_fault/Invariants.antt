@@ -1,6 +1,6 @@
 use Rattle.std.proofs.Common.{◌≡◌, drop}
 use Rattle.std.specs.Prelude.{flat_map}
-use Rattle.ge_model_value.specs.Faults.{after_faults, first_fault}
+use Rattle.ge_model_rows.specs.Faults.{after_faults, first_fault}
 use Rattle.ge_model_core.specs.Booking.{unbook_faults}
 use Rattle.ge_reporting.proofs.booked.unbooking_fault.Given as goal
 

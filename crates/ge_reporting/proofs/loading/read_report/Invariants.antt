@@ -1,6 +1,6 @@
 use Rattle.std.proofs.Common.{◌≡◌, drop, fold}
 use Rattle.std.specs.Prelude.{flat_map}
-use Rattle.ge_model_value.specs.Faults.{after_faults}
+use Rattle.ge_model_rows.specs.Faults.{after_faults}
 use Rattle.ge_model_core.specs.Reports.{report_faults, add_reported, report_of}
 use Rattle.ge_reporting.proofs.loading.read_report.Given as goal
 

@@ -1,6 +1,6 @@
 use Rattle.std.proofs.Common.{◌≡◌, take, map}
 use Rattle.std.specs.Prelude.{flat_map}
-use Rattle.ge_model_value.specs.Pieces.{pieces_at}
+use Rattle.ge_model_rows.specs.Pieces.{pieces_at}
 use Rattle.ge_request.proofs.options.items_of.Given as goal
 
 abbrev pub invariant-loop-word : goal.invariant-loop-word

@@ -1,7 +1,7 @@
 use Rattle.std.proofs.Common.{◌≡◌, ◌++◌, map, filter}
 use Rattle.ge_model_place.specs.Limits.{consumables}
 use Rattle.ge_model_rows.specs.ScheduleRows.{Host}
-use Rattle.ge_model_value.specs.Complexes.{is_consumable}
+use Rattle.ge_model_rows.specs.Complexes.{is_consumable}
 use Rattle.ge_scheduling.specs.Amounts.{number_in}
 use Rattle.ge_scheduling.specs.Rests.{rest_of}
 use Rattle.ge_scheduling.proofs.rests.add_values.Given as goal

@@ -1,6 +1,6 @@
 use Rattle.std.proofs.Common.{◌≡◌}
 use Rattle.std.specs.List.{list_any}
-use Rattle.ge_model_value.specs.Complexes.{is_consumable}
+use Rattle.ge_model_rows.specs.Complexes.{is_consumable}
 use Rattle.ge_submitting.proofs.advances.has_consumable.Given as goal
 
 abbrev pub invariant-loop-name : goal.invariant-loop-name

@@ -1,7 +1,7 @@
 use Rattle.std.proofs.Common.{◌≡◌, drop, map}
 use Rattle.std.specs.Prelude.{fold, flat_map}
 use Rattle.std.specs.List.{list_any}
-use Rattle.ge_model_value.specs.Pieces.{with_one_number}
+use Rattle.ge_model_rows.specs.Pieces.{with_one_number}
 use Rattle.ge_model_core.specs.HoldLists.{named_by, is_unknown_number}
 use Rattle.ge_submitting.specs.Listing.{Knows}
 use Rattle.ge_submitting.proofs.hold_lists.list_items.Given as goal

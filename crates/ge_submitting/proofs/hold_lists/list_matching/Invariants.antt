@@ -1,6 +1,6 @@
 use Rattle.std.proofs.Common.{◌≡◌}
 use Rattle.std.specs.Prelude.{fold}
-use Rattle.ge_model_value.specs.Pieces.{with_one_number}
+use Rattle.ge_model_rows.specs.Pieces.{with_one_number}
 use Rattle.ge_submitting.specs.Listing.{Knows}
 use Rattle.ge_submitting.specs.Holding.{named_shown, numbers_matching}
 use Rattle.ge_submitting.proofs.hold_lists.list_matching.Given as goal

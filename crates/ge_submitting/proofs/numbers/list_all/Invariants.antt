@@ -1,6 +1,6 @@
 use Rattle.std.proofs.Common.{◌≡◌, take}
 use Rattle.std.specs.Prelude.{fold}
-use Rattle.ge_model_value.specs.Pieces.{with_one_number}
+use Rattle.ge_model_rows.specs.Pieces.{with_one_number}
 use Rattle.ge_submitting.specs.Listing.{Knows}
 use Rattle.ge_submitting.proofs.numbers.list_all.Given as goal
 

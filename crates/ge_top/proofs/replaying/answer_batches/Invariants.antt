@@ -4,9 +4,9 @@ use Rattle.std.specs.Prelude.{option_map}
 use Rattle.ge_model_core.specs.Plan.{plan_of}
 use Rattle.ge_script.specs.Pieces.{coming, given_count, total_count, IsOver}
 use Rattle.ge_spool.specs.Settled.{generation_of}
-use Rattle.ge_master.specs.Areas.{areas_of}
-use Rattle.ge_master.specs.Homes.{IsHome}
-use Rattle.ge_master.specs.Masters.{HasLength, parts_of}
+use Rattle.ge_serve.specs.Areas.{areas_of}
+use Rattle.ge_serve.specs.Homes.{IsHome}
+use Rattle.ge_serve.specs.Masters.{HasLength, parts_of}
 use Rattle.ge_top.specs.Ledgers.{ledger_of}
 use Rattle.ge_top.proofs.RunsTold.{RunSoFar}
 use Rattle.ge_top.proofs.replaying.answer_batches.Given as goal

@@ -1,7 +1,7 @@
 use Rattle.std.proofs.Common.{ap, sym, ◌∙◌}
 use Rattle.std.specs.Map.{keys_of}
-use Rattle.ge_model_value.specs.Complexes.{opening_complexes}
-use Rattle.ge_model_value.specs.Pieces.{is_one_of}
+use Rattle.ge_model_rows.specs.Complexes.{opening_complexes}
+use Rattle.ge_model_rows.specs.Pieces.{is_one_of}
 use Rattle.ge_used.proofs.OpeningNames.{has_key}
 use Rattle.ge_used.proofs.opening.is_opening_complex.Goals as goal
 

@@ -1,5 +1,5 @@
 use Rattle.std.proofs.Common.{refl}
-use Rattle.ge_model_value.specs.Complexes.{opening_complexes}
+use Rattle.ge_model_rows.specs.Complexes.{opening_complexes}
 use Rattle.ge_used.proofs.opening.names.Goals as goal
 
 pub returns : goal.returns

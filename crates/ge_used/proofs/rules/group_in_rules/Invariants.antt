@@ -1,6 +1,6 @@
 use Rattle.std.proofs.Common.{◌≡◌}
 use Rattle.std.specs.List.{list_any}
-use Rattle.ge_model_value.specs.Pieces.{is_one_of}
+use Rattle.ge_model_rows.specs.Pieces.{is_one_of}
 use Rattle.ge_model_config.specs.Quotas.{elements_of}
 use Rattle.ge_used.proofs.rules.group_in_rules.Given as goal
 

@@ -1,6 +1,6 @@
 use Rattle.std.proofs.Common.{◌≡◌}
 use Rattle.std.specs.List.{list_any}
-use Rattle.ge_model_value.specs.Pieces.{is_one_of}
+use Rattle.ge_model_rows.specs.Pieces.{is_one_of}
 use Rattle.std.specs.Prelude.{◌||◌, ◌&&◌, ◌∷◌}
 use Rattle.ge_used.proofs.sites.set_in_pes.Given as goal
 

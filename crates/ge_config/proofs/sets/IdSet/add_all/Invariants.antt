@@ -1,6 +1,6 @@
 use Rattle.std.proofs.Common.{◌≡◌, drop}
 use Rattle.std.specs.Prelude.{fold}
-use Rattle.ge_model_value.specs.Pieces.{with_one_number}
+use Rattle.ge_model_rows.specs.Pieces.{with_one_number}
 use Rattle.ge_config.proofs.sets.IdSet.add_all.Given as goal
 
 abbrev pub invariant-loop-id : goal.invariant-loop-id

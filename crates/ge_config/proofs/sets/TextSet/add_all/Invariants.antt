@@ -1,6 +1,6 @@
 use Rattle.std.proofs.Common.{◌≡◌, drop, map}
 use Rattle.std.specs.Prelude.{fold}
-use Rattle.ge_model_value.specs.Pieces.{with_text}
+use Rattle.ge_model_rows.specs.Pieces.{with_text}
 use Rattle.ge_config.proofs.sets.TextSet.add_all.Given as goal
 
 abbrev pub invariant-loop-text : goal.invariant-loop-text

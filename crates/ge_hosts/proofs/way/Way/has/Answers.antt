@@ -1,5 +1,5 @@
 use Rattle.std.proofs.Common.{◌∙◌, ap}
-use Rattle.ge_model_value.specs.Pieces.{is_one_of}
+use Rattle.ge_model_rows.specs.Pieces.{is_one_of}
 use Rattle.ge_hosts.specs.Walks.{names_on}
 use Rattle.ge_hosts.proofs.Ways.{on_way}
 use Rattle.ge_hosts.proofs.way.Way.has.Goals as goal

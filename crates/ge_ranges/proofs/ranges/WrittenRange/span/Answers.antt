@@ -1,6 +1,6 @@
 use Rattle.std.proofs.Common.{sym, ap, ◌∙◌}
 use Rattle.ge_model_rows.specs.TaskRows.{TaskSpan, is_form}
-use Rattle.ge_model_tasks.specs.Ranges.{range_set}
+use Rattle.ge_model_rows.specs.Ranges.{range_set}
 use Rattle.ge_ranges.proofs.Written.{written_form}
 use Rattle.ge_ranges.proofs.ranges.WrittenRange.span.Goals as goal
 

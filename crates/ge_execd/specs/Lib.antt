@@ -1,0 +1,3 @@
+pub mod Daemons
+pub mod Orders
+pub mod Shows

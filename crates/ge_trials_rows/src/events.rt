@@ -1,0 +1,21 @@
+//! Events of a script.
+
+use ge_rows::{Event, List};
+use ge_script::{next_request, read_event};
+use std::alloc::{AllocError, Global};
+
+/// The events of a script.
+pub fn read_events(alloc: Global, script: &[u8]) -> Result<List<Event>, AllocError> {
+    let mut events = List::new(alloc);
+    let mut rest = script;
+    for _ in 0..script.len() {
+        match next_request(rest) {
+            Some((request, after)) => {
+                events.push(read_event(alloc, request)?)?;
+                rest = after;
+            }
+            None => return Ok(events),
+        }
+    }
+    Ok(events)
+}

@@ -1,0 +1,18 @@
+//! What the programs of trials share: rows and their answers, bytes in hex, scripts that a few lines make.
+//!
+//! - [`bytes`], [`push_bytes`], [`push_answer`]: the bytes that a row gives, and the line that is told of it.
+//! - [`push_word`], [`bytes_of`], [`area`]: bytes of an area as words of hex, and an area that holds them.
+//! - [`made`]: a script that is made from a few lines. [`read_events`]: the events of a script. [`checksum`]: of what is told.
+#![tactic(auto)]
+
+mod areas;
+mod events;
+mod making;
+mod rows;
+mod sums;
+
+pub use areas::{area, bytes_of, push_word};
+pub use events::read_events;
+pub use making::made;
+pub use rows::{bytes, push_answer, push_bytes};
+pub use sums::checksum;

@@ -1,0 +1,95 @@
+//! Pages of rows that each ask one call: how texts are read, cut, joined and written; values, who may, requests, groups of hosts,
+//! and what there is at instances.
+//!
+//! A row is the name of a call and what it is given: `|` parts what several are given. What is told of it is what the call
+//! answers. The stored answers were worked out by hand from the rules of the manual pages, or are those of programs in another
+//! language.
+
+use crate::sites::{Site, site_of};
+use crate::{
+    access, amounts, cutting, groups, naming, queues, refusals, requests, values, writing,
+};
+use ge_pieces::{before, behind, slices_at};
+use ge_rows::Text;
+use ge_trials_rows::{bytes, push_answer};
+use std::alloc::{AllocError, Global};
+use std::io;
+use std::io::ErrorKind;
+
+/// Whether a word is this one. Its caller need not know what that says of each byte, as it would of a pattern.
+pub(crate) fn is_named(word: &[u8], other: &[u8]) -> bool {
+    word == other
+}
+
+/// A word of whether something holds.
+pub(crate) fn yes_or_no(alloc: Global, holds: bool) -> Result<Text, AllocError> {
+    Text::from_bytes(alloc, if holds { b"yes" } else { b"no" })
+}
+
+/// A number, or a word where there is none.
+pub(crate) fn number(alloc: Global, number: Option<u64>) -> Result<Text, AllocError> {
+    match number {
+        Some(number) => Text::from_bytes(alloc, number.to_string(alloc)?.as_bytes()),
+        None => Text::from_bytes(alloc, b"none"),
+    }
+}
+
+/// The answer to a name that no call has.
+pub(crate) fn no_call(alloc: Global) -> Result<Text, AllocError> {
+    Text::from_bytes(alloc, b"no such call")
+}
+
+// What a call answers, by the kind of its page.
+fn answer(alloc: Global, kind: &[u8], site: &Site, name: &[u8], given: &[u8]) -> io::Result<Text> {
+    let text = if is_named(kind, b"amounts") {
+        amounts::answer(alloc, name, given)?
+    } else if is_named(kind, b"cuts") {
+        cutting::answer(alloc, name, given)?
+    } else if is_named(kind, b"names") {
+        naming::answer(alloc, name, given)?
+    } else if is_named(kind, b"numbers") {
+        writing::answer(alloc, name, given)?
+    } else if is_named(kind, b"refusals") {
+        refusals::answer(alloc, name, given)?
+    } else if is_named(kind, b"values") {
+        values::answer(alloc, name, given)?
+    } else if is_named(kind, b"groups") {
+        groups::answer(alloc, name, given)?
+    } else if is_named(kind, b"access") {
+        access::answer(alloc, &site.cluster, name, given)?
+    } else if is_named(kind, b"requests") {
+        requests::answer(alloc, &site.cluster, name, given)?
+    } else if is_named(kind, b"instances") {
+        queues::answer(alloc, site, name, given)?
+    } else {
+        return Err(io::Error::from(ErrorKind::InvalidInput));
+    };
+    Ok(text)
+}
+
+// What is told of each row, asked of a site.
+fn told(alloc: Global, kind: &[u8], site: &Site, rows: &[u8]) -> io::Result<Vec<u8>> {
+    let mut text = Vec::new(alloc);
+    for row in slices_at(alloc, b'\n', rows)?.as_slice() {
+        let given = bytes(alloc, behind(b' ', row))?;
+        let answer = answer(alloc, kind, site, before(b' ', row), given.as_slice())?;
+        push_answer(alloc, &mut text, row, answer.bytes())?;
+    }
+    Ok(text)
+}
+
+// Whether the pages of a kind begin with a script.
+fn has_script(kind: &[u8]) -> bool {
+    is_named(kind, b"access") || is_named(kind, b"requests") || is_named(kind, b"instances")
+}
+
+/// A page of rows: `amounts`, `cuts`, `names`, `numbers`, `refusals`, `values`, `groups`, `access`, `requests` or `instances`. One of
+/// the last three begins with a script that makes the site, and with a line `~` behind that.
+pub(crate) fn rows_page(alloc: Global, kind: &[u8], body: &[u8]) -> io::Result<Vec<u8>> {
+    if has_script(kind) {
+        let site = site_of(alloc, before(b'~', body))?;
+        told(alloc, kind, &site, behind(b'\n', behind(b'~', body)))
+    } else {
+        told(alloc, kind, &site_of(alloc, b"")?, body)
+    }
+}
