@@ -5,7 +5,7 @@ ghost use Rattle.ge_model_jobs.specs.Configuring.{with_sched, with_item, without
 
 use crate::hosts::put_host;
 use crate::usages::convert;
-use ge_rows::{Cluster, Item, Key, List, ObjectKind, Row, Sched, Table, Text, Twin, twins2};
+use ge_rows::{Cluster, Item, Key, List, ObjectKind, Sched, Table, Text, Twin, twins2};
 use std::alloc::{AllocError, Global};
 use std::mem;
 
@@ -18,7 +18,7 @@ fn replace<T: Twin + Drop>(alloc: Global, place: &mut T, new: &T) -> Result<(), 
 }
 
 // A row under its name.
-fn put<V: Row + Twin + Drop>(
+fn put<V: Twin + Drop>(
     alloc: Global,
     rows: &mut Table<Text, V>,
     name: &Text,
@@ -74,7 +74,7 @@ pub(crate) fn put_item(
 }
 
 // The row of a name goes.
-fn drop_row<V: Row + Drop>(rows: &mut Table<Text, V>, name: &Text)
+fn drop_row<V: Drop>(rows: &mut Table<Text, V>, name: &Text)
     ensures { rows.new ≡ drop_text rows.old name.now }
 {
     let _row = rows.remove(name);

@@ -5,7 +5,8 @@ ghost use Rattle.ge_collections.specs.Keyed.{put_text};
 ghost use Rattle.ge_model_jobs.specs.Configuring.{load_of, with_load_report, with_load};
 ghost use Rattle.ge_applying.specs.Loads.{host_with_values};
 
-use ge_rows::{Cluster, HostRow, Table, Text, TryEdit, Twin, Value, twins2};
+use ge_collections::TryEdit;
+use ge_rows::{Cluster, HostRow, Table, Text, Twin, Value, twins2};
 use std::alloc::{AllocError, Global};
 
 // What a host has reported, nothing where it isn't there.
@@ -68,14 +69,6 @@ struct Reported<'a> {
 
 impl TryEdit<HostRow> for Reported<'_> {
     ghost edited = { λ r host. with_load_report r.report.now host };
-
-    fn lost(&self, alloc: Global, _host: &HostRow) -> Result<Vec<()>, AllocError> {
-        Ok(Vec::new(alloc))
-    }
-
-    fn gained(&self, alloc: Global, _host: &HostRow) -> Result<Vec<()>, AllocError> {
-        Ok(Vec::new(alloc))
-    }
 
     fn try_edit(&self, alloc: Global, host: &mut HostRow) -> Result<(), AllocError> {
         let mut load = host.load.twin(alloc)?;

@@ -3,8 +3,8 @@ ghost use Rattle.std.specs.Prelude.{◌≡◌, OnOk, fold};
 ghost use Rattle.ge_model_jobs.specs.Altering.{with_job, alter_job, with_altered, change_job, held, with_held, freed, with_freed};
 ghost use Rattle.ge_model_jobs.specs.Ending.{clear_from, with_cleared};
 
-use ge_jobs::{JobTable, NamedTasks, alter, clear_named, hold, joined, release, submit};
-use ge_rows::{Cluster, JobRow, Patch, Pick, Table};
+use ge_jobs::{NamedTasks, alter, clear_named, hold, joined, release, submit};
+use ge_rows::{Cluster, JobRow, JobTable, Patch, Pick, Table};
 use std::alloc::{AllocError, Global};
 
 /// A job comes, and the next one has the number after it.

@@ -4,8 +4,8 @@ ghost use Rattle.ge_model_jobs.specs.Starting.{start_task, greater_serial, seria
 ghost use Rattle.ge_applying.specs.Over.{over_numbers};
 
 use crate::bookings::give_up;
-use ge_jobs::{JobTable, start};
-use ge_rows::{Advance, Cluster, JobMark, List, MarkSort, Start, Table, Text};
+use ge_jobs::start;
+use ge_rows::{Advance, Cluster, JobMark, JobTable, List, MarkSort, Start, Table, Text};
 use std::alloc::{AllocError, Global};
 
 fn start_all(

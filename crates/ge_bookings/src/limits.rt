@@ -1,7 +1,7 @@
 // Whether two limits are one.
 ghost use Rattle.std.specs.Prelude.{◌≡◌};
 ghost use Rattle.ge_collections.specs.Keyed.{text_eq};
-ghost use Rattle.ge_model_bookings.specs.Bookings.{same_instance, same_filters, same_key, same_limit};
+ghost use Rattle.ge_model_place.specs.Bookings.{same_instance, same_filters, same_key, same_limit};
 
 use ge_rows::{InstanceId, LimitId, QuotaKey, Text};
 

@@ -1,6 +1,6 @@
 // The sum of a limit at a moment.
 ghost use Rattle.std.specs.Prelude.{◌≡◌, min};
-ghost use Rattle.ge_model_bookings.specs.Bookings.{greatest_sum, asked_of, demand_on, is_within, taken_by, plain_sum};
+ghost use Rattle.ge_model_place.specs.Bookings.{greatest_sum, asked_of, demand_on, is_within, taken_by, plain_sum};
 
 use crate::limits::is_same_limit;
 use ge_rows::{Booking, Demand, LimitId, List};

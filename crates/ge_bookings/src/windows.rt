@@ -1,6 +1,6 @@
 // Windows, and the greatest sum of a limit in one.
 ghost use Rattle.std.specs.Prelude.{◌≡◌};
-ghost use Rattle.ge_model_bookings.specs.Bookings.{forever, window_end, begins_inside, raised, peak as greatest};
+ghost use Rattle.ge_model_place.specs.Bookings.{forever, window_end, begins_inside, raised, peak as greatest};
 
 use crate::sums::sum_at;
 use ge_rows::{Booking, INFINITY, LimitId, List};

@@ -7,6 +7,7 @@
 
 mod canon;
 mod lists;
+mod maps;
 mod numbers;
 mod pairs;
 mod rows;

@@ -1,13 +1,6 @@
-pub mod Alike
+pub mod Walked
+pub mod Turns
 pub mod Changed
 pub mod Copied
-pub mod Found
-pub mod Gathered
 pub mod Heads
-pub mod Moves
 pub mod Noted
-pub mod Between
-pub mod Rows
-pub mod Shortened
-pub mod Ones
-pub mod Renewed

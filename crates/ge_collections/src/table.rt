@@ -1,99 +1,49 @@
 // A map in the order of its keys, with an owner.
-ghost use Rattle.std.specs.Prelude.{All, cond, None, Some, ◌≡◌, ℕ, ◌+◌, ◌^◌, ◌<◌, ◌≤◌, [], ◌∷◌, ◌++◌, length, IfOk, OnOk, OnErr, IsTrue, ◌↔◌, IsSome, is_some, ◌&&◌};
+ghost use Rattle.std.specs.Prelude.{None, Some, ◌≡◌, ◌<◌, [], length, IfOk, OnOk, OnErr, IsTrue, ◌↔◌, IsSome, ◌&&◌};
 ghost use Rattle.std.specs.Option.{option_copied, option_map};
 ghost use Rattle.std.specs.Cmp.Lexicographic.{pointwise, slice_cmp, slice_partial_cmp, lists_equiv, lists_agrees, lists_total, lists_ties, lists_per, lists_po};
 ghost use Rattle.std.specs.Ordering.{ordering_then, partial_ordering_then};
 ghost use Rattle.std.specs.Cmp.{on_equiv, and_equiv, then_agrees, on_total, then_total, both_tied, on_per, and_per, on_po, then_po};
 ghost use Rattle.std.specs.List.Sorted.{IsStrictlySortedBy};
 ghost use Rattle.std.specs.Map.{lookup, remove_entry, keys_of, values_of};
-ghost use Rattle.std.specs.Map.Iter.{ShowsInOrder, ShowsValuesInOrder, ShowsInReverse, deref, deref_pair, GivesInOrder};
+ghost use Rattle.std.specs.Map.Iter.{ShowsInOrder, ShowsValuesInOrder, ShowsInReverse, deref, deref_pair};
 ghost use Rattle.std.specs.BTreeMap.{insert_entry, is_at};
-ghost use Rattle.std.specs.BTreeMap.Range.{IsLeBy, IsLtBy, entries_between, EntryPlaces};
 ghost use Rattle.ge_collections.specs.Changed.{ChangesAt, change_value};
 
 use crate::edit::{Edit, TryEdit};
-use crate::kept::{Kept, gain, lose, make_room, shift};
-use crate::ledger::Ledger;
-use crate::moved::{make, try_make};
-use crate::row::Row;
-use crate::short_rows::{ShortRows, change_short, drop_short, put_short, ready};
-use crate::sums::Sums;
-use crate::twin::Twin;
 use std::alloc::{AllocError, Global};
 use std::cmp::Ordering;
 use std::collections::BTreeMap;
-use std::collections::btree_map::{IntoIter, Iter, Keys, Range, Values};
-use std::fmt::{self, Debug, Formatter, Write};
+use std::collections::btree_map::{Iter, Keys, Values};
 use std::marker::Model;
-use std::ops::RangeBounds;
 
 /// A map in the order of its keys. Contracts see the list of its pairs, whose keys strictly rise.
-///
-/// Beside its rows it keeps the sums of their weights, a ledger of their marks, so that questions about these need no
-/// walk, and short rows, where the type of its rows has them. Where there was no memory for the ledger once, or a sum didn't fit, the same questions walk the rows: no call
-/// fails for it.
-pub struct Table<K: Ord, V: Row> {
-    pub(crate) alloc: Global,
-    pub(crate) rows: BTreeMap<K, V>,
-    pub(crate) kept: Kept<K, V::Mark>,
-    pub(crate) shorts: Option<Box<ShortRows<K, V::Label, V::Facts>>>,
+pub struct Table<K: Ord, V> {
+    rows: BTreeMap<K, V>,
 }
 
-// Written out, so that letting a table go is one call where one is let go: its short rows, which it may not have, are
-// looked at here alone.
-impl<K: Ord + Drop, V: Row + Drop> Drop for Table<K, V> {
+// Written out, so that letting a table go is one call where one is let go.
+impl<K: Ord + Drop, V: Drop> Drop for Table<K, V> {
     fn drop(self) {
-        let Table {
-            alloc: _,
-            rows: _,
-            kept: _,
-            shorts: _,
-        } = self;
+        let Table { rows: _ } = self;
     }
 }
 
-impl<K: Ord, V: Row> Model for Table<K, V> {
-    ghost use Rattle.std.specs.Prelude.{List, All, IfSome};
-    ghost use Rattle.std.specs.BTreeMap.{is_at};
-    ghost use Rattle.std.specs.Map.{lookup, values_of};
-    ghost use Rattle.ge_collections.specs.Kept.{AreSums, Tells, times_at, weight_of};
-    ghost use Rattle.ge_collections.specs.Short.{AreShown};
+impl<K: Ord, V> Model for Table<K, V> {
+    ghost use Rattle.std.specs.Prelude.{List};
 
     ghost Value = { List (K × V) };
 
     ghost view = { λ t. t.rows.entries };
-
-    ghost invariant = { λ t.
-        AreSums t.kept.sums.whole t.kept.sums.first t.kept.sums.second
-        (weight_of (λ row. (V.weights row).0) t.rows.entries) (weight_of (λ row. (V.weights row).1) t.rows.entries)
-        × Tells K.cmp V.Mark.cmp t.kept.ledger.whole t.kept.ledger.bearers.entries
-        (λ mark key. times_at V.Mark.cmp V.marks mark (lookup (is_at (K.cmp key)) t.rows.entries))
-        × All V.IsOrderly (values_of t.rows.entries)
-        × IfSome t.shorts (λ b. AreShown K.cmp V.Label.cmp V.labels V.short
-        b.value.numbers.entries b.value.bound b.value.rows.entries
-        (λ q. lookup (is_at (K.cmp q)) t.rows.entries)) };
 }
 
-impl<K: Ord, V: Row> Table<K, V> {
+impl<K: Ord, V> Table<K, V> {
     /// The table of no pairs, which takes no memory.
     pub fn new(alloc: Global) -> Table<K, V>
         ensures { result ≡ [] }
     {
         Table {
-            alloc,
             rows: BTreeMap::new(alloc),
-            kept: Kept {
-                sums: Sums {
-                    whole: true,
-                    first: 0,
-                    second: 0,
-                },
-                ledger: Ledger {
-                    whole: true,
-                    bearers: BTreeMap::new(alloc),
-                },
-            },
-            shorts: None,
         }
     }
 
@@ -156,46 +106,27 @@ impl<K: Ord, V: Row> Table<K, V> {
         self.rows.values()
     }
 
-    /// The pairs whose keys lie in a range, in the order of their keys.
-    pub fn range<R: RangeBounds<K> + Drop>(&self, range: R) -> Range<'_, K, V>
-        requires { R.is_forward range (IsLeBy K.cmp) (IsLtBy K.cmp) }
-        ensures between { R.has_bounds range → result
-            ≡ entries_between K.cmp (R.start_bound range) (R.end_bound range) self.now }
-        ensures runs { ShowsInOrder (deref_pair {K = K} {X = V}) }
-        ensures runs_back { ShowsInReverse (deref_pair {K = K} {X = V}) }
-        ensures fits { length result < 2 ^ 63 }
-        ensures rising { IsStrictlySortedBy K.cmp (keys_of self.now) }
-        ensures places { EntryPlaces self.now result }
-    {
-        self.rows.range(range)
-    }
-
-    /// Does nothing. Its clauses tell what holds of every table: its keys rise, and each row is as its own types keep it.
+    /// Does nothing. Its clause tells what holds of every table: its keys rise.
     pub fn orderly(&self)
         ensures rising { IsStrictlySortedBy K.cmp (keys_of self.now) }
-        ensures rows { All V.IsOrderly (values_of self.now) }
     {
         let _count = self.rows.len();
     }
 }
 
-impl<K: Ord + Twin + Drop, V: Row> Table<K, V> {
+impl<K: Ord, V> Table<K, V> {
     /// Changes the value at a key where it lies, and tells whether there is one.
     pub fn change<E: Edit<V>>(&mut self, key: &K, edit: &E) -> bool
         ensures found { IsTrue result ↔ IsSome (lookup (is_at (K.cmp key.now)) self.old) }
         ensures changed { self.new ≡ change_value (is_at (K.cmp key.now)) (E.edited edit.now) self.old }
         ensures updates { ChangesAt K.cmp key.now (option_map (E.edited edit.now)) self.old self.new }
     {
-        match self.rows.get_mut(key) {
-            Some(row) => {
-                let moved = make(self.alloc, edit, row);
-                let shorts = self.shorts.take();
-                self.shorts = change_short(self.alloc, shorts, key, row, moved.relabels);
-                shift(self.alloc, &mut self.kept, key, moved);
-                true
-            }
-            None => false,
-        }
+        let row = match self.rows.get_mut(key) {
+            Some(row) => row,
+            None => return false,
+        };
+        edit.edit(row);
+        true
     }
 
     /// Changes the value at a key where it lies by an edit that may want memory, and tells whether there is one.
@@ -211,41 +142,29 @@ impl<K: Ord + Twin + Drop, V: Row> Table<K, V> {
         ensures updates { OnOk result (ChangesAt K.cmp key.now (option_map (E.edited edit.now)) self.old self.new) }
         ensures err { OnErr result (self.new ≡ self.old) }
     {
-        match self.rows.get_mut(key) {
-            Some(row) => match try_make(alloc, edit, row) {
-                Ok(moved) => {
-                    let shorts = self.shorts.take();
-                    self.shorts = change_short(alloc, shorts, key, row, moved.relabels);
-                    shift(alloc, &mut self.kept, key, moved);
-                    Ok(true)
-                }
-                Err(want) => Err(want),
-            },
-            None => Ok(false),
+        let row = match self.rows.get_mut(key) {
+            Some(row) => row,
+            None => return Ok(false),
+        };
+        if let Err(want) = edit.try_edit(alloc, row) {
+            return Err(want);
         }
+        Ok(true)
     }
 }
 
-impl<K: Ord + Drop, V: Row> Table<K, V> {
+impl<K: Ord + Drop, V> Table<K, V> {
     /// Takes the pair with this key out, and gives its value.
     pub fn remove(&mut self, key: &K) -> Option<V>
         ensures value { result ≡ lookup (is_at (K.cmp key.now)) self.old }
         ensures rest { self.new ≡ remove_entry (is_at (K.cmp key.now)) self.old }
         ensures updates { ChangesAt K.cmp key.now (λ _. None) self.old self.new }
     {
-        match self.rows.remove(key) {
-            Some(row) => {
-                lose(self.alloc, &mut self.kept, key, &row);
-                let shorts = self.shorts.take();
-                self.shorts = drop_short::<K, V>(shorts, key);
-                Some(row)
-            }
-            None => None,
-        }
+        self.rows.remove(key)
     }
 }
 
-impl<K: Ord + Twin + Drop, V: Row + Drop> Table<K, V> {
+impl<K: Ord + Drop, V: Drop> Table<K, V> {
     /// Puts a value at a key and gives the one that stood there. A key that stands stays as it is. A pair that
     /// finds no memory is dropped.
     pub fn insert(&mut self, key: K, value: V) -> Result<Option<V>, AllocError>
@@ -254,26 +173,14 @@ impl<K: Ord + Twin + Drop, V: Row + Drop> Table<K, V> {
         ensures updates { OnOk result (ChangesAt K.cmp key (λ _. Some value) self.old self.new) }
         ensures err { OnErr result (self.new ≡ self.old) }
     {
-        value.orderly();
-        make_room(self.alloc, &mut self.kept, &self.rows, &key);
-        gain(self.alloc, &mut self.kept, &key, &value);
-        let shorts = self.shorts.take();
-        let shorts = ready(self.alloc, shorts, &self.rows);
-        self.shorts = put_short(self.alloc, shorts, &key, &value);
         match self.rows.insert(key, value) {
             Ok(before) => Ok(before),
-            Err(refused) => {
-                let (key, value) = refused.value;
-                lose(self.alloc, &mut self.kept, &key, &value);
-                let shorts = self.shorts.take();
-                self.shorts = drop_short::<K, V>(shorts, &key);
-                Err(AllocError)
-            }
+            Err(_refused) => Err(AllocError),
         }
     }
 }
 
-impl<K: Ord, V: Row + PartialEq> PartialEq for Table<K, V> {
+impl<K: Ord, V: PartialEq> PartialEq for Table<K, V> {
     ghost eq = { pointwise (λ p q. K.eq p.0 q.0 && V.eq p.1 q.1) };
 
     ghost laws = { lists_per (and_per (on_per (λ p. p.0) K.PartialEq.laws) (on_per (λ p. p.1) V.laws)) };
@@ -283,11 +190,11 @@ impl<K: Ord, V: Row + PartialEq> PartialEq for Table<K, V> {
     }
 }
 
-impl<K: Ord, V: Row + Eq> Eq for Table<K, V> {
+impl<K: Ord, V: Eq> Eq for Table<K, V> {
     ghost laws = { lists_equiv (and_equiv (on_equiv (λ p. p.0) K.Eq.laws) (on_equiv (λ p. p.1) V.Eq.laws)) };
 }
 
-impl<K: Ord, V: Row + PartialOrd> PartialOrd for Table<K, V> {
+impl<K: Ord, V: PartialOrd> PartialOrd for Table<K, V> {
     ghost partial_cmp = { slice_partial_cmp (λ p q. partial_ordering_then (K.partial_cmp p.0 q.0) (V.partial_cmp p.1 q.1)) };
 
     ghost laws = { lists_po (then_po (on_po (λ p. p.0) K.PartialOrd.laws) (on_po (λ p. p.1) V.PartialOrd.laws)) };
@@ -297,7 +204,7 @@ impl<K: Ord, V: Row + PartialOrd> PartialOrd for Table<K, V> {
     }
 }
 
-impl<K: Ord, V: Row + Ord> Ord for Table<K, V> {
+impl<K: Ord, V: Ord> Ord for Table<K, V> {
     ghost cmp = { slice_cmp (λ p q. ordering_then (K.cmp p.0 q.0) (V.Ord.cmp p.1 q.1)) };
 
     ghost total = { lists_total (then_total (on_total (λ p. p.0) K.total) (on_total (λ p. p.1) V.Ord.total)) };
@@ -310,11 +217,5 @@ impl<K: Ord, V: Row + Ord> Ord for Table<K, V> {
 
     fn cmp(&self, other: &Table<K, V>) -> Ordering {
         self.rows.cmp(&other.rows)
-    }
-}
-
-impl<K: Ord + Debug, V: Row + Debug> Debug for Table<K, V> {
-    fn fmt<W: Write>(&self, f: &mut Formatter<W>) -> fmt::Result {
-        f.debug_struct("Table").field("rows", &self.rows).finish()
     }
 }

@@ -1,3 +1,12 @@
+pub mod FiveLines
+pub mod EightWords
+pub mod RuleLines
+pub mod RuleWords
+pub mod KnownOptions
+pub mod Lacking
+pub mod OneText
+pub mod Passed
+pub mod Steps
 pub mod FirstLine
 pub mod NoScript
 pub mod Removal

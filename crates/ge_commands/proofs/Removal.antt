@@ -7,7 +7,7 @@ use Rattle.ge_model_rows.specs.EntryRows.{ObjectKind}
 use Rattle.ge_model_grammar.specs.Configuring.{removed_kinds, with_name, removal}
 use Rattle.ge_pieces.specs.declared.reading.ReadFault.{ReadFault}
 use Rattle.ge_pieces.specs.Gives.{Gives}
-use Rattle.ge_options.specs.Lent.{texts}
+use Rattle.ge_commands.specs.Lent.{texts}
 use Rattle.ge_commands.specs.declared.configuring.NameVerb.TheVariants as naming
 use Rattle.ge_commands.specs.Made.{name_made}
 

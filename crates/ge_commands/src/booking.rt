@@ -3,10 +3,12 @@
 ghost use Rattle.std.specs.Prelude.{◌≡◌, codes};
 ghost use Rattle.ge_model_grammar.specs.Commands.{has_one_of, booking_by, booking, book_command, unbook_command};
 ghost use Rattle.ge_pieces.specs.Gives.{Gives};
-ghost use Rattle.ge_options.specs.Lent.{texts};
+ghost use Rattle.ge_commands.specs.Lent.{texts};
 
+use crate::merging::merged_reservation_options;
+use crate::naming::has_option;
+use crate::reading::read_reservation_options;
 use crate::targets::jobs_in;
-use ge_options::{has_option, merged_reservation_options, read_reservation_options};
 use ge_pieces::ReadFault;
 use ge_rows::{Command, Options};
 use std::alloc::Global;

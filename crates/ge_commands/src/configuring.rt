@@ -4,11 +4,11 @@ ghost use Rattle.std.specs.Prelude.{◌≡◌, ◌∷◌, [], Some};
 ghost use Rattle.ge_collections.specs.Keyed.{at_text};
 ghost use Rattle.ge_model_grammar.specs.Configuring.{named_kinds, added_kinds, modified_kinds, list_kinds, removed_kinds, printed_kinds, single_kinds, is_name_of, with_body, with_name, nameless_command, removal, printing, stopping, bare_form, config_command};
 ghost use Rattle.ge_pieces.specs.Gives.{Gives};
-ghost use Rattle.ge_options.specs.Lent.{texts};
+ghost use Rattle.ge_commands.specs.Lent.{texts};
 ghost use Rattle.ge_commands.specs.Made.{body_made, name_made};
 
-use ge_bodies::body;
-use ge_options::is_key;
+use crate::bodies::body;
+use crate::naming::is_key;
 use ge_pieces::{ReadFault, begins, is_a_group_name, is_a_name, is_word};
 use ge_rows::{Command, Key, ObjectKind, Text};
 use std::alloc::{AllocError, Global};

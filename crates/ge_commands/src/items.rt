@@ -6,9 +6,9 @@ ghost use Rattle.ge_model_grammar.specs.Lines.{read_after, read_each};
 ghost use Rattle.ge_model_grammar.specs.Targets.{job_number_of, wide_number, target_of, items_of, read_items};
 ghost use Rattle.ge_model_grammar.specs.Commands.{reported_pair};
 ghost use Rattle.ge_pieces.specs.Gives.{Gives, Leaves};
-ghost use Rattle.ge_options.specs.Lent.{texts};
+ghost use Rattle.ge_commands.specs.Lent.{texts};
 
-use ge_options::{read_range, tasks_of_range};
+use crate::ranges::{read_range, tasks_of_range};
 use ge_pieces::{ReadFault, before, behind, has, is_a_name, number_up_to, slices_at};
 use ge_rows::{List, Pick, Text};
 use std::alloc::{AllocError, Global};

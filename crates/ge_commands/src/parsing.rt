@@ -5,7 +5,7 @@ ghost use Rattle.ge_model_rows.specs.Pieces.{before_byte, behind_byte};
 ghost use Rattle.ge_model_grammar.specs.Commands.{line_command, command_in, command_of};
 ghost use Rattle.ge_model_grammar.specs.Parsing.{parsed};
 ghost use Rattle.ge_pieces.specs.Gives.{Gives, IsAnswered};
-ghost use Rattle.ge_options.specs.Lent.{texts};
+ghost use Rattle.ge_commands.specs.Lent.{texts};
 
 use crate::booking::{read_booking, read_unbooking};
 use crate::configuring::read_configuring;
@@ -13,8 +13,8 @@ use crate::reporting::{read_dispatch, read_end, read_load, read_orders, read_run
 use crate::showing::{read_accounting, read_showing, read_showing_booked};
 use crate::submitting::read_submission;
 use crate::targets::{HoldVerb, read_alteration, read_clearing, read_deletion, read_holding};
+use crate::wording::words_of_line;
 use ge_base::Refusal;
-use ge_options::words_of_line;
 use ge_pieces::{ReadFault, before, bytes_from, has_a_long_line, is_word};
 use ge_rows::{Command, Text};
 use std::alloc::Global;

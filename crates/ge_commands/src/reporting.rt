@@ -3,7 +3,7 @@
 ghost use Rattle.std.specs.Prelude.{◌≡◌};
 ghost use Rattle.ge_model_grammar.specs.Commands.{load_command, end_with, end_command, orders_command, dispatch_command, sched_command};
 ghost use Rattle.ge_pieces.specs.Gives.{Gives};
-ghost use Rattle.ge_options.specs.Lent.{texts};
+ghost use Rattle.ge_commands.specs.Lent.{texts};
 
 use crate::items::{Report, WideNumber, each_of, number_of_64_bits};
 use ge_pieces::{ReadFault, is_a_name};

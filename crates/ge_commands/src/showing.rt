@@ -3,7 +3,7 @@
 ghost use Rattle.std.specs.Prelude.{◌≡◌, IfOk};
 ghost use Rattle.ge_model_grammar.specs.Commands.{show_command, account_command, show_booked_command};
 ghost use Rattle.ge_pieces.specs.Gives.{Gives};
-ghost use Rattle.ge_options.specs.Lent.{texts};
+ghost use Rattle.ge_commands.specs.Lent.{texts};
 
 use crate::items::job_number;
 use ge_pieces::{ReadFault, is_a_name, is_word};

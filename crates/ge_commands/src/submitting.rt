@@ -3,11 +3,13 @@
 ghost use Rattle.std.specs.Prelude.{◌≡◌, ◌++◌, [], IfOk, OnOk};
 ghost use Rattle.ge_model_grammar.specs.Commands.{only_options, line_options, options_in, options_after, script_options, submission, submit_command};
 ghost use Rattle.ge_pieces.specs.Gives.{Gives, Leaves};
-ghost use Rattle.ge_options.specs.Lent.{texts, GivesAs};
-ghost use Rattle.ge_options.specs.Shown.{all_shown};
+ghost use Rattle.ge_commands.specs.Lent.{texts, GivesAs};
+ghost use Rattle.ge_commands.specs.Shown.{all_shown};
 ghost use Rattle.ge_commands.specs.Made.{added_to};
 
-use ge_options::{GivenOption, merged_job_options, owned, read_submission_options, words_of_line};
+use crate::merging::merged_job_options;
+use crate::reading::{GivenOption, read_submission_options};
+use crate::wording::{owned, words_of_line};
 use ge_pieces::{ReadFault, begins, slices_at};
 use ge_rows::{Command, Text};
 use std::alloc::{AllocError, Global};

@@ -5,11 +5,12 @@ ghost use Rattle.std.specs.List.{list_all};
 ghost use Rattle.ge_model_grammar.specs.Targets.{job_numbers_of, targets_of, is_hold_letter, bit_of, holds_of_letters as hold_bits};
 ghost use Rattle.ge_model_grammar.specs.Commands.{alteration, alter_command, delete_command, clear_command, with_letters, hold_command};
 ghost use Rattle.ge_pieces.specs.Gives.{Gives};
-ghost use Rattle.ge_options.specs.Lent.{texts};
+ghost use Rattle.ge_commands.specs.Lent.{texts};
 ghost use Rattle.ge_commands.specs.Made.{hold_made};
 
 use crate::items::{JobNumber, Target, items_in};
-use ge_options::{merged_job_options, read_alteration_options};
+use crate::merging::merged_job_options;
+use crate::reading::read_alteration_options;
 use ge_pieces::{ReadFault, has, is_word};
 use ge_rows::{Command, List, Pick};
 use std::alloc::Global;

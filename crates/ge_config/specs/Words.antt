@@ -5,7 +5,7 @@ use Rattle.ge_base.specs.declared.refusal.Refusal.TheVariants.{BadValue, Limit}
 use Rattle.ge_limits.specs.Limits as limit
 use Rattle.ge_model_rows.specs.ClusterRows.{Cluster}
 use Rattle.ge_model_rows.specs.ValueRows.{ComplexDef}
-use Rattle.ge_model_script.specs.Names.{is_name}
+use Rattle.ge_model_grammar.specs.Names.{is_name}
 use Rattle.ge_model_rows.specs.Faults.{when}
 use Rattle.ge_model_grammar.specs.declared.ComplexLine.{ComplexLine}
 use Rattle.ge_model_config.specs.Columns.{kind_of, relop_of, requestable_of, consumable_of}

@@ -6,7 +6,7 @@ ghost use Rattle.ge_pieces.specs.Gives.{Reads};
 use crate::named::{given_text, note_name};
 use crate::values::{Names, Number, Reader, any_of};
 use ge_base::Refusal;
-use ge_bodies::value_or;
+use ge_commands::value_or;
 use ge_limits::{PARALLEL_ENVIRONMENTS, SLOTS};
 use ge_pieces::is_word;
 use ge_rows::{Allocation, Cluster, Item, Kind, ObjectKind, PeRow, Text, UrgencySlots};

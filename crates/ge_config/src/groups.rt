@@ -9,11 +9,11 @@ ghost use Rattle.ge_pieces.specs.Gives.{Reads};
 use crate::named::{given_text, note_name};
 use crate::values::read_hostlist;
 use ge_base::Refusal;
-use ge_bodies::value_or;
-use ge_hosts::has_loop;
+use ge_commands::value_or;
 use ge_limits::HOST_GROUPS;
 use ge_pieces::note;
 use ge_rows::{Cluster, Item, List, ObjectKind, Table, Text, Twin, twins2};
+use ge_site::has_loop;
 use std::alloc::{AllocError, Global};
 
 // Notes where a group reaches itself once this one is there.

@@ -7,7 +7,7 @@ use crate::named::{given_text, note_absent_of_host, note_name};
 use crate::pairs::{Fitting, Values};
 use crate::values::Reader;
 use ge_base::Refusal;
-use ge_bodies::value_or;
+use ge_commands::value_or;
 use ge_limits::HOSTS;
 use ge_rows::{Cluster, Item, ObjectKind, Text};
 use std::alloc::{AllocError, Global};

@@ -9,9 +9,9 @@ ghost use Rattle.ge_model_config.specs.Named.{added_faults, changed_faults, name
 
 use crate::values::is_there;
 use ge_base::Refusal;
-use ge_bodies::value_or;
+use ge_commands::value_or;
 use ge_pieces::{is_a_group_name, is_a_name, is_word, note};
-use ge_rows::{ObjectKind, Row, Table, Text};
+use ge_rows::{ObjectKind, Table, Text};
 use std::alloc::{AllocError, Global};
 
 /// A copy of what a body gives an attribute, or of its default.
@@ -36,12 +36,7 @@ fn is_a_name_of(kind: ObjectKind, text: &[u8]) -> bool
 }
 
 // A new object takes a name that is free, and a place where its table has one.
-fn note_added<V: Row>(
-    faults: &mut Option<Refusal>,
-    most: usize,
-    table: &Table<Text, V>,
-    name: &Text,
-)
+fn note_added<V>(faults: &mut Option<Refusal>, most: usize, table: &Table<Text, V>, name: &Text)
     ensures { faults.new ≡ after_faults faults.old (added_faults most table.now name.now) }
 {
     let named = is_there(table, name);
@@ -50,14 +45,14 @@ fn note_added<V: Row>(
 }
 
 // An object to be changed has to be there.
-fn note_changed<V: Row>(faults: &mut Option<Refusal>, table: &Table<Text, V>, name: &Text)
+fn note_changed<V>(faults: &mut Option<Refusal>, table: &Table<Text, V>, name: &Text)
     ensures { faults.new ≡ after_faults faults.old (changed_faults table.now name.now) }
 {
     note(faults, !is_there(table, name), Refusal::NoSuchObject);
 }
 
 /// Notes what refuses the name of an object, of the form that its kind has, in a table that holds so many.
-pub(crate) fn note_name<V: Row>(
+pub(crate) fn note_name<V>(
     faults: &mut Option<Refusal>,
     kind: ObjectKind,
     most: usize,

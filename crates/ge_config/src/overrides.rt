@@ -11,7 +11,7 @@ ghost use Rattle.ge_base.specs.declared.refusal.Refusal.TheVariants.{BadValue};
 
 use crate::values::{Reader, is_a_host_or_group};
 use ge_base::Refusal;
-use ge_bodies::value_in;
+use ge_commands::value_in;
 use ge_pieces::{ReadFault, before, behind, has, is_blank_byte, note, pieces, trimmed_text};
 use ge_rows::{Attr, Cluster, List, Text, Twin};
 use std::alloc::{AllocError, Global};

@@ -6,7 +6,7 @@ ghost use Rattle.ge_pieces.specs.Gives.{Reads};
 use crate::named::{given_text, note_name};
 use crate::values::{Names, Number, Reader};
 use ge_base::Refusal;
-use ge_bodies::value_or;
+use ge_commands::value_or;
 use ge_limits::{PROJECTS, USERS};
 use ge_rows::{Cluster, Item, Kind, ObjectKind, ProjectRow, Text, UserRow};
 use std::alloc::{AllocError, Global};

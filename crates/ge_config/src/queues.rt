@@ -18,11 +18,11 @@ use crate::overrides::read_attr;
 use crate::pairs::{Fitting, Values};
 use crate::values::{Names, any_of, read_hostlist};
 use ge_base::Refusal;
-use ge_bodies::value_or;
+use ge_commands::value_or;
 use ge_limits::QUEUES;
 use ge_pieces::is_in;
 use ge_rows::{
-    Attr, Cluster, INFINITY, Item, Kind, List, ObjectKind, QueueRow, Row, Table, Text, Value,
+    Attr, Cluster, INFINITY, Item, Kind, List, ObjectKind, QueueRow, Table, Text, Value,
 };
 use std::alloc::{AllocError, Global};
 
@@ -116,7 +116,7 @@ fn read_count(
     )
 }
 
-fn read_names<V: Row>(
+fn read_names<V>(
     alloc: Global,
     c: &Cluster,
     values: &[(Text, Text)],

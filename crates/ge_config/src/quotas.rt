@@ -12,9 +12,8 @@ use crate::named::{given_text, note_name};
 use crate::pairs::{Fitting, read_pair};
 use crate::values::is_there;
 use ge_base::Refusal;
-use ge_bodies::value_or;
+use ge_commands::value_or;
 use ge_complex::{amount_in, value_of_text};
-use ge_hosts::is_a_group;
 use ge_limits::{RULE_SETS, RULES};
 use ge_model_grammar::RuleLine;
 use ge_pieces::{is_a_name, is_word, note};
@@ -22,6 +21,7 @@ use ge_rows::{
     Cluster, Filter, Item, Kind, List, ObjectKind, QuotaRow, Rule, Table, Text, Twin, Value,
     twins2, twins4,
 };
+use ge_site::is_a_group;
 use std::alloc::{AllocError, Global};
 
 // Among users an at sign and a name is a user set, which has to be there; all else is a pattern.

@@ -20,7 +20,7 @@ use crate::settings::read_sched;
 use crate::shares::read_shares;
 use crate::user_sets::read_user_set;
 use ge_base::Refusal;
-use ge_bodies::body;
+use ge_commands::body;
 use ge_model_grammar::{Body, ComplexLine, NodeLines, RuleLine};
 use ge_pieces::{ReadFault, note};
 use ge_rows::{Cluster, Item, List, ObjectKind, Text};

@@ -13,7 +13,7 @@ ghost use Rattle.ge_config.specs.Settings.{amount_setting, count_setting, plain_
 
 use crate::values::{Number, Reader, any_of};
 use ge_base::Refusal;
-use ge_bodies::value_in;
+use ge_commands::value_in;
 use ge_complex::{complex_at, is_number_kind};
 use ge_pieces::{before, behind, has, is_in, is_word, items_of_list, note};
 use ge_rows::{Cluster, INFINITY, Item, Kind, Sched, SortMethod, Table, Text};

@@ -7,7 +7,7 @@ ghost use Rattle.ge_pieces.specs.Gives.{Reads};
 
 use crate::named::{given_text, note_name};
 use ge_base::Refusal;
-use ge_bodies::value_or;
+use ge_commands::value_or;
 use ge_limits::USER_SETS;
 use ge_pieces::{is_a_group_name, is_a_name, items_of_list, note};
 use ge_rows::{Cluster, Item, ObjectKind, Text};

@@ -21,8 +21,8 @@ use ge_base::Refusal;
 use ge_complex::is_consumed;
 use ge_pieces::note;
 use ge_rows::{
-    Advance, Attr, Cluster, ComplexDef, HostRow, JobRow, List, QueueRow, QuotaRow, Row, Rule,
-    Table, Text, Value, opening,
+    Advance, Attr, Cluster, ComplexDef, HostRow, JobTable, List, QueueRow, QuotaRow, Rule, Table,
+    Text, Value, opening,
 };
 use std::alloc::{AllocError, Global};
 
@@ -94,7 +94,7 @@ fn harmed<'a>(
     Ok(names)
 }
 
-fn has_key_in<V: Row>(names: &TextSet<'_>, table: &Table<Text, V>) -> bool
+fn has_key_in<V>(names: &TextSet<'_>, table: &Table<Text, V>) -> bool
     ensures { result ≡ list_any (λ name. is_one_of name names.now) (keys_of table.now) }
 {
     for name in table.keys() {
@@ -106,7 +106,7 @@ fn has_key_in<V: Row>(names: &TextSet<'_>, table: &Table<Text, V>) -> bool
 }
 
 #[tactic(auto, using(crate::proofs::Harms::has_key_among))]
-fn names_some<V: Row>(names: &TextSet<'_>, table: &Table<Text, V>) -> bool
+fn names_some<V>(names: &TextSet<'_>, table: &Table<Text, V>) -> bool
     ensures { result ≡ has_some names.now table.now }
 {
     has_key_in(names, table)
@@ -177,7 +177,7 @@ fn sets_name_some(names: &TextSet<'_>, quotas: &Table<Text, QuotaRow>) -> bool
     false
 }
 
-fn jobs_name_some(names: &TextSet<'_>, jobs: &Table<u32, JobRow>) -> bool
+fn jobs_name_some(names: &TextSet<'_>, jobs: &JobTable) -> bool
     ensures { result ≡ list_any (λ job. has_some names.now job.1.request.asked) jobs.now }
 {
     for job in jobs.iter() {

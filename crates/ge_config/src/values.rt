@@ -12,7 +12,7 @@ ghost use Rattle.ge_pieces.specs.Gives.{Reads};
 use ge_base::Refusal;
 use ge_complex::{amount_in, value_of_text};
 use ge_pieces::{items_of_list, note};
-use ge_rows::{Cluster, INFINITY, Kind, List, Row, Table, Text, Value};
+use ge_rows::{Cluster, INFINITY, Kind, List, Table, Text, Value};
 use std::alloc::{AllocError, Global};
 
 /// A reader of one value of a body: what it gives, and what refuses it.
@@ -86,13 +86,13 @@ pub(crate) fn any_of(kind: Kind) -> Number
 }
 
 /// Whether a table has a name.
-pub(crate) fn is_there<V: Row>(table: &Table<Text, V>, name: &Text) -> bool
+pub(crate) fn is_there<V>(table: &Table<Text, V>, name: &Text) -> bool
     ensures { result ≡ has_name table.now name.now }
 {
     table.get(name).is_some()
 }
 
-fn are_there<V: Row>(table: &Table<Text, V>, names: &[Text]) -> bool
+fn are_there<V>(table: &Table<Text, V>, names: &[Text]) -> bool
     ensures { result ≡ list_all (has_name table.now) names.now }
 {
     names.iter().all(|name| is_there(table, name))
@@ -100,11 +100,11 @@ fn are_there<V: Row>(table: &Table<Text, V>, names: &[Text]) -> bool
 
 /// A list of names that a table has to have.
 #[derive(Drop)]
-pub(crate) struct Names<'a, V: Row> {
+pub(crate) struct Names<'a, V> {
     pub(crate) table: &'a Table<Text, V>,
 }
 
-impl<V: Row> Reader<List<Text>> for Names<'_, V> {
+impl<V> Reader<List<Text>> for Names<'_, V> {
     ghost read = { λ n. names_read (has_name n.table.now) };
 
     fn read(

@@ -5,11 +5,11 @@ ghost use Rattle.ge_model_core.specs.Configuring.{manager_faults};
 ghost use Rattle.ge_model_core.specs.Refusals.{unless_refused};
 ghost use Rattle.ge_model_rows.specs.Faults.{first_fault};
 
-use ge_access::is_manager;
 use ge_answers::{done, refuse};
 use ge_base::Refusal;
 use ge_pieces::note;
 use ge_rows::{Change, Cluster, Event, Planned};
+use ge_site::is_manager;
 use std::alloc::{AllocError, Global};
 
 /// What refuses a change by its user alone: `NotPermitted`, where the user is no manager.

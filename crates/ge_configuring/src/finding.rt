@@ -4,11 +4,11 @@ ghost use Rattle.ge_collections.specs.Keyed.{at_text};
 ghost use Rattle.ge_model_config.specs.Printing as printing;
 ghost use Rattle.ge_model_rows.specs.EntryRows.{Item as ItemRow};
 
-use ge_rows::{Cluster, Item, ObjectKind, Row, Table, Text, Twin, twins2};
+use ge_rows::{Cluster, Item, ObjectKind, Table, Text, Twin, twins2};
 use std::alloc::{AllocError, Global};
 
 // A name with its row.
-fn named<V: Row + Twin>(
+fn named<V: Twin>(
     alloc: Global,
     table: &Table<Text, V>,
     name: &Text,

@@ -8,7 +8,7 @@ use crate::deciding::{decide, role_fault};
 use crate::enlisting::{enlist_fault, enlisted};
 use ge_answers::{done, refuse};
 use ge_base::Refusal;
-use ge_bodies::body;
+use ge_commands::body;
 use ge_config::read_item;
 use ge_model_grammar::Body;
 use ge_pieces::ReadFault;

@@ -6,11 +6,12 @@ ghost use Rattle.ge_model_core.specs.Configuring.{delist_faults, object_faults, 
 ghost use Rattle.ge_model_rows.specs.Faults.{after_faults, first_fault};
 
 use crate::deciding::role_fault;
+use crate::there::is_there;
+use crate::using::is_used;
 use ge_answers::{done, refuse};
 use ge_base::Refusal;
 use ge_pieces::{is_among, is_same, note};
 use ge_rows::{Change, Cluster, Event, Key, ObjectKind, Planned, Text, Twin};
-use ge_used::{is_there, is_used};
 use std::alloc::{AllocError, Global};
 
 fn is_every(name: &Text, names: &[Text]) -> bool

@@ -10,7 +10,7 @@ ghost use Rattle.ge_core.specs.Booked.{asked_with, no_time_is, plan_with};
 use ge_answers::{accept, refuse};
 use ge_base::Refusal;
 use ge_complex::{amount_in, value_of_text};
-use ge_hosts::expand;
+use ge_job_options::{no_request, number_given, option_word, text_given};
 use ge_limits::{ADVANCE_RESERVATIONS, LAST_NUMBER, MOMENTS};
 use ge_opening::instance_order;
 use ge_pieces::note;
@@ -19,7 +19,7 @@ use ge_request::request_over;
 use ge_rows::{
     Advance, Change, Cluster, Event, Grant, Kind, List, Options, Own, Planned, Request, Text, Twin,
 };
-use ge_submitting::{no_request, number_given, option_word, text_given};
+use ge_site::expand;
 use ge_timeline::Timeline;
 use ge_windows::{base_bookings, stand_in};
 use std::alloc::{AllocError, Global};

@@ -3,7 +3,7 @@ ghost use Rattle.std.specs.Prelude.{◌≡◌, false, IfOk};
 ghost use Rattle.std.specs.Option.{option_copied};
 ghost use Rattle.ge_model_core.specs.Forms.{is_cut};
 ghost use Rattle.ge_model_core.specs.Plan.{event_command, command_plan, timely_plan, plan_of};
-ghost use Rattle.ge_model_script.specs.Lines.{is_too_long};
+ghost use Rattle.ge_model_grammar.specs.ScriptLines.{is_too_long};
 
 use crate::booking::plan_booking;
 use crate::showing::plan_list;

@@ -2,8 +2,8 @@
 ghost use Rattle.std.specs.Prelude.{◌≡◌, [], ◌∷◌, ◌++◌, IfOk, OnOk, length, flat_map, decimal};
 ghost use Rattle.ge_model_core.specs.Render.{rendered_line, rendered};
 
+use ge_printing::append_decimal;
 use ge_rows::{Reply, Text};
-use ge_wording::append_decimal;
 use std::alloc::{AllocError, Global};
 
 /// Room for a reply of one line, in bytes; a longer one grows.

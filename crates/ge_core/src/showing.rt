@@ -8,7 +8,7 @@ ghost use Rattle.ge_model_report.specs.Listing.{listing_of};
 use ge_answers::{refuse, show};
 use ge_base::Refusal;
 use ge_dispatching::priorities;
-use ge_queue_lists::list;
+use ge_listing::list;
 use ge_rows::{Cluster, Event, List, Listing, Planned, Prio};
 use std::alloc::{AllocError, Global};
 

@@ -5,10 +5,10 @@ ghost use Rattle.ge_collections.specs.Keyed.{at_number};
 ghost use Rattle.ge_model_rows.specs.Access as access;
 ghost use Rattle.ge_model_core.specs.Altering as altering;
 
-use ge_access::{is_manager, is_operator};
 use ge_jobs::get;
 use ge_pieces::is_same;
 use ge_rows::{Cluster, Event, Job};
+use ge_site::{is_manager, is_operator};
 use std::marker::Model;
 
 /// The user of an event, who is looked up once among the operators. Contracts see the cluster and the event.

@@ -9,9 +9,9 @@ use Rattle.ge_model_rows.specs.HostRows.{Groups, InstanceId}
 use Rattle.ge_model_rows.specs.JobRows.{Job}
 use Rattle.ge_model_rows.specs.ScheduleRows.{LimitId}
 use Rattle.ge_model_place.specs.Limits.{Counted as Limited, counted, counted_at, limits_at, with_demand, demand_for}
-use Rattle.ge_demands.specs.Found.{is_found, found_with, with_limit_unless_found}
+use Rattle.ge_capacities.specs.Found.{is_found, found_with, with_limit_unless_found}
 use Rattle.ge_demands.proofs.Demanded.{asked_anew}
-use Rattle.ge_demands.proofs.Gathered.{gathered_behind}
+use Rattle.ge_capacities.proofs.Gathered.{gathered_behind}
 
 module _ (slots : ℕ) where
   -- no demand is added to another

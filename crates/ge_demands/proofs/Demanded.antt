@@ -4,11 +4,11 @@ use Rattle.std.specs.Prelude.{position, slice_set, nat_lt, map}
 use Rattle.std.specs.List.{position_or_len}
 use Rattle.std.proofs.lemmas.Bool.{cases_Bool, cond-true, cond-false, ltb-false, or_parts, true≢false, false_from_ne_true}
 use Rattle.std.proofs.lemmas.List.Quantifiers.{position-Some}
-use Rattle.ge_model_bookings.specs.Bookings.{same_limit}
+use Rattle.ge_model_place.specs.Bookings.{same_limit}
 use Rattle.ge_model_rows.specs.ScheduleRows.{LimitId, Demand}
 use Rattle.ge_model_place.proofs.Same.{limits_equal, limit_same}
 use Rattle.ge_model_place.specs.Limits.{Counted as Limited, with_demand, with_more, demand_for}
-use Rattle.ge_demands.specs.Found.{is_on, is_found}
+use Rattle.ge_capacities.specs.Found.{is_on, is_found}
 
 -- what stands where a test picks one of two lists
 abbrev choice : Bool → List Demand → List Demand → List Demand

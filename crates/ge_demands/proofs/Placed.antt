@@ -9,12 +9,12 @@ use Rattle.std.proofs.lemmas.List.{length-append, length-set}
 use Rattle.std.proofs.lemmas.List.Folds.{position_or_len_push, position_or_len-set}
 use Rattle.std.proofs.lemmas.List.Sums.{prefix_len-le-length}
 use Rattle.ge_rows.specs.contracts.scheduling.LimitIdOrd.TheImpl.{cmp-value}
-use Rattle.ge_model_bookings.specs.Bookings.{same_limit}
+use Rattle.ge_model_place.specs.Bookings.{same_limit}
 use Rattle.ge_model_rows.specs.ScheduleRows.{LimitId, Demand}
 use Rattle.ge_model_place.proofs.Same.{limits_equal, limit_same}
 use Rattle.ge_model_place.specs.Limits.{Counted as Limited, with_demand, with_more, demand_for}
 use Rattle.ge_timeline.proofs.Numbering.{same_at, number_in_more}
-use Rattle.ge_demands.specs.Found.{is_on, AreKept}
+use Rattle.ge_capacities.specs.Found.{is_on, AreKept}
 use Rattle.ge_demands.proofs.Demanded.{apart_back, found_there, none_there}
 
 -- the order of limits finds the same limit

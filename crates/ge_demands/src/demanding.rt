@@ -1,13 +1,13 @@
 //! What grants ask of each limit.
 
 ghost use Rattle.std.specs.Prelude.{◌≡◌, ◌∷◌, [], IfOk, OnOk, fold, position, map};
-ghost use Rattle.ge_model_bookings.specs.Bookings.{same_limit};
+ghost use Rattle.ge_model_place.specs.Bookings.{same_limit};
 ghost use Rattle.ge_model_place.specs.Limits.{counted_at, demand_for, demands_of, with_demand, with_grant, with_more};
-ghost use Rattle.ge_demands.specs.Counts.{all_counted, counted_as};
+ghost use Rattle.ge_capacities.specs.Counts.{all_counted, counted_as};
 
-use crate::counting::{Counted, counted_limits};
 use crate::indexing::demands_of_many;
 use ge_bookings::is_same_limit;
+use ge_capacities::{Counted, counted_limits};
 use ge_rows::{Cluster, Demand, Grant, Groups, InstanceId, Job, LimitId, List};
 use std::alloc::{AllocError, Global};
 

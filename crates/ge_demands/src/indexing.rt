@@ -2,13 +2,13 @@
 
 ghost use Rattle.std.specs.Prelude.{◌≡◌, [], IfOk, OnOk, fold};
 ghost use Rattle.std.specs.Map.{lookup};
-ghost use Rattle.ge_model_bookings.specs.Bookings.{same_limit};
+ghost use Rattle.ge_model_place.specs.Bookings.{same_limit};
 ghost use Rattle.ge_model_place.specs.Limits.{with_demand, with_grant};
-ghost use Rattle.ge_demands.specs.Counts.{all_counted, counted_as};
-ghost use Rattle.ge_demands.specs.Found.{AreKept};
+ghost use Rattle.ge_capacities.specs.Counts.{all_counted, counted_as};
+ghost use Rattle.ge_capacities.specs.Found.{AreKept};
 
-use crate::counting::{Counted, counted_limits};
 use crate::demanding::add_at;
+use ge_capacities::{Counted, counted_limits};
 use ge_rows::{Cluster, Demand, Grant, Groups, Job, LimitId, Twin};
 use std::alloc::{AllocError, Global};
 use std::collections::BTreeMap;

@@ -1,21 +1,13 @@
-//! Limits: how much there is of each, which ones a grant counts for, and what grants of a job ask of them (queue_conf, host_conf,
-//! sge_pe, sge_resource_quota, complex).
+//! What grants of a job ask of each limit (complex, `consumable`).
 //!
-//! Contracts say by `ge_model_place` what each call gives. The groups are those of the cluster, spelled out.
+//! Contracts say by `ge_model_place` what is asked. The groups are those of the cluster, spelled out.
 //!
-//! - [`capacity`]: how much of a limit there is.
-//! - [`counted_limits`]: the limits that a grant at an instance counts for, each with its capacity and what a slot asks of it, as a
-//!   [`Counted`].
-//! - [`demands`]: what grants ask of each limit.
+//! - [`demands`]: what grants ask of each limit, slot by slot or once.
+//! - [`capacity`], [`counted_limits`], [`Counted`]: the limits themselves, from `ge_capacities`.
 #![tactic(auto)]
 
-mod asking;
-mod capacities;
-mod counting;
 mod demanding;
 mod indexing;
-mod quotas;
 
-pub use capacities::capacity;
-pub use counting::{Counted, counted_limits};
 pub use demanding::demands;
+pub use ge_capacities::{Counted, capacity, counted_limits};

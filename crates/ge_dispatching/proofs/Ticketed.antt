@@ -6,8 +6,8 @@ use Rattle.ge_model_rows.specs.JobRows.{Job}
 use Rattle.ge_model_order.specs.Amounts.{cut_at_64}
 use Rattle.ge_model_order.specs.Priority.{added_tickets, all_tickets_of}
 use Rattle.ge_model_order.specs.Tickets.{AllShares, all_shares, job_tickets, jobs_of, tickets_at, tickets_of}
-use Rattle.ge_share.specs.Listed.{no_tickets}
-use Rattle.ge_share.proofs.Treeless.{treeless}
+use Rattle.ge_tickets.specs.Listed.{no_tickets}
+use Rattle.ge_tickets.proofs.Treeless.{treeless}
 
 -- an amount that is cut isn't cut again
 cut_again : (n : ℕ) → cut_at_64 n ≡ cut_at_64 (cut_at_64 n + 0)

@@ -4,15 +4,15 @@ ghost use Rattle.ge_rows.specs.Parts.{start_of};
 ghost use Rattle.ge_model_core.specs.Scheduling as scheduling;
 
 use crate::deciding::decisions_told;
-use ge_access::is_manager;
 use ge_answers::refuse;
 use ge_base::Refusal;
-use ge_job_lists::append_grants;
+use ge_listing::append_grants;
+use ge_printing::append_decimal;
 use ge_rows::{
     Change, Cluster, Decision, Entry, Event, List, Planned, Reply, Reservation, Start, TaskId,
     Text, Twin,
 };
-use ge_wording::append_decimal;
+use ge_site::is_manager;
 use std::alloc::{AllocError, Global};
 
 /// Room for a line, in bytes; one of many grants grows.

@@ -4,8 +4,7 @@ ghost use Rattle.ge_model_order.specs.Priority.{added_tickets, all_tickets_of, p
 
 use ge_order::{Prios, candidates, own_prios, prios};
 use ge_rows::{Cluster, List, Prio};
-use ge_share::share_tickets;
-use ge_tickets::tickets;
+use ge_tickets::{share_tickets, tickets};
 use std::alloc::{AllocError, Global};
 
 // Two lists of tickets, added job by job; a sum that passes 64 bits is cut.

@@ -5,7 +5,7 @@ use Rattle.ge_collections.specs.Keyed.{text_eq}
 use Rattle.ge_model_text.specs.Value.{number}
 use Rattle.ge_model_rows.specs.Pieces.{before_byte, behind_byte}
 use Rattle.ge_model_rows.specs.EventRows.{Reply}
-use Rattle.ge_model_script.specs.Header.{is_decimal}
+use Rattle.ge_model_grammar.specs.Header.{is_decimal}
 use Rattle.ge_execd.specs.declared.rows.Order.{Order}
 use Rattle.ge_execd.specs.declared.rows.OrderLine.{OrderLine}
 use Rattle.ge_execd.specs.declared.rows.OrderLine.TheVariants.{Run, Kill}

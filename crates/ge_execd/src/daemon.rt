@@ -9,9 +9,10 @@ ghost use Rattle.ge_execd.specs.Shows.{Obeys};
 use crate::obeying::{all_kills, all_starts, is_claimed, seen_after, tasks_after};
 use crate::reading::read_orders;
 use crate::rows::{Stage, Work, WorkFault};
+use ge_collections::Edit;
 use ge_limits::AMOUNTS;
-use ge_rows::{Edit, Reply, Table, Text};
-use ge_wording::{Column, join_columns};
+use ge_printing::{Column, join_columns};
+use ge_rows::{Reply, Table, Text};
 use std::alloc::{AllocError, Global};
 
 /// An execution daemon.
@@ -33,18 +34,6 @@ struct Ending {
 
 impl Edit<Stage> for Ending {
     ghost edited = { λ e stage. end_with e.end stage };
-
-    fn lost(&self, alloc: Global, _stage: &Stage) -> Result<Vec<()>, AllocError> {
-        Ok(Vec::new(alloc))
-    }
-
-    fn gained(&self, alloc: Global, _stage: &Stage) -> Result<Vec<()>, AllocError> {
-        Ok(Vec::new(alloc))
-    }
-
-    fn relabels(&self, _stage: &Stage) -> bool {
-        false
-    }
 
     fn edit(&self, stage: &mut Stage) {
         if is_claimed(Some(&*stage)) {

@@ -1,38 +1,13 @@
 // A reply to `orders` is read.
 ghost use Rattle.std.specs.Prelude.{◌≡◌, ◌<◌, ◌≤◌, ◌-◌, ◌^◌, IfSome};
-ghost use Rattle.std.specs.List.{list_all};
-ghost use Rattle.std.specs.Char.{is_ascii_digit};
-ghost use Rattle.ge_model_script.specs.Header.{is_decimal};
 ghost use Rattle.ge_execd.specs.Orders.{number_to, run_in, line_in, line_serial, line_above, orders_from, or_bad, orders_in};
 ghost use Rattle.ge_execd.specs.Shows.{Reads};
 
 use crate::rows::{Order, OrderLine, WorkFault};
 use ge_limits::LAST_SERIAL;
-use ge_pieces::{before, behind, digits_worth, is_word};
+use ge_pieces::{before, behind, digits_worth, is_decimal_number, is_word};
 use ge_rows::{List, Reply, Text};
 use std::alloc::Global;
-
-fn is_digit(byte: u8) -> bool
-    ensures { result ≡ is_ascii_digit byte }
-{
-    byte.is_ascii_digit()
-}
-
-fn has_digits_alone(text: &[u8]) -> bool
-    ensures { result ≡ list_all is_ascii_digit text.now }
-{
-    text.iter().all(|b| is_digit(*b))
-}
-
-fn is_decimal_number(text: &[u8]) -> bool
-    ensures { result ≡ is_decimal text.now }
-{
-    match text {
-        [] => false,
-        [digit] => is_digit(*digit),
-        [first, _, ..] => *first != b'0' && has_digits_alone(text),
-    }
-}
 
 // The number up to a greatest one that a text is.
 fn read_number(greatest: u64, text: &[u8]) -> Option<u64>

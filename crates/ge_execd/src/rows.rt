@@ -1,5 +1,5 @@
 // What a daemon is ordered, what it is to do, and what it keeps.
-use ge_rows::{List, Row, Twin};
+use ge_rows::{List, Twin};
 use std::alloc::{AllocError, Global};
 
 /// A task that is to run.
@@ -46,43 +46,6 @@ impl Twin for Stage {
     fn twin(&self, _alloc: Global) -> Result<Stage, AllocError> {
         Ok(*self)
     }
-}
-
-// A table keeps nothing of stages but themselves.
-impl Row for Stage {
-    type Mark = ();
-
-    type Facts = ();
-
-    type Label = ();
-
-    ghost short = { λ _. tt };
-
-    ghost labels = { λ _. (tt, tt, tt) };
-
-    fn weights(&self) -> (u128, u128) {
-        (0, 0)
-    }
-
-    fn bears(&self, _mark: &()) -> bool {
-        false
-    }
-
-    fn marks(&self, alloc: Global) -> Result<Vec<()>, AllocError> {
-        Ok(Vec::new(alloc))
-    }
-
-    fn keeps_short() -> bool {
-        false
-    }
-
-    fn short(&self) {}
-
-    fn labels(&self, _alloc: Global) -> Result<((), (), ()), AllocError> {
-        Ok(((), (), ()))
-    }
-
-    fn orderly(&self) {}
 }
 
 /// Why a reply to `orders` isn't obeyed.

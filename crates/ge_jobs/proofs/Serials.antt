@@ -1,22 +1,24 @@
 -- A job bears the mark of a serial exactly where it runs a task that has it.
-use Rattle.std.proofs.Common.{◌≡◌, ℕ, ◌==◌, ◌||◌, List, [], ◌∷◌, find, Bool, true, false, cond, refl, ◌∙◌}
+use Rattle.std.proofs.Common.{◌≡◌, ℕ, List, [], ◌∷◌, find, Bool, cond, Option, Some, None, is_some, option_map, refl, ◌∙◌}
 use Rattle.std.specs.List.{list_any}
-use Rattle.std.specs.Prelude.{Some}
-use Rattle.std.specs.Ordering.{nat_cmp}
 use Rattle.std.specs.BTreeMap.{is_at}
-use Rattle.ge_model_jobs.proofs.BorneMarks.{of_serial, at_serial, is_serial}
-use Rattle.ge_rows.specs.declared.jobs.Running.{Running}
+use Rattle.ge_model_jobs.proofs.BorneMarks.{of_serial, at_serial}
 use Rattle.ge_rows.specs.declared.jobs.Job.{Job}
 use Rattle.ge_rows.specs.declared.marks.JobMark.{JobMark}
 use Rattle.ge_rows.specs.declared.marks.MarkSort.TheVariants as sort
 use Rattle.ge_rows.specs.Marks.{mark_of, job_marks}
 use Rattle.ge_rows.specs.contracts.marks.JobMarkOrd.TheImpl as order
-use Rattle.ge_model_jobs.specs.Serials.{has_serial, runs_serial}
+use Rattle.ge_model_jobs.specs.Serials.{runs_serial}
 
 -- two tests that are the same find the same
 pub same_find : {A : Type 0} (f g : A → Bool) (xs : List A) → ((x : A) → f x ≡ g x) → find f xs ≡ find g xs
 same_find f g [] same = refl
 same_find f g (x ∷ xs) same = (λ i. cond (same x i) (Some x) (same_find f g xs same i))
+
+-- what is made of a value is there where the value is
+pub some_made : {A B : Type 0} (f : A → B) (o : Option A) → is_some (option_map f o) ≡ is_some o
+some_made f None = refl
+some_made f (Some x) = refl
 
 module _ (serial : ℕ) where
   -- whether a mark is that of the serial
@@ -35,11 +37,3 @@ module _ (serial : ℕ) where
         attribute = λ name other n. refl;
       }) (λ name other n. refl) (λ name other n. refl) row.1
       ∙ (λ i. list_any (λ task. at_serial serial task.1.serial i) row.1.running)
-
-  -- a running task bears the mark of its serial
-  pub task_bears : (row : ℕ × Running) → list_any (is_at (nat_cmp serial)) (row.1.serial ∷ []) ≡ has_serial serial row
-  task_bears row = alone (is_at (nat_cmp serial) row.1.serial) ∙ is_serial serial row.1.serial
-    where
-      alone : (b : Bool) → (b || false) ≡ b
-      alone true = refl
-      alone false = refl

@@ -6,10 +6,9 @@ ghost use Rattle.ge_rows.specs.Marks.{mark_of, project_marks, advance_marks, pe_
 ghost use Rattle.ge_model_jobs.specs.Altering.{submitted, patched, alter_job};
 ghost use Rattle.ge_jobs.specs.JobEdits.{marks_of_names};
 
-use crate::asking::JobTable;
 use ge_rows::{
-    InRow, Job, JobMark, JobRow, List, MarkSort, Patch, PeRequest, Request, Table, Text, TryEdit,
-    Twin, Value, twins2, twins4,
+    InRow, Job, JobMark, JobRow, JobTable, List, MarkSort, Patch, PeRequest, Request, Table, Text,
+    TryEdit, Twin, Value, twins2, twins4,
 };
 use std::alloc::{AllocError, Global};
 

@@ -4,10 +4,7 @@ ghost use Rattle.std.specs.Option.{option_copied};
 ghost use Rattle.ge_collections.specs.Keyed.{at_number};
 ghost use Rattle.ge_model_jobs.specs.Holds.{is_live_job, hold_of, holds_of as bits_of};
 
-use ge_rows::{Job, JobRow, Table, job_at};
-
-/// The live jobs by number.
-pub type JobTable = Table<u32, JobRow>;
+use ge_rows::{Job, JobTable, job_at};
 
 /// A job by its number.
 pub fn get(jobs: &JobTable, number: u32) -> Option<&Job>

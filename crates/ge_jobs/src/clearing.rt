@@ -2,11 +2,11 @@
 ghost use Rattle.std.specs.Prelude.{◌≡◌, OnOk, OnErr};
 ghost use Rattle.ge_model_jobs.specs.Ending.{cleared, clear_from};
 
-use crate::asking::{JobTable, get};
+use crate::asking::get;
 use crate::narrowing::narrowed;
 use crate::picking::{NamedTasks, named_in, unnamed_in};
 use ge_ranges::union;
-use ge_rows::{InRow, Job, JobMark, TaskSet, TryEdit};
+use ge_rows::{InRow, Job, JobMark, JobTable, TaskSet, TryEdit};
 use std::alloc::{AllocError, Global};
 
 // The tasks in error that a target names wait again, as an edit of their job.

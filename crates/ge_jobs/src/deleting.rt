@@ -7,11 +7,12 @@ ghost use Rattle.ge_model_jobs.specs.Ending.{has_no_task, without_picked, is_unn
 ghost use Rattle.ge_model_rows.specs.Pieces.{is_empty as has_nothing};
 ghost use Rattle.ge_jobs.specs.Deletions.{deleting, mark_number, marks_if_named, lost_by_delete, without_spent};
 
-use crate::asking::{JobTable, get};
+use crate::asking::get;
 use crate::ending::{has_none, remove};
 use crate::narrowing::narrowed;
 use crate::picking::{NamedTasks, names, unnamed_in};
-use ge_rows::{Edit, InRow, Job, JobMark, List, Running, Table, TaskSet, TryEdit, task_marks};
+use ge_collections::Edit;
+use ge_rows::{InRow, Job, JobMark, JobTable, List, Running, Table, TaskSet, TryEdit, task_marks};
 use std::alloc::{AllocError, Global};
 
 // A running task is marked for deletion.
@@ -20,14 +21,6 @@ struct Marked;
 
 impl Edit<Running> for Marked {
     ghost edited = { λ m task. deleting task };
-
-    fn lost(&self, alloc: Global, _task: &Running) -> Result<Vec<u64>, AllocError> {
-        Ok(Vec::new(alloc))
-    }
-
-    fn gained(&self, alloc: Global, _task: &Running) -> Result<Vec<u64>, AllocError> {
-        Ok(Vec::new(alloc))
-    }
 
     fn edit(&self, task: &mut Running) {
         task.deleting = true;

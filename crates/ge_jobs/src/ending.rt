@@ -6,10 +6,10 @@ ghost use Rattle.ge_model_jobs.specs.Ending.{has_no_task, without_ended, runs_in
 ghost use Rattle.ge_model_rows.specs.Pieces.{is_empty as has_nothing};
 ghost use Rattle.ge_jobs.specs.JobEdits.{is_gone_with};
 
-use crate::asking::{JobTable, get};
+use crate::asking::get;
 use ge_model_jobs::After;
 use ge_ranges::with_number;
-use ge_rows::{InRow, Job, JobMark, TaskId, TaskSet, TryEdit, task_marks};
+use ge_rows::{InRow, Job, JobMark, JobTable, TaskId, TaskSet, TryEdit, task_marks};
 use std::alloc::{AllocError, Global};
 
 /// A job goes with all its tasks.

@@ -1,10 +1,9 @@
 // The running task of a serial.
-ghost use Rattle.std.specs.Prelude.{◌≡◌, find};
+ghost use Rattle.std.specs.Prelude.{◌≡◌, find, is_some};
 ghost use Rattle.std.specs.Option.{option_map};
 ghost use Rattle.ge_model_jobs.specs.Serials.{has_serial, runs_serial, running_with};
 
-use crate::asking::JobTable;
-use ge_rows::{Job, JobMark, JobRow, MarkSort, Running, Text};
+use ge_rows::{Job, JobMark, JobRow, JobTable, MarkSort, Running, Table, Text};
 use std::alloc::Global;
 
 // The first job that runs a task with a serial, by the table's mark.
@@ -21,16 +20,28 @@ fn job_with(alloc: Global, jobs: &JobTable, serial: u64) -> Option<(&u32, &JobRo
     jobs.find(&mark)
 }
 
-// The first running task of a job that has a serial.
-fn task_with(job: &Job, serial: u64) -> Option<(&u32, &Running)>
+// The first running task that has a serial, by a walk over the running tasks of one job.
+fn task_with(running: &Table<u32, Running>, serial: u64) -> Option<(&u32, &Running)>
     ensures { option_map (λ found. (found.0.now, found.1.now)) result
-        ≡ find (has_serial serial) job.now.running }
+        ≡ find (has_serial serial) running.now }
 {
-    job.running.find(&serial)
+    for (number, task) in running.iter() {
+        if task.serial == serial {
+            return Some((number, task));
+        }
+    }
+    None
+}
+
+/// Whether a serial is that of a running task, by the mark of the job that runs it: it takes no memory, and no walk.
+pub fn is_running(alloc: Global, jobs: &JobTable, serial: u64) -> bool
+    ensures { result ≡ is_some (running_with jobs.now serial) }
+{
+    job_with(alloc, jobs, serial).is_some()
 }
 
 /// The running task that a serial names, with its number, and the job that runs it, with its own; of several the least, by job
-/// and task. It takes no memory, and no walk over jobs.
+/// and task. It takes no memory, and no walk but that over the running tasks of the one job.
 pub fn find_running(
     alloc: Global,
     jobs: &JobTable,
@@ -41,6 +52,6 @@ pub fn find_running(
 {
     let (number, row) = job_with(alloc, jobs, serial)?;
     let job = row.job();
-    let (task, running) = task_with(job, serial)?;
+    let (task, running) = task_with(&job.running, serial)?;
     Some((*number, job, *task, running))
 }

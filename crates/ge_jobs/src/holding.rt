@@ -6,9 +6,9 @@ ghost use Rattle.ge_collections.specs.Keyed.{at_number};
 ghost use Rattle.ge_model_rows.specs.Sets.{set_of as set_of_numbers, difference as difference_of};
 ghost use Rattle.ge_model_jobs.specs.Holds.{is_live_job, is_job_held, holding_tasks as holding_of, holding_in, with_holding, predecessor_tasks as tasks_of_predecessors, held_tasks as held_of, free_tasks as free_of, first_tasks, eligible_of, eligible_tasks};
 
-use crate::asking::{JobTable, get, is_live};
+use crate::asking::{get, is_live};
 use ge_ranges::{difference, first_of, meet, numbers, set_of, union};
-use ge_rows::{Job, List, Running, Table, TaskSet};
+use ge_rows::{Job, JobTable, List, Running, Table, TaskSet};
 use std::alloc::{AllocError, Global};
 
 // Whether one of these jobs lives.

@@ -2,8 +2,7 @@
 ghost use Rattle.std.specs.Prelude.{◌≡◌};
 ghost use Rattle.ge_model_jobs.specs.Altering.{with_hold, held, freed, change_job, hold_set};
 
-use crate::asking::JobTable;
-use ge_rows::{Edit, InRow, Job, JobMark};
+use ge_rows::{Edit, InRow, Job, JobMark, JobTable};
 use std::alloc::{AllocError, Global};
 
 // A job gets these hold bits and no others.

@@ -4,7 +4,7 @@ ghost use Rattle.ge_model_jobs.specs.Picks.{named_in as named_of, unnamed_in as 
 
 use crate::gathered::{Gathered, one_set, part_of, with_more};
 use ge_ranges::{contains, difference, meet};
-use ge_rows::{Pick, Row, Table, TaskSet, Twin};
+use ge_rows::{Pick, Table, TaskSet, Twin};
 use std::alloc::{AllocError, Global};
 use std::marker::Model;
 
@@ -43,42 +43,6 @@ impl NamedTasks {
     {
         &self.tasks
     }
-}
-
-impl Row for NamedTasks {
-    type Mark = ();
-
-    type Facts = ();
-
-    type Label = ();
-
-    ghost short = { λ _. tt };
-
-    ghost labels = { λ _. (tt, tt, tt) };
-
-    fn weights(&self) -> (u128, u128) {
-        (0, 0)
-    }
-
-    fn bears(&self, _mark: &()) -> bool {
-        false
-    }
-
-    fn marks(&self, alloc: Global) -> Result<Vec<()>, AllocError> {
-        Ok(Vec::new(alloc))
-    }
-
-    fn keeps_short() -> bool {
-        false
-    }
-
-    fn short(&self) {}
-
-    fn labels(&self, _alloc: Global) -> Result<((), (), ()), AllocError> {
-        Ok(((), (), ()))
-    }
-
-    fn orderly(&self) {}
 }
 
 /// Whether a target's tasks, all where it names none, have a number.

@@ -3,9 +3,8 @@ ghost use Rattle.std.specs.Prelude.{◌≡◌, IfOk, OnOk, OnErr};
 ghost use Rattle.ge_model_jobs.specs.Starting.{running_from, with_start, start_task};
 ghost use Rattle.ge_jobs.specs.JobEdits.{lost_by_start, gained_by_start};
 
-use crate::asking::JobTable;
 use ge_ranges::{contains, without_number};
-use ge_rows::{InRow, Job, JobMark, Running, Start, TryEdit, Twin, task_marks};
+use ge_rows::{InRow, Job, JobMark, JobTable, Running, Start, TryEdit, Twin, task_marks};
 use std::alloc::{AllocError, Global};
 
 // The start of a task at a moment, as an edit of its job.

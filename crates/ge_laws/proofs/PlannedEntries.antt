@@ -12,7 +12,7 @@ use Rattle.ge_model_rows.specs.EntryRows.{Hold, Release, Delete, Clear, Put, Dro
 use Rattle.ge_model_rows.specs.EntryRows.{ObjectKind}
 use Rattle.ge_model_rows.specs.EventRows.{Event, Planned}
 use Rattle.ge_model_rows.specs.JobRows.{Grant, Advance}
-use Rattle.ge_model_script.specs.Lines.{is_too_long}
+use Rattle.ge_model_grammar.specs.ScriptLines.{is_too_long}
 use Rattle.ge_model_core.specs.Forms.{is_cut}
 use Rattle.ge_model_core.specs.Refusals.{refused, unless_refused}
 use Rattle.ge_model_rows.specs.Faults.{first_fault, when}

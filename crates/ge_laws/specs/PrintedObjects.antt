@@ -6,7 +6,7 @@ use Rattle.ge_model_rows.specs.ClusterRows.{Cluster, opening_cluster, default_sc
 use Rattle.ge_model_rows.specs.EntryRows.{Put, Item, ObjectKind}
 use Rattle.ge_model_rows.specs.EventRows.{Event}
 use Rattle.ge_model_rows.specs.ValueRows.{Value}
-use Rattle.ge_model_script.specs.Names.{is_name}
+use Rattle.ge_model_grammar.specs.Names.{is_name}
 use Rattle.ge_model_rows.specs.Complexes.{complex_at}
 use Rattle.ge_model_rows.specs.Pieces.{joined_by}
 use Rattle.ge_model_grammar.specs.declared.Body.{Body}

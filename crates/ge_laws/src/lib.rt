@@ -1,4 +1,5 @@
-//! Laws of the cluster by the definitions, one for each subject that a user of a batch system asks about.
+//! Laws of the cluster by the definitions, one for each subject that a user of a batch system asks about, and worked examples: scripts with what is
+//! written for them, as theorems that hold by computation. Nothing stands on this crate.
 //!
 //! - `runs`: what a scheduling run decides, what it books, and where it places a task.
 //! - `order`: which tasks a run decides, and in which order.
@@ -7,7 +8,8 @@
 //! - `plans`: what an event is answered with, and what it changes.
 //! - `rules`: forms that a program can keep give what the rules say.
 //!
-//! The functions do nothing: their contracts are the laws.
+//! The functions do nothing: their contracts are the laws. Among the proofs, `Amounts` has what texts are worth, and the files that are named after
+//! what their examples show have scripts of all commands.
 #![tactic(auto)]
 
 mod order;

@@ -31,7 +31,7 @@ ghost use Rattle.ge_model_jobs.specs.Orderly.{AllOrderly, IsOrderly};
 ghost use Rattle.ge_model_order.specs.Share.{share_tickets_of};
 ghost use Rattle.ge_model_order.specs.ShareRule.{share_tickets_by_rule};
 ghost use Rattle.ge_model_place.specs.Demands.{DemandsEach};
-ghost use Rattle.ge_model_script.specs.Lines.{has_long_line, lines_of};
+ghost use Rattle.ge_model_grammar.specs.ScriptLines.{has_long_line, lines_of};
 ghost use Rattle.ge_model_rows.specs.Sets.{has_number};
 
 /// Share tickets that are worked out by tables of the tree's nodes are those of the rule, in which each node asks the whole

@@ -8,7 +8,7 @@ ghost use Rattle.ge_rows.specs.declared.scheduling.Booking.{Booking};
 ghost use Rattle.ge_rows.specs.declared.scheduling.Decision.{Decision};
 ghost use Rattle.ge_rows.specs.declared.scheduling.LimitId.{LimitId};
 ghost use Rattle.ge_rows.specs.declared.tasks.TaskId.{TaskId};
-ghost use Rattle.ge_model_bookings.specs.Bookings.{plain_sum};
+ghost use Rattle.ge_model_place.specs.Bookings.{plain_sum};
 ghost use Rattle.ge_model_rows.specs.Groups.{expanded};
 ghost use Rattle.ge_model_place.specs.Advances.{KeepsWhatIsBooked};
 ghost use Rattle.ge_model_place.specs.Choosing.{PlacesTask};

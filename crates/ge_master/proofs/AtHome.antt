@@ -1,6 +1,6 @@
 -- What is meant by at home.
 use Rattle.std.proofs.Common.{ℕ, List, [], ◌∷◌, length, inl, arith}
-use Rattle.ge_model_disk.specs.Disk.{Content, IsImageNow, IsImageSince}
+use Rattle.ge_model_journal.specs.Disk.{Content, IsImageNow, IsImageSince}
 use Rattle.ge_spool.proofs.Settling.{still-moments}
 use Rattle.ge_master.specs.Areas.{Areas, StandsNow}
 use Rattle.ge_master.specs.Homes.{Parts, IsHome}

@@ -5,11 +5,11 @@ use Rattle.std.proofs.lemmas.List.{length-replicate}
 use Rattle.ge_limits.specs.Limits as limit
 use Rattle.ge_model_rows.specs.ClusterRows.{Cluster}
 use Rattle.ge_model_rows.specs.EventRows.{Event, Reply, Planned}
-use Rattle.ge_model_disk.specs.Disk.{IsImageSince}
+use Rattle.ge_model_journal.specs.Disk.{IsImageSince}
 use Rattle.ge_model_journal.specs.Journal.{State, IsOneOf}
 use Rattle.ge_model_jobs.specs.Applying.{after_entry}
-use Rattle.ge_model_store.specs.StandsFor.{entry_bytes, cluster_bytes, cluster_fits, held, StandsForOneOf}
-use Rattle.ge_model_batch.specs.Traced.{Traced, traced}
+use Rattle.ge_model_program.specs.StandsFor.{entry_bytes, cluster_bytes, cluster_fits, held, StandsForOneOf}
+use Rattle.ge_model_program.specs.Traced.{Traced, traced}
 use Rattle.ge_spool.specs.Settled.{IsSettled, Grows, format_of}
 use Rattle.ge_spool.specs.declared.spool.Spool.{Spool}
 use Rattle.ge_spool.proofs.Settling.{still-moments}

@@ -1,11 +1,11 @@
 -- What opening a master comes to.
 use Rattle.std.proofs.Common.{◌≡◌, ℕ, List, length, Result, Ok, Err, ap, ◌∙◌, sym}
 use Rattle.ge_model_rows.specs.ClusterRows.{Cluster}
-use Rattle.ge_model_disk.specs.Disk.{IsImageSince}
+use Rattle.ge_model_journal.specs.Disk.{IsImageSince}
 use Rattle.ge_model_journal.specs.Area.{head}
 use Rattle.ge_model_journal.specs.Journal.{State, choice, meaning, counted_area}
-use Rattle.ge_model_store.specs.StandsFor.{held, or_bad, or_frame, stands_for}
-use Rattle.ge_model_store.specs.declared.Wrong.TheVariants as wrong
+use Rattle.ge_model_program.specs.StandsFor.{held, or_bad, or_frame, stands_for}
+use Rattle.ge_model_program.specs.declared.Wrong.TheVariants as wrong
 use Rattle.ge_spool.specs.Moments.{IsQuiet}
 use Rattle.ge_spool.specs.Opening.{HasOpened, Opens, Blames, OnFrame, raw_state}
 use Rattle.ge_spool.specs.declared.faults.OpenFault.{OpenFault}

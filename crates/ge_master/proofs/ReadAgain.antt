@@ -12,7 +12,7 @@ use Rattle.ge_model_codec.specs.Code.{Code, whole}
 use Rattle.ge_model_codec.specs.Canonical.{IsCanonical}
 use Rattle.ge_codec.specs.Places.{both, drop-past, ends_behind}
 use Rattle.ge_snapshot.specs.Whole.{whole_read}
-use Rattle.ge_model_store.specs.Reading.{or_at, after_from, after_record, at_record, after_records, in_snapshot, held_in}
+use Rattle.ge_model_program.specs.Reading.{or_at, after_from, after_record, at_record, after_records, in_snapshot, held_in}
 
 module _ {C E : Type 0} (snapshot : Code C) (entry : Code E) (after : C → E → C) (opening : C) where
   -- the last entry

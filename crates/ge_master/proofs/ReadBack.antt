@@ -7,8 +7,8 @@ use Rattle.ge_model_codec.specs.declared.TakeFault.{TakeFault}
 use Rattle.ge_model_jobs.specs.Applying.{after_entry}
 use Rattle.ge_model_journal.specs.Area.{end_from}
 use Rattle.ge_model_journal.specs.Journal.{State}
-use Rattle.ge_model_store.specs.Reading.{or_at, after_from, after_records}
-use Rattle.ge_model_store.specs.StandsFor.{snapshot_code, body_code, entry_reading, cluster_from, cluster_after_record, cluster_in_snapshot, cluster_after_records, held}
+use Rattle.ge_model_program.specs.Reading.{or_at, after_from, after_records}
+use Rattle.ge_model_program.specs.StandsFor.{snapshot_code, body_code, entry_reading, cluster_from, cluster_after_record, cluster_in_snapshot, cluster_after_records, held}
 use Rattle.ge_spool.proofs.Places.{end-behind}
 use Rattle.ge_spool.specs.declared.faults.OpenFault.{OpenFault}
 use Rattle.ge_spool.specs.declared.faults.OpenFault.TheVariants.{Disk, Frame, Bad, Memory}

@@ -7,7 +7,7 @@ use Rattle.ge_model_rows.specs.ClusterRows.{Cluster}
 use Rattle.ge_model_rows.specs.EntryRows.{Entry}
 use Rattle.ge_model_rows.specs.EventRows.{Event, Reply, Planned}
 use Rattle.ge_model_core.specs.Trace.{answer_of, after_entries}
-use Rattle.ge_model_batch.specs.Traced.{Traced, onto, ends_at, traced, single}
+use Rattle.ge_model_program.specs.Traced.{Traced, onto, ends_at, traced, single}
 use Rattle.ge_master.specs.declared.faults.Stop.{Stop}
 use Rattle.ge_master.specs.declared.faults.Stop.TheVariants.{Dead}
 use Rattle.ge_master.specs.Areas.{Areas}

@@ -11,8 +11,8 @@ use Rattle.ge_model_rows.specs.EventRows.{Event, Reply, Planned}
 use Rattle.ge_codec.specs.Places.{both, and_of}
 use Rattle.ge_model_jobs.specs.Applying.{after_entry}
 use Rattle.ge_model_core.specs.Trace.{answer_of, after_entries}
-use Rattle.ge_model_store.specs.StandsFor.{entry_bytes, entry_fits}
-use Rattle.ge_model_batch.specs.Traced.{Traced, onto, ends_at, traced}
+use Rattle.ge_model_program.specs.StandsFor.{entry_bytes, entry_fits}
+use Rattle.ge_model_program.specs.Traced.{Traced, onto, ends_at, traced}
 use Rattle.ge_master.specs.Staging.{AreFit, Stages, IsStaged}
 
 -- two lists of entries that fit are one

@@ -18,8 +18,8 @@ use Rattle.ge_codec.specs.ClusterLaws.{cluster_canonical}
 use Rattle.ge_model_journal.specs.Area.{head}
 use Rattle.ge_model_journal.specs.Journal.{State, choice, meaning, with_record, compacted, IsOneOf, counted_area}
 use Rattle.ge_model_jobs.specs.Applying.{after_entry}
-use Rattle.ge_model_store.specs.Reading.{held_in}
-use Rattle.ge_model_store.specs.StandsFor.{snapshot_code, body_code, entry_bytes, cluster_bytes, entry_fits, cluster_fits, held, or_bad, or_frame, stands_for, StandsForOneOf}
+use Rattle.ge_model_program.specs.Reading.{held_in}
+use Rattle.ge_model_program.specs.StandsFor.{snapshot_code, body_code, entry_bytes, cluster_bytes, entry_fits, cluster_fits, held, or_bad, or_frame, stands_for, StandsForOneOf}
 use Rattle.ge_master.specs.Storing.{stored}
 use Rattle.ge_master.specs.Staging.{AreFit}
 use Rattle.ge_master.proofs.ReadAgain.{record_applies, held_in-more, held_in-compacted}

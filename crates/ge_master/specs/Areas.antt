@@ -1,8 +1,8 @@
 -- Both areas around a call.
 use Rattle.std.specs.Prelude.{◌≡◌, ◌⊎◌, ℕ, ◌+◌, List, length, Ok}
 use Rattle.ge_model_rows.specs.ClusterRows.{Cluster}
-use Rattle.ge_model_disk.specs.Disk.{Content, IsImageSince, IsImageNow}
-use Rattle.ge_model_store.specs.StandsFor.{stands_for}
+use Rattle.ge_model_journal.specs.Disk.{Content, IsImageSince, IsImageNow}
+use Rattle.ge_model_program.specs.StandsFor.{stands_for}
 use Rattle.ge_outside.specs.Faults.{Rose}
 
 -- what the two areas tell, how often they were synced, together, and how often a call of each failed

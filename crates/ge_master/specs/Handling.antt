@@ -4,8 +4,8 @@ use Rattle.ge_limits.specs.Limits as limit
 use Rattle.ge_model_rows.specs.ClusterRows.{Cluster}
 use Rattle.ge_model_rows.specs.EventRows.{Event, Reply, Planned}
 use Rattle.ge_model_core.specs.Trace.{answer_of}
-use Rattle.ge_model_store.specs.StandsFor.{entry_bytes, cluster_bytes, StandsForOneOf}
-use Rattle.ge_model_batch.specs.Traced.{Traced, traced, single}
+use Rattle.ge_model_program.specs.StandsFor.{entry_bytes, cluster_bytes, StandsForOneOf}
+use Rattle.ge_model_program.specs.Traced.{Traced, traced, single}
 use Rattle.ge_spool.specs.Settled.{Grows, generation_of, record_count}
 use Rattle.ge_spool.specs.declared.spool.Spool.{Spool}
 use Rattle.ge_master.specs.Areas.{Areas, HasFailed, EachSince, StandsSince}

@@ -2,7 +2,7 @@
 use Rattle.std.specs.Prelude.{◌≡◌, Bool, Ok}
 use Rattle.ge_model_rows.specs.ClusterRows.{Cluster}
 use Rattle.ge_model_journal.specs.Journal.{State}
-use Rattle.ge_model_store.specs.StandsFor.{held}
+use Rattle.ge_model_program.specs.StandsFor.{held}
 use Rattle.ge_spool.specs.Settled.{IsSettled}
 use Rattle.ge_spool.specs.declared.spool.Spool.{Spool}
 use Rattle.ge_master.specs.Areas.{Areas}

@@ -1,7 +1,7 @@
 -- What contracts see of a master.
 use Rattle.std.specs.Prelude.{◌≡◌, Bool, false, List}
 use Rattle.ge_model_rows.specs.ClusterRows.{Cluster}
-use Rattle.ge_model_disk.specs.Disk.{Content}
+use Rattle.ge_model_journal.specs.Disk.{Content}
 use Rattle.ge_spool.specs.Settled.{HasRoom}
 use Rattle.ge_spool.specs.declared.spool.Spool.{Spool}
 use Rattle.ge_master.specs.Homes.{Parts}

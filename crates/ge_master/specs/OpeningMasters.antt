@@ -1,12 +1,12 @@
 -- What opening a master answers and leaves.
 use Rattle.std.specs.Prelude.{◌≡◌, ℕ, ◌+◌, ◌≤◌, List, Result, Ok, Err}
 use Rattle.ge_model_rows.specs.ClusterRows.{Cluster}
-use Rattle.ge_model_disk.specs.Disk.{read_bytes, told_synced}
+use Rattle.ge_model_journal.specs.Disk.{read_bytes, told_synced}
 use Rattle.ge_model_journal.specs.Area.{head}
 use Rattle.ge_model_journal.specs.Journal.{choice, meaning}
 use Rattle.ge_model_journal.specs.Writing.{first_opened, second_opened}
-use Rattle.ge_model_store.specs.StandsFor.{stands_for}
-use Rattle.ge_model_store.specs.declared.Wrong.TheVariants as wrong
+use Rattle.ge_model_program.specs.StandsFor.{stands_for}
+use Rattle.ge_model_program.specs.declared.Wrong.TheVariants as wrong
 use Rattle.ge_spool.specs.Moments.{IsQuiet}
 use Rattle.ge_spool.specs.Opening.{Tells, OnFrame}
 use Rattle.ge_spool.specs.Settled.{Grows}

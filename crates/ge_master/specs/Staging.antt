@@ -6,8 +6,8 @@ use Rattle.ge_model_rows.specs.ClusterRows.{Cluster}
 use Rattle.ge_model_rows.specs.EntryRows.{Entry}
 use Rattle.ge_model_rows.specs.EventRows.{Event, Reply, Planned}
 use Rattle.ge_model_core.specs.Trace.{answer_of, after_entries}
-use Rattle.ge_model_store.specs.StandsFor.{entry_bytes, entry_fits}
-use Rattle.ge_model_batch.specs.Traced.{traced}
+use Rattle.ge_model_program.specs.StandsFor.{entry_bytes, entry_fits}
+use Rattle.ge_model_program.specs.Traced.{traced}
 use Rattle.ge_master.specs.declared.staging.Staged.{Staged}
 
 -- each entry is one that its bytes can hold

@@ -4,7 +4,7 @@ use Rattle.ge_limits.specs.Limits as limit
 use Rattle.ge_model_rows.specs.ClusterRows.{Cluster}
 use Rattle.ge_model_journal.specs.Area.{written_format}
 use Rattle.ge_model_journal.specs.Journal.{State, with_record, compacted}
-use Rattle.ge_model_store.specs.StandsFor.{cluster_bytes}
+use Rattle.ge_model_program.specs.StandsFor.{cluster_bytes}
 use Rattle.ge_spool.specs.Settled.{IsAppended, IsCompacted, generation_of, format_of, record_count, end_of}
 use Rattle.ge_spool.specs.declared.spool.Spool.{Spool}
 use Rattle.ge_spool.specs.declared.faults.AppendFault.{AppendFault}

@@ -2,7 +2,7 @@
 ghost use Rattle.std.specs.Prelude.{◌≡◌, ◌+◌, ◌^◌, ◌<◌, ◌≤◌, length, IfOk};
 ghost use Rattle.ge_model_codec.specs.Reading.{ReadsAs, ReadsWhole};
 ghost use Rattle.ge_model_journal.specs.Area.{end_from};
-ghost use Rattle.ge_model_store.specs.StandsFor.{snapshot_code, entry_reading, cluster_after_record, cluster_in_snapshot, held};
+ghost use Rattle.ge_model_program.specs.StandsFor.{snapshot_code, entry_reading, cluster_after_record, cluster_in_snapshot, held};
 ghost use Rattle.ge_model_codec.specs.Code.{whole};
 ghost use Rattle.ge_spool.specs.Opening.{raw_state};
 ghost use Rattle.ge_master.specs.Reading.{AppliesEntry, EndsWithin, ReadsRecord, AppliesBehind, ReadsPart, ReadsBack};
@@ -15,7 +15,7 @@ use ge_spool::{OpenFault, Raw};
 use std::alloc::{AllocError, Global};
 
 // An entry at a place of an area of a format, and where it ends.
-#[tactic(auto, unfolding(ge_model_store::specs::StandsFor::entry_reading))]
+#[tactic(auto, unfolding(ge_model_program::specs::StandsFor::entry_reading))]
 fn take_in_format(
     alloc: Global,
     format: u8,
@@ -95,7 +95,7 @@ fn take_snapshot(alloc: Global, format: u8, bytes: &[u8]) -> Result<Cluster, Tak
 }
 
 // The cluster of a snapshot; nothing where it can't be read.
-#[tactic(auto, unfolding(ge_model_store::specs::StandsFor::cluster_in_snapshot))]
+#[tactic(auto, unfolding(ge_model_program::specs::StandsFor::cluster_in_snapshot))]
 fn read_snapshot(alloc: Global, format: u8, bytes: &[u8]) -> Result<Option<Cluster>, AllocError>
     ensures { IfOk result (λ cluster. ReadsPart cluster (cluster_in_snapshot format bytes.now) 18) }
 {

@@ -5,7 +5,7 @@ ghost use Rattle.ge_base.specs.declared.refusal.Refusal.TheVariants.{NoMemory};
 ghost use Rattle.ge_model_core.specs.Refusals.{refusal_reply};
 ghost use Rattle.ge_model_core.specs.Plan.{plan_of};
 ghost use Rattle.ge_model_core.specs.Trace.{after_entries};
-ghost use Rattle.ge_model_store.specs.StandsFor.{entry_bytes, entry_fits};
+ghost use Rattle.ge_model_program.specs.StandsFor.{entry_bytes, entry_fits};
 ghost use Rattle.ge_master.specs.Staging.{AreFit, IsPrepared, Stages, IsStaged};
 
 use ge_base::{Refusal, code};
@@ -23,7 +23,7 @@ pub(crate) struct Staged {
 }
 
 // The bytes of an entry behind others, which hold all of it. An error leaves the others.
-#[tactic(auto, unfolding(ge_model_store::specs::StandsFor::entry_bytes, ge_model_store::specs::StandsFor::entry_fits))]
+#[tactic(auto, unfolding(ge_model_program::specs::StandsFor::entry_bytes, ge_model_program::specs::StandsFor::entry_fits))]
 fn put_entry(entry: &Entry, body: &mut Text) -> Result<(), AllocError>
     ensures bytes { OnOk result (body.new ≡ body.old ++ entry_bytes entry.now) }
     ensures fits { OnOk result (IsTrue (entry_fits entry.now)) }

@@ -1,8 +1,8 @@
 // Keeping what a batch changed.
 ghost use Rattle.std.specs.Prelude.{◌≡◌, ◌⊎◌, ◌+◌, ◌-◌, ◌^◌, ◌<◌, ◌≤◌, ℕ, List, length, true, false, min, IfOk, OnOk, IsTrue};
-ghost use Rattle.ge_model_disk.specs.Disk.{IsImageSince};
+ghost use Rattle.ge_model_journal.specs.Disk.{IsImageSince};
 ghost use Rattle.ge_model_journal.specs.Journal.{State, IsOneOf, with_record, compacted};
-ghost use Rattle.ge_model_store.specs.StandsFor.{cluster_bytes, cluster_fits};
+ghost use Rattle.ge_model_program.specs.StandsFor.{cluster_bytes, cluster_fits};
 ghost use Rattle.ge_outside.specs.Faults.{Rose};
 ghost use Rattle.ge_spool.specs.Bytes.{snapshot_of};
 ghost use Rattle.ge_spool.specs.Settled.{IsSettled, IsAppended, IsCompacted, HasRoom, Grows, is_dead, format_of, generation_of};
@@ -49,7 +49,7 @@ fn stop_of(fault: AppendFault) -> Stop
 }
 
 // The bytes of a cluster, which hold all of it.
-#[tactic(auto, unfolding(ge_model_store::specs::StandsFor::cluster_bytes, ge_model_store::specs::StandsFor::cluster_fits))]
+#[tactic(auto, unfolding(ge_model_program::specs::StandsFor::cluster_bytes, ge_model_program::specs::StandsFor::cluster_fits))]
 fn cluster_text(alloc: Global, cluster: &Cluster) -> Result<Text, AllocError>
     ensures bytes { IfOk result (λ text. text ≡ cluster_bytes cluster.now) }
     ensures fits { OnOk result (IsTrue (cluster_fits cluster.now)) }

@@ -9,7 +9,7 @@ use Rattle.ge_model_rows.specs.EntryRows.{Item, ObjectKind}
 use Rattle.ge_model_rows.specs.PeRows.{PeRow, Allocation, UrgencySlots}
 use Rattle.ge_model_rows.specs.PeopleRows.{UserRow, ProjectRow}
 use Rattle.ge_model_rows.specs.ValueRows.{infinity}
-use Rattle.ge_model_script.specs.Names.{is_name}
+use Rattle.ge_model_grammar.specs.Names.{is_name}
 use Rattle.ge_model_grammar.specs.declared.Body.{Body}
 use Rattle.ge_model_grammar.specs.declared.Body.TheVariants.{Attributes}
 use Rattle.ge_model_grammar.specs.Bodies.{body_of}

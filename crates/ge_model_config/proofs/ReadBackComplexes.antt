@@ -12,7 +12,7 @@ use Rattle.ge_collections.specs.Keyed.{text_cmp, text_eq, put_text}
 use Rattle.ge_model_rows.specs.ClusterRows.{Cluster}
 use Rattle.ge_model_rows.specs.EntryRows.{Item, ObjectKind}
 use Rattle.ge_model_rows.specs.ValueRows.{Value, Kind, ComplexDef, infinity}
-use Rattle.ge_model_script.specs.Names.{is_name}
+use Rattle.ge_model_grammar.specs.Names.{is_name}
 use Rattle.ge_model_rows.specs.Faults.{when}
 use Rattle.ge_model_rows.specs.Pieces.{is_one_of}
 use Rattle.ge_model_rows.specs.Values.{value_of}

@@ -11,7 +11,7 @@ use Rattle.ge_collections.specs.Keyed.{text_cmp, at_text}
 use Rattle.ge_model_rows.specs.ClusterRows.{Cluster, opening_cluster, default_sched}
 use Rattle.ge_model_rows.specs.EntryRows.{Item, ObjectKind}
 use Rattle.ge_model_rows.specs.ValueRows.{Kind, ComplexDef}
-use Rattle.ge_model_script.specs.Names.{is_name}
+use Rattle.ge_model_grammar.specs.Names.{is_name}
 use Rattle.ge_model_rows.specs.Faults.{when}
 use Rattle.ge_model_rows.specs.Values.{is_number_kind}
 use Rattle.ge_model_rows.specs.Complexes.{opening_complexes}

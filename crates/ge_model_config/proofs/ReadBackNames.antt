@@ -12,7 +12,7 @@ use Rattle.ge_base.specs.declared.refusal.Refusal.TheVariants.{BadValue}
 use Rattle.ge_collections.specs.Keyed.{text_cmp, at_text}
 use Rattle.ge_model_rows.specs.ClusterRows.{Cluster}
 use Rattle.ge_model_rows.specs.EntryRows.{ObjectKind}
-use Rattle.ge_model_script.specs.Names.{is_name_byte, is_name}
+use Rattle.ge_model_grammar.specs.Names.{is_name_byte, is_name}
 use Rattle.ge_model_rows.specs.Faults.{when}
 use Rattle.ge_model_rows.specs.Pieces.{list_items}
 use Rattle.ge_model_grammar.specs.Configuring.{is_group_name, is_name_of}

@@ -5,7 +5,7 @@ use Rattle.ge_base.specs.declared.refusal.Refusal.TheVariants.{InUse}
 use Rattle.ge_collections.specs.Keyed.{text_cmp}
 use Rattle.ge_model_rows.specs.ClusterRows.{Cluster, opening_cluster}
 use Rattle.ge_model_rows.specs.ValueRows.{Value, Amount, Word, Kind, ComplexDef, infinity}
-use Rattle.ge_model_script.specs.Names.{is_name}
+use Rattle.ge_model_grammar.specs.Names.{is_name}
 use Rattle.ge_model_rows.specs.Faults.{when}
 use Rattle.ge_model_rows.specs.Complexes.{opening_complexes, is_consumed}
 use Rattle.ge_model_config.specs.Columns.{is_same_kind}

@@ -5,7 +5,7 @@ use Rattle.std.proofs.lemmas.Bool.{and_parts, and_from, eqb-true, true≢false}
 use Rattle.std.proofs.lemmas.List.Folds.{list_all-append}
 use Rattle.ge_model_rows.specs.ValueRows.{Kind, ComplexDef}
 use Rattle.ge_model_text.specs.Words.{is_blank}
-use Rattle.ge_model_script.specs.Names.{is_name_byte, is_name}
+use Rattle.ge_model_grammar.specs.Names.{is_name_byte, is_name}
 use Rattle.ge_model_rows.specs.Pieces.{is_empty, trimmed, joined_by, without_last_blanks}
 use Rattle.ge_model_grammar.specs.Lines.{is_plain_byte, is_plain_line, begins_with, ends_in}
 use Rattle.ge_model_config.specs.Complexes.{printed_complex as printed_line}

@@ -9,7 +9,7 @@ use Rattle.ge_model_rows.specs.ClusterRows.{Cluster}
 use Rattle.ge_model_rows.specs.ValueRows.{Value, Amount, Flag, Word, Kind, Relop, Requestable}
 use Rattle.ge_model_rows.specs.ValueRows.{Consumable, ComplexDef, infinity}
 use Rattle.ge_model_text.specs.Words.{is_blank}
-use Rattle.ge_model_script.specs.Names.{is_name}
+use Rattle.ge_model_grammar.specs.Names.{is_name}
 use Rattle.ge_model_rows.specs.Faults.{when}
 use Rattle.ge_model_rows.specs.Pieces.{is_empty, blank_pieces, joined_by}
 use Rattle.ge_model_rows.specs.Values.{value_of, value_text, fixed_text}

@@ -12,7 +12,7 @@ use Rattle.ge_model_rows.specs.ClusterRows.{Cluster, default_sched}
 use Rattle.ge_model_rows.specs.EntryRows.{Item, ObjectKind}
 use Rattle.ge_model_rows.specs.SettingRows.{Sched}
 use Rattle.ge_model_rows.specs.ValueRows.{Value, Kind, ComplexDef, infinity}
-use Rattle.ge_model_script.specs.Names.{is_name}
+use Rattle.ge_model_grammar.specs.Names.{is_name}
 use Rattle.ge_model_rows.specs.Pieces.{list_items, before_byte, behind_byte}
 use Rattle.ge_model_rows.specs.Values.{value_of, amount_in}
 use Rattle.ge_model_rows.specs.Complexes.{complex_at}

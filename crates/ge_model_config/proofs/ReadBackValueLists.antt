@@ -8,7 +8,7 @@ use Rattle.ge_base.specs.declared.refusal.Refusal.TheVariants.{BadValue}
 use Rattle.ge_collections.specs.Keyed.{text_eq}
 use Rattle.ge_model_rows.specs.ClusterRows.{Cluster}
 use Rattle.ge_model_rows.specs.ValueRows.{Value, Amount, Flag, Word, Kind, ComplexDef}
-use Rattle.ge_model_script.specs.Names.{is_name_byte, is_name}
+use Rattle.ge_model_grammar.specs.Names.{is_name_byte, is_name}
 use Rattle.ge_model_rows.specs.Faults.{when}
 use Rattle.ge_model_rows.specs.Pieces.{is_empty, has_byte, before_byte, behind_byte}
 use Rattle.ge_model_rows.specs.Values.{is_word_byte, value_text}

@@ -8,7 +8,7 @@ use Rattle.ge_model_rows.specs.ClusterRows.{Cluster}
 use Rattle.ge_model_rows.specs.EntryRows.{Item}
 use Rattle.ge_model_rows.specs.ValueRows.{Amount, Kind, Relop, Requestable, Consumable, ComplexDef}
 use Rattle.ge_model_rows.specs.ValueRows.{infinity}
-use Rattle.ge_model_script.specs.Names.{is_name}
+use Rattle.ge_model_grammar.specs.Names.{is_name}
 use Rattle.ge_model_rows.specs.Faults.{when}
 use Rattle.ge_model_rows.specs.Pieces.{is_one_of, joined_by}
 use Rattle.ge_model_rows.specs.Values.{value_of, is_number_kind, value_text, fixed_text}

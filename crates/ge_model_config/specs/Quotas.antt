@@ -7,7 +7,7 @@ use Rattle.ge_model_rows.specs.ClusterRows.{Cluster}
 use Rattle.ge_model_rows.specs.EntryRows.{Item, ObjectKind}
 use Rattle.ge_model_rows.specs.QuotaRows.{Rule, Filter, QuotaRow}
 use Rattle.ge_model_rows.specs.ValueRows.{Value, Kind, ComplexDef, Amount}
-use Rattle.ge_model_script.specs.Names.{is_name}
+use Rattle.ge_model_grammar.specs.Names.{is_name}
 use Rattle.ge_model_rows.specs.Faults.{when}
 use Rattle.ge_model_rows.specs.Pieces.{joined_by}
 use Rattle.ge_model_rows.specs.Values.{value_of, amount_in, flag_text}

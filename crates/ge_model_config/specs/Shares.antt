@@ -10,7 +10,7 @@ use Rattle.ge_model_rows.specs.ClusterRows.{Cluster}
 use Rattle.ge_model_rows.specs.EntryRows.{Item}
 use Rattle.ge_model_rows.specs.PeopleRows.{ShareNode}
 use Rattle.ge_model_rows.specs.ValueRows.{Value, Kind}
-use Rattle.ge_model_script.specs.Names.{is_name}
+use Rattle.ge_model_grammar.specs.Names.{is_name}
 use Rattle.ge_model_rows.specs.Faults.{when}
 use Rattle.ge_model_rows.specs.Pieces.{is_empty, lists_number, each_number_once, with_one_number, list_items, is_digits, number_of, list_text}
 use Rattle.ge_model_rows.specs.Values.{value_of, amount_in}

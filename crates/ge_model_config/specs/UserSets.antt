@@ -5,7 +5,7 @@ use Rattle.ge_base.specs.declared.refusal.Refusal.TheVariants.{BadValue}
 use Rattle.ge_limits.specs.Limits as limit
 use Rattle.ge_model_rows.specs.ClusterRows.{Cluster}
 use Rattle.ge_model_rows.specs.EntryRows.{Item, ObjectKind}
-use Rattle.ge_model_script.specs.Names.{is_name}
+use Rattle.ge_model_grammar.specs.Names.{is_name}
 use Rattle.ge_model_rows.specs.Faults.{when}
 use Rattle.ge_model_rows.specs.Pieces.{list_items}
 use Rattle.ge_model_grammar.specs.Configuring.{is_group_name}

@@ -10,7 +10,7 @@ use Rattle.ge_model_rows.specs.EntryRows.{Entry, Hold, Release, Delete, Clear, D
 use Rattle.ge_model_rows.specs.EntryRows.{Item, ObjectKind}
 use Rattle.ge_model_rows.specs.EventRows.{Event, Planned}
 use Rattle.ge_model_rows.specs.JobRows.{Grant, Advance}
-use Rattle.ge_model_script.specs.Lines.{is_too_long}
+use Rattle.ge_model_grammar.specs.ScriptLines.{is_too_long}
 use Rattle.ge_model_core.specs.Forms.{is_cut}
 use Rattle.ge_model_core.specs.Refusals.{refused, unless_refused}
 use Rattle.ge_model_rows.specs.Faults.{turn_of, earlier_fault, first_fault, when}

@@ -8,7 +8,7 @@ use Rattle.ge_model_rows.specs.EventRows.{Event}
 use Rattle.ge_model_rows.specs.HostRows.{HostRow}
 use Rattle.ge_model_rows.specs.SettingRows.{Sched}
 use Rattle.ge_model_rows.specs.ValueRows.{Value, ComplexDef}
-use Rattle.ge_model_script.specs.Names.{is_name}
+use Rattle.ge_model_grammar.specs.Names.{is_name}
 use Rattle.ge_model_grammar.specs.declared.Body.{Body}
 use Rattle.ge_model_grammar.specs.Bodies.{body_of}
 use Rattle.ge_model_config.specs.Reading.{item_of}

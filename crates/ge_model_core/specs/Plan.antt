@@ -4,7 +4,7 @@ use Rattle.ge_base.specs.declared.refusal.Refusal.TheVariants.{Syntax, TooLong, 
 use Rattle.ge_model_rows.specs.ClusterRows.{Cluster}
 use Rattle.ge_model_rows.specs.CommandRows.{Command}
 use Rattle.ge_model_rows.specs.EventRows.{Event, Form, Planned}
-use Rattle.ge_model_script.specs.Lines.{is_too_long}
+use Rattle.ge_model_grammar.specs.ScriptLines.{is_too_long}
 use Rattle.ge_model_core.specs.Refusals.{refused}
 use Rattle.ge_model_core.specs.Forms.{is_cut}
 use Rattle.ge_model_grammar.specs.Commands.{command_of}

@@ -3,7 +3,7 @@
 use Rattle.std.specs.Prelude.{ℕ, true, List, length, replicate}
 use Rattle.ge_model_rows.specs.ClusterRows.{Cluster, opening_cluster, default_queue, default_sched}
 use Rattle.ge_model_rows.specs.ClusterRows.{opening_complexes}
-use Rattle.ge_model_script.specs.Events.{events_of}
+use Rattle.ge_model_grammar.specs.Events.{events_of}
 use Rattle.ge_model_core.specs.Render.{rendered}
 use Rattle.ge_model_rows.specs.Complexes.{opening}
 use Rattle.ge_model_rows.specs.Groups.{members_of, has_loop, expanded}

@@ -1,3 +1,6 @@
+mod GeneratedRows
+mod Rows
+pub mod FirstLine
 mod OptionRows
 mod ParsingRows
 pub mod ParsingLaws

@@ -1,7 +1,7 @@
 -- A text is answered by its longest line first, and then by the grammar.
 use Rattle.std.proofs.Common.{◌≡◌, ℕ, true, false, List, Err, ap}
 use Rattle.ge_base.specs.declared.refusal.Refusal.TheVariants.{TooLong}
-use Rattle.ge_model_script.specs.Lines.{lines_of, has_long_line}
+use Rattle.ge_model_grammar.specs.ScriptLines.{lines_of, has_long_line}
 use Rattle.ge_model_grammar.specs.Commands.{command_of}
 use Rattle.ge_model_grammar.specs.Parsing.{parsed, in_grammar}
 

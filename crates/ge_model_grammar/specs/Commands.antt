@@ -3,7 +3,7 @@ use Rattle.std.specs.Prelude.{ℕ, Bool, true, false, not, ◌&&◌, if◌then�
 use Rattle.std.specs.Bool.{beq}
 use Rattle.ge_rows.specs.Keyed.{text_eq}
 use Rattle.ge_model_rows.specs.CommandRows.{Command, Listing, Query}
-use Rattle.ge_model_script.specs.Names.{is_name}
+use Rattle.ge_model_grammar.specs.Names.{is_name}
 use Rattle.ge_model_text.specs.Words.{texts_of}
 use Rattle.ge_model_rows.specs.Pieces.{is_empty, before_byte, behind_byte, has_byte}
 use Rattle.ge_model_grammar.specs.Lines.{is_plain_line, text_lines, begins_with, read_each}

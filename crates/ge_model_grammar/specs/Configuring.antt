@@ -3,7 +3,7 @@ use Rattle.std.specs.Prelude.{ℕ, Bool, ◌&&◌, if◌then◌else◌, List, []
 use Rattle.ge_rows.specs.Keyed.{at_text, text_eq}
 use Rattle.ge_model_rows.specs.CommandRows.{Command}
 use Rattle.ge_model_rows.specs.EntryRows.{ObjectKind, Key}
-use Rattle.ge_model_script.specs.Names.{is_name}
+use Rattle.ge_model_grammar.specs.Names.{is_name}
 use Rattle.ge_model_rows.specs.Pieces.{is_empty}
 use Rattle.ge_model_grammar.specs.Lines.{begins_with}
 use Rattle.ge_model_grammar.specs.Bodies.{body_of}

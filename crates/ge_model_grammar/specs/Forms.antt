@@ -2,7 +2,7 @@
 use Rattle.std.specs.Prelude.{ℕ, Bool, true, false, not, ◌&&◌, ◌||◌, if◌then◌else◌, List, [], ◌∷◌, length, drop, nat_le, is_some, codes}
 use Rattle.std.specs.List.{list_all}
 use Rattle.ge_rows.specs.Keyed.{text_eq}
-use Rattle.ge_model_script.specs.Names.{is_name, is_job_name, is_job_name_byte}
+use Rattle.ge_model_grammar.specs.Names.{is_name, is_job_name, is_job_name_byte}
 use Rattle.ge_model_rows.specs.Pieces.{is_empty, pieces_at, before_byte, behind_byte, has_byte, is_digits, is_one_of}
 use Rattle.ge_model_rows.specs.Ranges.{range_of}
 use Rattle.ge_model_grammar.specs.declared.WordForm.{WordForm}

@@ -1,3 +1,9 @@
+pub mod Generated
+pub mod ScriptLines
+pub mod Names
+pub mod Header
+pub mod Events
+pub mod Sources
 pub mod Lines
 pub mod Options
 pub mod Forms

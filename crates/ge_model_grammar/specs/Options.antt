@@ -3,7 +3,7 @@ use Rattle.std.specs.Prelude.{ℕ, Bool, ◌&&◌, if◌then◌else◌, List, []
 use Rattle.std.specs.Option.{option_zip}
 use Rattle.ge_limits.specs.Limits as limit
 use Rattle.ge_rows.specs.Keyed.{at_text}
-use Rattle.ge_model_script.specs.Names.{is_job_name_byte, begins_with_digit}
+use Rattle.ge_model_grammar.specs.Names.{is_job_name_byte, begins_with_digit}
 use Rattle.ge_model_rows.specs.Pieces.{is_empty, pieces_at, before_byte, behind_byte, has_byte}
 use Rattle.ge_model_rows.specs.Ranges.{digits_number}
 

@@ -3,7 +3,7 @@ use Rattle.std.specs.Prelude.{ℕ, true, false, List, Option, Some, None, Result
 use Rattle.ge_base.specs.declared.refusal.Refusal.{Refusal}
 use Rattle.ge_base.specs.declared.refusal.Refusal.TheVariants.{Syntax, TooLong}
 use Rattle.ge_model_rows.specs.CommandRows.{Command}
-use Rattle.ge_model_script.specs.Lines.{lines_of, has_long_line}
+use Rattle.ge_model_grammar.specs.ScriptLines.{lines_of, has_long_line}
 use Rattle.ge_model_grammar.specs.Commands.{command_of}
 
 -- a command, or a syntax error where the text isn't in the grammar

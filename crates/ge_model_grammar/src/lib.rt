@@ -1,10 +1,13 @@
-//! The grammar of commands and of bodies.
+//! The grammar of scripts, commands and bodies, and the script that is made up from a number.
 //!
 //! Definitions, and the types that they share with code: forms of words, and the lines of bodies as they are read.
 //!
+//! - `Names`, `Header`, `ScriptLines`, `Sources`, `Events`: what a recorded script stands for: its lines, its requests and their events.
 //! - `Lines`, `Forms`, `Shapes`, `Options`: lines and their words, what a word of an option must be, the table of options, what they give.
-//! - `Targets`, `Configuring`, `Commands`, `Parsing`: jobs and tasks that are named, the forms of qconf, the command that a text is, and what it is answered with.
+//! - `Targets`, `Configuring`, `Commands`, `Parsing`: jobs and tasks that are named, the forms of qconf, the command that a text is,
+//!   and what it is answered with.
 //! - `Attributes`, `Rules`, `Bodies`: the attributes of each body, the lines of a rule set, and the body that a text is.
+//! - `Generated`: the script that is made up from a number, to try the whole system on large inputs.
 #![tactic(auto)]
 
 use ge_rows::{Filter, List, Text};

@@ -11,8 +11,8 @@ use Rattle.std.specs.declared.cmp.Ordering.TheVariants.{Less, Equal, Greater}
 use Rattle.std.proofs.lemmas.List.Elements.{All-head, All-tail}
 use Rattle.std.proofs.lemmas.Map.Lookups.{CmpEqualImpliesEq, exact_unsigned, exact_bytes}
 use Rattle.ge_collections.specs.Keyed.{at_number, text_cmp}
-use Rattle.ge_collections.specs.Short.{AreShort, IsNumbered, short_of, number_of}
-use Rattle.ge_collections.specs.declared.short_row.ShortRow.{ShortRow}
+use Rattle.ge_job_index.specs.Short.{AreShort, IsNumbered, short_of, number_of}
+use Rattle.ge_job_index.specs.declared.short_row.ShortRow.{ShortRow}
 use Rattle.ge_model_rows.specs.JobRows.{Job, PeRequest}
 use Rattle.ge_model_rows.specs.ValueRows.{Value}
 use Rattle.ge_rows.specs.declared.values.Value.TheVariants.{Amount, Flag, Word}

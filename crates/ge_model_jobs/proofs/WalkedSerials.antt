@@ -30,6 +30,18 @@ first_met (job ∷ jobs) serial = by (runs_serial serial job) (find (has_serial 
     by false (Some task) is some again = absurd (true≢false some)
     by false None is some again = again
 
+-- a serial is that of a running task where some job runs a task with it
+pub serial_borne : (jobs : List (ℕ × Job)) (serial : ℕ) → is_some (running_with jobs serial) ≡ is_some (find (runs_serial serial) jobs)
+serial_borne [] serial = refl
+serial_borne (job ∷ jobs) serial = by (runs_serial serial job) (find (has_serial serial) job.1.running) refl (some_found (has_serial serial) job.1.running) (serial_borne jobs serial)
+  where
+    by : (runs : Bool) (found : Option (ℕ × Running)) → find (has_serial serial) job.1.running ≡ found → is_some found ≡ runs
+        → is_some (running_with jobs serial) ≡ is_some (find (runs_serial serial) jobs)
+        → is_some (option_and_then (task_with serial) (cond runs (Some job) (find (runs_serial serial) jobs))) ≡ is_some (cond runs (Some job) (find (runs_serial serial) jobs))
+    by true (Some task) is some again = λ i. is_some {T = ℕ × Job × ℕ × Running} (option_map (λ task. (job.0, job.1, task.0, task.1)) (is i))
+    by true None is some again = absurd (true≢false (sym some))
+    by false found is some again = again
+
 -- a table has a job at its number, and the job a running task
 abbrev pub AreThere : List (ℕ × Job) → ℕ × Job × ℕ × Running → Type 0
 AreThere jobs found = (at_number jobs found.0 ≡ Some found.1) × (at_number found.1.running found.2 ≡ Some found.3)

@@ -1,6 +1,6 @@
 -- Areas worked out by hand.
 use Rattle.std.specs.Prelude.{◌≡◌, [], ◌∷◌, Ok, Err, refl}
-use Rattle.ge_model_disk.specs.Disk.{overwritten}
+use Rattle.ge_model_journal.specs.Disk.{overwritten}
 use Rattle.ge_model_journal.specs.Area.{head, records_from, end_from}
 use Rattle.ge_model_journal.specs.Journal.{first_state, meaning, choice}
 use Rattle.ge_model_journal.specs.Writing.{bytes_of_record, bytes_of_area, padded, first_opened, second_opened}

@@ -1,3 +1,4 @@
+pub mod Disk
 pub mod Area
 pub mod Journal
 pub mod Writing

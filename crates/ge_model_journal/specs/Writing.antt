@@ -1,7 +1,7 @@
 -- The bytes that a journal writes.
 use Rattle.std.specs.Prelude.{ℕ, nat_lt, if◌then◌else◌, List, [], ◌∷◌, ◌++◌, length}
 use Rattle.std.specs.Int.{bytes_high_first}
-use Rattle.ge_model_disk.specs.Disk.{overwritten}
+use Rattle.ge_model_journal.specs.Disk.{overwritten}
 use Rattle.ge_model_journal.specs.Area.{written_format}
 use Rattle.ge_model_journal.specs.declared.Choice.{Choice}
 use Rattle.ge_model_journal.specs.declared.Choice.TheVariants.{Neither, Chosen, Wrong}

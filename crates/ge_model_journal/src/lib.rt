@@ -1,5 +1,5 @@
-//! What the bytes of a journal's two areas stand for: definitions, and the small types that they share
-//! with the code that reads an area.
+//! What a disk holds and what a stop may leave of it, and what the bytes of a journal's two areas stand for: definitions, which the
+//! clauses of the traits of the outside and of the journal cite, and the small types that they share with the code that reads an area.
 #![tactic(auto)]
 
 /// What the header of an open area says.

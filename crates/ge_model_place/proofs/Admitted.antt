@@ -10,7 +10,7 @@ use Rattle.ge_model_rows.specs.HostRows.{Groups, InstanceId}
 use Rattle.ge_model_rows.specs.JobRows.{Job, PeRequest, Grant}
 use Rattle.ge_model_rows.specs.PeRows.{PeRow, FillUp}
 use Rattle.ge_model_rows.specs.ScheduleRows.{LimitId, Demand, Booking}
-use Rattle.ge_model_bookings.specs.Bookings.{peak}
+use Rattle.ge_model_place.specs.Bookings.{peak}
 use Rattle.ge_model_place.specs.Limits.{capacity_of, counted_at, demands_of}
 use Rattle.ge_model_place.specs.Opening.{is_open}
 use Rattle.ge_model_place.specs.Placement.{Cell, room_of, cell_of, slot_asks, cell_asks, asked_so_far, slots_given, spread, grant_of, granted, placed_with, placed_by, placement_of, job_placement, has_room, have_room, are_open, are_admissible}

@@ -6,7 +6,7 @@ use Rattle.ge_model_rows.specs.JobRows.{Job, Grant, Advance}
 use Rattle.ge_model_rows.specs.PeRows.{FillUp}
 use Rattle.ge_model_rows.specs.ScheduleRows.{LimitId, Instance, Advance as Booked}
 use Rattle.ge_model_rows.specs.ValueRows.{Amount}
-use Rattle.ge_model_bookings.specs.Bookings.{forever, plain_sum}
+use Rattle.ge_model_place.specs.Bookings.{forever, plain_sum}
 use Rattle.ge_model_rows.specs.Groups.{expanded}
 use Rattle.ge_model_rows.specs.Complexes.{opening}
 use Rattle.ge_model_place.specs.Advances.{stand_in, advance_grants}

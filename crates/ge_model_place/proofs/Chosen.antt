@@ -8,7 +8,7 @@ use Rattle.ge_model_rows.specs.ClusterRows.{Cluster}
 use Rattle.ge_model_rows.specs.HostRows.{Groups, InstanceId}
 use Rattle.ge_model_rows.specs.JobRows.{Job, Grant}
 use Rattle.ge_model_rows.specs.ScheduleRows.{LimitId, Booking}
-use Rattle.ge_model_bookings.specs.Bookings.{peak}
+use Rattle.ge_model_place.specs.Bookings.{peak}
 use Rattle.ge_model_place.specs.Limits.{Counted, greatest_demand, counted_at, demands_of}
 use Rattle.ge_model_place.specs.Opening.{is_open}
 use Rattle.ge_model_place.specs.Placement.{Cell, room_of, slot_asks, asked_so_far, asked_with_one, fits_one_more, takes_one_more, with_slot, next_slot, grant_of, are_open, have_room, are_admissible}

@@ -7,7 +7,7 @@ use Rattle.ge_model_rows.specs.ClusterRows.{Cluster}
 use Rattle.ge_model_rows.specs.HostRows.{Groups}
 use Rattle.ge_model_rows.specs.JobRows.{Job, Grant}
 use Rattle.ge_model_rows.specs.ScheduleRows.{LimitId, Demand}
-use Rattle.ge_model_bookings.specs.Bookings.{same_limit}
+use Rattle.ge_model_place.specs.Bookings.{same_limit}
 use Rattle.ge_model_place.specs.Limits.{Counted, greatest_demand, per_slot, is_per_job, resource_of, counted_at, asked_by, demand_for, with_more, with_demand, with_grant, demands_of}
 use Rattle.ge_model_place.proofs.Once.{Each, asks, differs, Apart}
 use Rattle.ge_model_place.proofs.Same.{limits_equal, limit_same}

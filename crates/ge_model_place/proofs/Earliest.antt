@@ -3,7 +3,7 @@ use Rattle.std.proofs.Common.{◌≡◌, ℕ, ◌≤◌, ◌<◌, ◌⊎◌, Boo
 use Rattle.std.specs.Prelude.{nat_lt}
 use Rattle.std.proofs.lemmas.Bool.{cond_both, and_parts, and_cases, and_from, or_cases, eqb-true, eq-eqb, or_left, or_right, ltb-true, ltb-false, lt-ltb, true≢false, false_from_ne_true}
 use Rattle.ge_model_rows.specs.ScheduleRows.{Booking}
-use Rattle.ge_model_bookings.specs.Bookings.{forever}
+use Rattle.ge_model_place.specs.Bookings.{forever}
 use Rattle.ge_model_place.specs.Running.{ends_after, is_earlier, earlier_end, earliest_end}
 use Rattle.ge_model_place.specs.Runs.{ends_at}
 

@@ -8,7 +8,7 @@ use Rattle.ge_model_rows.specs.ClusterRows.{Cluster}
 use Rattle.ge_model_rows.specs.HostRows.{Groups}
 use Rattle.ge_model_rows.specs.JobRows.{Job, Grant}
 use Rattle.ge_model_rows.specs.ScheduleRows.{LimitId, Demand, Booking}
-use Rattle.ge_model_bookings.specs.Bookings.{same_limit, asked_of, demand_on}
+use Rattle.ge_model_place.specs.Bookings.{same_limit, asked_of, demand_on}
 use Rattle.ge_model_place.specs.Limits.{Counted, greatest_demand, per_slot, is_per_job, resource_of, counted_at, demand_for, with_more, with_demand, with_grant, demands_of}
 use Rattle.ge_model_place.specs.Placement.{Cell, asked_so_far, grant_of, are_admissible}
 use Rattle.ge_model_place.proofs.Once.{Each, asks}

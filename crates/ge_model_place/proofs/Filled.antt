@@ -9,7 +9,7 @@ use Rattle.ge_model_rows.specs.HostRows.{Groups, InstanceId}
 use Rattle.ge_model_rows.specs.JobRows.{Job}
 use Rattle.ge_model_rows.specs.PeRows.{Allocation, Fixed, PeSlots, FillUp, RoundRobin}
 use Rattle.ge_model_rows.specs.ScheduleRows.{LimitId, Booking}
-use Rattle.ge_model_bookings.specs.Bookings.{peak}
+use Rattle.ge_model_place.specs.Bookings.{peak}
 use Rattle.ge_model_place.specs.Limits.{Counted, greatest_demand, capacity_of, counted_at}
 use Rattle.ge_model_place.specs.Opening.{is_open}
 use Rattle.ge_model_place.specs.Placement.{Cell, room_of, rooms_in, cell_of, slot_asks, cell_asks, asked_so_far, asked_with_one, fits_one_more, takes_one_more, next_slot, filled, everywhere, is_on, slots_given, hosts_in, fuller, with_block, with_turn, with_round, with_rounds, spread}

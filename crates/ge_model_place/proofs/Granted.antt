@@ -11,7 +11,7 @@ use Rattle.ge_model_rows.specs.ClusterRows.{Cluster}
 use Rattle.ge_model_rows.specs.JobRows.{Advance}
 use Rattle.ge_model_rows.specs.TaskRows.{TaskId}
 use Rattle.ge_model_rows.specs.ValueRows.{Value, Amount, infinity}
-use Rattle.ge_model_bookings.specs.Bookings.{window_end, plain_sum}
+use Rattle.ge_model_place.specs.Bookings.{window_end, plain_sum}
 use Rattle.ge_model_place.specs.Advances.{stand_in, advance_grants, IsBookable, KeepsWhatIsBooked}
 use Rattle.ge_model_place.specs.InstanceOrder.{instance_order}
 use Rattle.ge_model_place.specs.Limits.{capacity_of}

@@ -1,3 +1,4 @@
+pub mod Peaks
 pub mod Earliest
 pub mod Decided
 pub mod Laws

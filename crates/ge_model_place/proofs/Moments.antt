@@ -7,8 +7,8 @@ use Rattle.ge_model_rows.specs.ClusterRows.{Cluster}
 use Rattle.ge_model_rows.specs.HostRows.{Groups}
 use Rattle.ge_model_rows.specs.JobRows.{Job, Grant}
 use Rattle.ge_model_rows.specs.ScheduleRows.{LimitId, Demand, Booking}
-use Rattle.ge_model_bookings.specs.Bookings.{plain_sum, begins_inside, raised, peak}
-use Rattle.ge_model_bookings.proofs.Peaks.{within_peak}
+use Rattle.ge_model_place.specs.Bookings.{plain_sum, begins_inside, raised, peak}
+use Rattle.ge_model_place.proofs.Peaks.{within_peak}
 use Rattle.ge_model_place.specs.Limits.{capacity_of, demands_of}
 use Rattle.ge_model_place.specs.Placement.{has_room, have_room, are_open, are_admissible}
 use Rattle.ge_model_place.specs.Choosing.{has_room_at, AreAdmissible}

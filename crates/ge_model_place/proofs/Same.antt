@@ -6,7 +6,7 @@ use Rattle.ge_collections.specs.Keyed.{text_eq}
 use Rattle.ge_model_rows.specs.HostRows.{InstanceId}
 use Rattle.ge_model_rows.specs.ScheduleRows.{LimitId, Instance, Host, Global, Pe, Quota}
 use Rattle.ge_model_rows.specs.ScheduleRows.{Advance as Booked, QuotaKey}
-use Rattle.ge_model_bookings.specs.Bookings.{same_instance, same_filters, same_key, same_limit}
+use Rattle.ge_model_place.specs.Bookings.{same_instance, same_filters, same_key, same_limit}
 
 -- texts that pass the test are equal, and a text passes it beside itself
 pub texts_equal : (a b : List ℕ) → text_eq a b ≡ true → a ≡ b

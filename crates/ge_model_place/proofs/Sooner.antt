@@ -17,7 +17,7 @@ use Rattle.ge_model_rows.specs.PeRows.{FillUp}
 use Rattle.ge_model_rows.specs.ScheduleRows.{LimitId, Demand, Booking}
 use Rattle.ge_model_rows.specs.TaskRows.{TaskId}
 use Rattle.ge_model_rows.specs.ValueRows.{infinity}
-use Rattle.ge_model_bookings.specs.Bookings.{forever, window_end, demand_on, is_within, taken_by, whole_sum, plain_sum}
+use Rattle.ge_model_place.specs.Bookings.{forever, window_end, demand_on, is_within, taken_by, whole_sum, plain_sum}
 use Rattle.ge_model_place.specs.Choosing.{no_slots, grants_in, one_slot_more, has_room_at, chosen_from, chosen, grants_by, PlacesJob, PlacesRequest}
 use Rattle.ge_model_place.specs.InstanceOrder.{instance_order}
 use Rattle.ge_model_place.specs.Limits.{capacity_of, demands_of}

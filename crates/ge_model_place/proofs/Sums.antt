@@ -13,8 +13,8 @@ use Rattle.ge_model_rows.specs.HostRows.{Groups, InstanceId}
 use Rattle.ge_model_rows.specs.JobRows.{Job, Grant}
 use Rattle.ge_model_rows.specs.ScheduleRows.{LimitId, Demand, Booking}
 use Rattle.ge_model_rows.specs.TaskRows.{TaskId}
-use Rattle.ge_model_bookings.specs.Bookings.{is_within, taken_by, demand_on, plain_sum, peak}
-use Rattle.ge_model_bookings.proofs.Peaks.{within_peak}
+use Rattle.ge_model_place.specs.Bookings.{is_within, taken_by, demand_on, plain_sum, peak}
+use Rattle.ge_model_place.proofs.Peaks.{within_peak}
 use Rattle.ge_model_place.specs.Limits.{capacity_of, demands_of}
 use Rattle.ge_model_place.specs.Placement.{has_room, have_room, are_open, are_admissible, job_placement, placement}
 use Rattle.ge_model_place.specs.Windows.{window_end_from, is_in_time, booking_of, base_bookings}

@@ -8,7 +8,7 @@ use Rattle.ge_model_rows.specs.ClusterRows.{Cluster}
 use Rattle.ge_model_rows.specs.HostRows.{Groups, InstanceId}
 use Rattle.ge_model_rows.specs.JobRows.{Job}
 use Rattle.ge_model_rows.specs.ScheduleRows.{LimitId}
-use Rattle.ge_model_bookings.specs.Bookings.{same_limit}
+use Rattle.ge_model_place.specs.Bookings.{same_limit}
 use Rattle.ge_model_place.specs.Limits.{Counted, capacity_of, limits_at, with_limit_once, each_limit_once, counted, counted_at, per_slot, is_per_job, resource_of, asked_by}
 use Rattle.ge_model_place.specs.Placement.{Cell, asked_so_far, asked_with_one, takes_one_more, with_slot, next_slot}
 use Rattle.ge_model_place.proofs.Once.{Each, each_of_both, differs, Apart, apart_push}

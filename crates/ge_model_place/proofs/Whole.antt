@@ -9,7 +9,7 @@ use Rattle.ge_model_rows.specs.ClusterRows.{Cluster}
 use Rattle.ge_model_rows.specs.HostRows.{Groups, InstanceId}
 use Rattle.ge_model_rows.specs.JobRows.{Job, Grant}
 use Rattle.ge_model_rows.specs.ScheduleRows.{LimitId, Demand}
-use Rattle.ge_model_bookings.specs.Bookings.{same_limit, demand_on}
+use Rattle.ge_model_place.specs.Bookings.{same_limit, demand_on}
 use Rattle.ge_model_place.specs.Demands.{counts_for, slots_for, amount_for, DemandsEach}
 use Rattle.ge_model_place.specs.Limits.{greatest_demand, capacity_of, limits_at, with_limit_once, each_limit_once, counted, counted_at, per_slot, is_per_job, resource_of, demands_of}
 use Rattle.ge_model_place.proofs.Demanded.{counts, IsBelow, demands_apart, demands_below, grant_counts, grants_count}

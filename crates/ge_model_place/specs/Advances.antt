@@ -3,7 +3,7 @@ use Rattle.std.specs.Prelude.{◌≡◌, ℕ, ◌≤◌, ◌<◌, ◌^◌, max, 
 use Rattle.std.specs.List.{list_any}
 use Rattle.ge_collections.specs.Keyed.{at_text, drop_text, at_number}
 use Rattle.ge_limits.specs.Limits as limit
-use Rattle.ge_model_bookings.specs.Bookings.{plain_sum}
+use Rattle.ge_model_place.specs.Bookings.{plain_sum}
 use Rattle.ge_model_rows.specs.Groups.{expanded}
 use Rattle.ge_model_rows.specs.ClusterRows.{Cluster}
 use Rattle.ge_model_rows.specs.JobRows.{Grant, Advance}

@@ -5,7 +5,7 @@ use Rattle.ge_model_rows.specs.ClusterRows.{Cluster}
 use Rattle.ge_model_rows.specs.HostRows.{Groups}
 use Rattle.ge_model_rows.specs.JobRows.{Job, Grant}
 use Rattle.ge_model_rows.specs.ScheduleRows.{LimitId}
-use Rattle.ge_model_bookings.specs.Bookings.{same_limit, demand_on}
+use Rattle.ge_model_place.specs.Bookings.{same_limit, demand_on}
 use Rattle.ge_model_place.specs.Limits.{greatest_demand, limits_at, resource_of, per_slot, is_per_job, demands_of}
 
 module _ (c : Cluster) (groups : Groups) (job : Job) (limit : LimitId) where

@@ -1,3 +1,4 @@
+pub mod Bookings
 pub mod Quotas
 pub mod Opening
 pub mod StandIns

@@ -3,7 +3,7 @@ use Rattle.std.specs.Prelude.{ℕ, ◌+◌, ◌-◌, ◌*◌, ◌^◌, ◌==◌,
 use Rattle.std.specs.List.{list_any}
 use Rattle.std.specs.Map.{keys_of}
 use Rattle.ge_collections.specs.Keyed.{text_eq, at_text, at_number}
-use Rattle.ge_model_bookings.specs.Bookings.{same_instance, same_limit}
+use Rattle.ge_model_place.specs.Bookings.{same_instance, same_limit}
 use Rattle.ge_model_jobs.specs.Accounts.{pe_name}
 use Rattle.ge_model_rows.specs.Queues.{attr_at, slots_at}
 use Rattle.ge_model_rows.specs.Complexes.{complex_at, is_consumable}

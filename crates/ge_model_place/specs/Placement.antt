@@ -3,7 +3,7 @@ use Rattle.std.specs.Prelude.{ℕ, zero, suc, ◌+◌, ◌*◌, ◌==◌, Bool, 
 use Rattle.std.specs.List.{list_all}
 use Rattle.std.specs.Option.{option_map}
 use Rattle.ge_collections.specs.Keyed.{text_eq, at_text, at_number}
-use Rattle.ge_model_bookings.specs.Bookings.{same_limit, peak}
+use Rattle.ge_model_place.specs.Bookings.{same_limit, peak}
 use Rattle.ge_model_rows.specs.Pieces.{each_once}
 use Rattle.ge_model_rows.specs.ClusterRows.{Cluster}
 use Rattle.ge_model_rows.specs.HostRows.{Groups, InstanceId}

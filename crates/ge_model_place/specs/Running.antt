@@ -2,7 +2,7 @@
 use Rattle.std.specs.Prelude.{ℕ, ◌+◌, ◌-◌, ◌^◌, ◌==◌, Bool, true, false, not, ◌&&◌, cond, if◌then◌else◌, nat_lt, nat_le, List, [], ◌∷◌, ◌++◌, fold, length, sum_by, count_by, Option, Some, None, is_some}
 use Rattle.ge_collections.specs.Keyed.{text_eq, at_number}
 use Rattle.ge_limits.specs.Limits as limit
-use Rattle.ge_model_bookings.specs.Bookings.{forever}
+use Rattle.ge_model_place.specs.Bookings.{forever}
 use Rattle.ge_model_rows.specs.Groups.{members_of, expanded}
 use Rattle.ge_model_rows.specs.Queues.{instances_of, resolved}
 use Rattle.ge_model_rows.specs.ClusterRows.{Cluster}

@@ -2,7 +2,7 @@
 use Rattle.std.specs.Prelude.{◌≡◌, ℕ, ◌≤◌, ◌<◌, ◌⊎◌, true, false, max, List, [], ◌∷◌, ◌++◌, map, flat_map, Option, Some, None, ◌==◌, Bool}
 use Rattle.std.specs.List.{list_any}
 use Rattle.ge_collections.specs.Keyed.{at_number}
-use Rattle.ge_model_bookings.specs.Bookings.{forever, plain_sum}
+use Rattle.ge_model_place.specs.Bookings.{forever, plain_sum}
 use Rattle.ge_model_rows.specs.Groups.{expanded}
 use Rattle.ge_model_rows.specs.ClusterRows.{Cluster}
 use Rattle.ge_model_rows.specs.DecisionRows.{Decision}

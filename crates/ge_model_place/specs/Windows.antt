@@ -2,7 +2,7 @@
 use Rattle.std.specs.Prelude.{ℕ, ◌+◌, ◌-◌, ◌^◌, ◌==◌, Bool, false, not, ◌&&◌, ◌||◌, if◌then◌else◌, nat_lt, nat_le, min, max, List, ◌++◌, map, flat_map, Option, Some, None, codes}
 use Rattle.std.specs.List.{list_any}
 use Rattle.ge_collections.specs.Keyed.{at_text, at_number}
-use Rattle.ge_model_bookings.specs.Bookings.{window_end}
+use Rattle.ge_model_place.specs.Bookings.{window_end}
 use Rattle.ge_model_rows.specs.Pieces.{is_empty}
 use Rattle.ge_model_rows.specs.Values.{amount_in}
 use Rattle.ge_model_rows.specs.ClusterRows.{Cluster}

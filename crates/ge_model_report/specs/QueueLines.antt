@@ -9,7 +9,7 @@ use Rattle.ge_model_rows.specs.Complexes.{kind_for}
 use Rattle.ge_model_rows.specs.Values.{amount_text}
 use Rattle.ge_model_rows.specs.Groups.{expanded}
 use Rattle.ge_model_rows.specs.Queues.{instances_of, slots_at}
-use Rattle.ge_model_bookings.specs.Bookings.{plain_sum}
+use Rattle.ge_model_place.specs.Bookings.{plain_sum}
 use Rattle.ge_model_place.specs.InstanceOrder.{load_at}
 use Rattle.ge_model_place.specs.Opening.{reaches_threshold}
 use Rattle.ge_model_place.specs.Windows.{base_bookings}

@@ -2,10 +2,10 @@
 use Rattle.std.specs.Prelude.{ℕ, Bool, ◌&&◌, if◌then◌else◌, List}
 use Rattle.std.specs.List.{before_first, after_first, list_any}
 use Rattle.ge_model_rows.specs.EventRows.{Event, Good, BadHeader, TooLong}
-use Rattle.ge_model_script.specs.Events.{unread}
-use Rattle.ge_model_script.specs.Header.{header_field, after_field}
-use Rattle.ge_model_script.specs.Lines.{is_line_feed, is_too_long}
-use Rattle.ge_model_script.specs.Names.{is_name}
+use Rattle.ge_model_grammar.specs.Events.{unread}
+use Rattle.ge_model_grammar.specs.Header.{header_field, after_field}
+use Rattle.ge_model_grammar.specs.ScriptLines.{is_line_feed, is_too_long}
+use Rattle.ge_model_grammar.specs.Names.{is_name}
 
 -- whether a payload has a first line, with its line feed
 abbrev pub has_first_line : List ℕ → Bool

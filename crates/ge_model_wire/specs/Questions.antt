@@ -2,7 +2,7 @@
 use Rattle.std.specs.Prelude.{ℕ, Bool, not, ◌&&◌, nat_eq, nat_le, if◌then◌else◌, List, [], ◌∷◌, ◌++◌, Option, Some, None, codes}
 use Rattle.std.specs.List.{starts_with}
 use Rattle.ge_model_rows.specs.Pieces.{is_digits, number_of}
-use Rattle.ge_model_script.specs.Names.{is_name}
+use Rattle.ge_model_grammar.specs.Names.{is_name}
 
 -- whether a text has no zero in front
 abbrev pub is_without_zero : List ℕ → Bool

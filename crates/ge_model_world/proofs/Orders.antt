@@ -7,7 +7,7 @@ use Rattle.ge_limits.specs.Limits as limit
 use Rattle.ge_collections.specs.Keyed.{put_number, text_eq}
 use Rattle.ge_model_text.specs.Value.{number}
 use Rattle.ge_model_rows.specs.EventRows.{Reply}
-use Rattle.ge_model_script.specs.Header.{is_decimal}
+use Rattle.ge_model_grammar.specs.Header.{is_decimal}
 use Rattle.ge_model_jobs.specs.Orderly.{KeysFrom}
 use Rattle.ge_model_jobs.proofs.Keys.{put_rises}
 use Rattle.ge_execd.specs.declared.rows.Order.{Order}

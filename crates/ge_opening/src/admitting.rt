@@ -5,10 +5,9 @@ ghost use Rattle.std.specs.Option.{option_copied};
 ghost use Rattle.ge_model_place.specs.Opening.{is_asked_for, admits_owner, admits_project, admits_no_project, admits_pe, pe_may};
 
 use crate::asking::is_asked;
-use ge_access::may_use;
 use ge_pieces::is_among;
-use ge_queues::at_host;
 use ge_rows::{Cluster, Groups, InstanceId, Job, PeRequest, PeRow, QueueRow, Text};
+use ge_site::{at_host, may_use};
 
 // Whether the owner may use the queue there.
 fn takes_owner(

@@ -5,12 +5,12 @@ ghost use Rattle.std.specs.Option.{option_copied, option_map};
 ghost use Rattle.ge_model_rows.specs.ValueRows.{Word};
 ghost use Rattle.ge_model_rows.specs.Relops.{sameness_holds, same_words, admits as admits_there};
 ghost use Rattle.ge_model_place.specs.Opening.{is_admitted};
-ghost use Rattle.ge_queues.specs.Found.{value_found};
+ghost use Rattle.ge_site.specs.Found.{value_found};
 
 use ge_complex::admits;
 use ge_pieces::is_word;
-use ge_queues::Found;
 use ge_rows::{ComplexDef, Kind, Relop, Text, Value};
+use ge_site::Found;
 use ge_text::matches;
 
 // Words are the same or not, which meets no order.

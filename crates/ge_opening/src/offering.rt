@@ -12,8 +12,8 @@ use crate::looking::Instance;
 use crate::matching::is_met;
 use ge_complex::{complex_at, is_consumed};
 use ge_pieces::is_word;
-use ge_queues::{at_host, resolved_at};
 use ge_rows::{Cluster, ComplexDef, HostRow, Job, Requestable, Table, Text, Value};
+use ge_site::{at_host, resolved_at};
 
 fn names(values: &Table<Text, Value>, name: &Text) -> bool
     ensures { result ≡ has_value values.now name.now }

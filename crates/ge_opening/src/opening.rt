@@ -11,8 +11,8 @@ use crate::admitting::takes_job;
 use crate::looking::{Instance, Rows};
 use crate::offering::offers;
 use crate::thresholds::is_reached_here;
-use ge_queues::global_host;
 use ge_rows::{Cluster, Groups, HostRow, InstanceId, Job};
+use ge_site::global_host;
 use std::alloc::{AllocError, Global};
 
 // The thresholds are few, and are looked at before all complexes are gone through.

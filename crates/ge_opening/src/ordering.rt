@@ -9,8 +9,8 @@ ghost use Rattle.ge_model_place.specs.InstanceOrder as order;
 ghost use Rattle.ge_opening.specs.Ranked.{ranked, all_ranked};
 
 use crate::thresholds::reported_load;
-use ge_queues::{at_host, instances};
 use ge_rows::{Cluster, Groups, INFINITY, InstanceId, List, QueueRow, SortMethod, Text, Value};
+use ge_site::{at_host, instances};
 use std::alloc::{AllocError, Global};
 use std::collections::BTreeSet;
 

@@ -9,8 +9,8 @@ ghost use Rattle.ge_model_place.specs.Opening as opening;
 
 use crate::looking::Instance;
 use ge_complex::{complex_at, holds_between};
-use ge_queues::at_host;
 use ge_rows::{Cluster, ComplexDef, Groups, HostRow, InstanceId, QueueRow, Table, Text, Value};
+use ge_site::at_host;
 use std::alloc::{AllocError, Global};
 
 // Whether what is reported reaches a threshold, as its complex compares them.

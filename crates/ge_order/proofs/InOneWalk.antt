@@ -2,7 +2,7 @@
 use Rattle.std.proofs.Common.{◌≡◌, ℕ, true, cond, List, [], ◌∷◌, ◌++◌, map, filter, None, Some, sym, ap, ◌∙◌, append_assoc}
 use Rattle.std.specs.Map.{keys_of}
 use Rattle.ge_collections.specs.Keyed.{at_number}
-use Rattle.ge_collections.specs.declared.short_row.ShortRow.{ShortRow}
+use Rattle.ge_job_index.specs.declared.short_row.ShortRow.{ShortRow}
 use Rattle.ge_model_rows.specs.ClusterRows.{Cluster}
 use Rattle.ge_model_order.specs.Amounts.{cut_at_64}
 use Rattle.ge_rows.specs.declared.labels.JobFacts.{JobFacts}

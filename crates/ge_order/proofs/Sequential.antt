@@ -6,7 +6,7 @@ use Rattle.std.specs.Map.{keys_of}
 use Rattle.std.specs.Option.{option_map, option_copied}
 use Rattle.ge_base.specs.Fixed.{cut_sum}
 use Rattle.ge_collections.specs.Keyed.{at_number, text_cmp}
-use Rattle.ge_collections.specs.declared.short_row.ShortRow.{ShortRow}
+use Rattle.ge_job_index.specs.declared.short_row.ShortRow.{ShortRow}
 use Rattle.ge_model_rows.specs.ClusterRows.{Cluster}
 use Rattle.ge_model_rows.specs.JobRows.{Job, PeRequest}
 use Rattle.ge_model_order.specs.Amounts.{cut_total}

@@ -10,10 +10,10 @@ use Rattle.std.specs.Map.{keys_of, values_of}
 use Rattle.std.specs.Ordering.{nat_cmp}
 use Rattle.std.proofs.lemmas.List.Elements.{recursion_from_All}
 use Rattle.std.proofs.lemmas.Map.Lookups.{exact_unsigned}
-use Rattle.ge_beside.proofs.Walked.{found_each}
+use Rattle.ge_collections.proofs.Walked.{found_each}
 use Rattle.ge_collections.specs.Keyed.{at_number}
-use Rattle.ge_collections.specs.Short.{AreShort, short_of}
-use Rattle.ge_collections.specs.declared.short_row.ShortRow.{ShortRow}
+use Rattle.ge_job_index.specs.Short.{AreShort, short_of}
+use Rattle.ge_job_index.specs.declared.short_row.ShortRow.{ShortRow}
 use Rattle.ge_rows.specs.JobShort.{has_some, job_facts, job_labels}
 use Rattle.ge_rows.specs.Orderly.{IsOrderlyJob}
 use Rattle.ge_rows.specs.declared.labels.JobFacts.{JobFacts}

@@ -5,7 +5,7 @@ use Rattle.std.specs.Map.{keys_of}
 use Rattle.std.specs.Option.{option_map}
 use Rattle.ge_base.specs.Fixed.{cut_sum, cut_product}
 use Rattle.ge_collections.specs.Keyed.{at_number, text_cmp}
-use Rattle.ge_collections.specs.declared.short_row.ShortRow.{ShortRow}
+use Rattle.ge_job_index.specs.declared.short_row.ShortRow.{ShortRow}
 use Rattle.ge_model_rows.specs.ClusterRows.{Cluster}
 use Rattle.ge_model_order.specs.Urgency.{resources_urgency}
 use Rattle.ge_rows.specs.JobShort.{job_facts}

@@ -2,7 +2,7 @@
 use Rattle.std.specs.Prelude.{◌≡◌, ℕ, max, List, [], ◌∷◌, ◌++◌, Option, Some, Result, IfOk}
 use Rattle.std.specs.declared.alloc.AllocError.{AllocError}
 use Rattle.ge_collections.specs.Keyed.{at_number}
-use Rattle.ge_collections.specs.declared.short_row.ShortRow.{ShortRow}
+use Rattle.ge_job_index.specs.declared.short_row.ShortRow.{ShortRow}
 use Rattle.ge_model_order.specs.Amounts.{cut_at_64, least, greatest}
 use Rattle.ge_model_order.specs.Priority.{priority_part, urgency_part, tickets_part, prio_with}
 use Rattle.ge_model_rows.specs.ClusterRows.{Cluster}

@@ -1,7 +1,7 @@
 // What requests add to urgency, told by short rows or kept for kinds of jobs: a walk meets few kinds, and mostly the same
 // ones again.
 ghost use Rattle.std.specs.Prelude.{◌≡◌, ◌||◌, ℕ, List as Items, Some, IfSome};
-ghost use Rattle.ge_collections.specs.declared.short_row.ShortRow.{ShortRow as Short};
+ghost use Rattle.ge_job_index.specs.declared.short_row.ShortRow.{ShortRow as Short};
 ghost use Rattle.ge_model_rows.specs.ClusterRows.{Cluster as Rows};
 ghost use Rattle.ge_rows.specs.declared.labels.JobFacts.{JobFacts as Facts};
 ghost use Rattle.ge_collections.specs.Keyed.{at_number};

@@ -1,13 +1,13 @@
 // The tasks of a job that a run may start.
 ghost use Rattle.std.specs.Prelude.{◌≡◌, ◌∷◌, [], ◌++◌, IfSome, OnOk, map};
 ghost use Rattle.std.specs.Option.{option_copied};
-ghost use Rattle.ge_beside.specs.Met.{AreFound};
+ghost use Rattle.ge_collections.specs.Met.{AreFound};
 ghost use Rattle.ge_collections.specs.Keyed.{at_number};
 ghost use Rattle.ge_model_rows.specs.Pieces.{is_empty as is_empty_list};
 ghost use Rattle.ge_order.specs.Ranked.{task_at, tasks_of_job};
 ghost use Rattle.ge_order.specs.Told as telling;
 
-use ge_beside::next_at;
+use ge_collections::next_at;
 use ge_jobs::{eligible, get};
 use ge_rows::{Cluster, Job, JobRow, List, TaskId, TaskSpan};
 use std::alloc::{AllocError, Global};

@@ -1,8 +1,8 @@
 // What short rows tell of jobs before their priorities can be told.
 ghost use Rattle.std.specs.Prelude.{◌≡◌, ℕ, List as Items, Some, IfOk, map};
-ghost use Rattle.ge_beside.specs.Met.{AreFound};
+ghost use Rattle.ge_collections.specs.Met.{AreFound};
 ghost use Rattle.ge_collections.specs.Keyed.{at_number};
-ghost use Rattle.ge_collections.specs.declared.short_row.ShortRow.{ShortRow as Short};
+ghost use Rattle.ge_job_index.specs.declared.short_row.ShortRow.{ShortRow as Short};
 ghost use Rattle.ge_rows.specs.declared.labels.JobFacts.{JobFacts as Facts};
 ghost use Rattle.ge_order.specs.Kinds as kind;
 ghost use Rattle.ge_order.specs.Standings.{AreUnits};
@@ -11,7 +11,7 @@ use crate::asked::{Units, units_of};
 use crate::kinds::{Kinds, no_kinds, row_urgency};
 use crate::standing::{Standing, Urgent};
 use crate::urging::urgency_by;
-use ge_beside::{row_at, walk};
+use ge_collections::{row_at, walk};
 use ge_rows::{Cluster, JobFacts, ShortRow};
 use std::alloc::{AllocError, Global};
 use std::collections::BTreeMap;

@@ -4,7 +4,7 @@ use Rattle.std.proofs.Common.{arith, ap, inl, inr}
 use Rattle.std.proofs.lemmas.Bool.{lt-leb, le-ltb}
 use Rattle.std.proofs.Math.Bool.{and-false}
 use Rattle.std.specs.List.{list_any}
-use Rattle.ge_model_disk.specs.Disk.{Content, IsOutside, IsImage, IsImageNow, settled_content}
+use Rattle.ge_model_journal.specs.Disk.{Content, IsOutside, IsImage, IsImageNow, settled_content}
 use Rattle.ge_outside.specs.Steps.{moments, after_steps}
 use Rattle.ge_outside.specs.Images.{reads_an_image}
 use Rattle.ge_outside.specs.declared.memory_steps.Step.{Step}

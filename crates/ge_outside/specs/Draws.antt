@@ -1,7 +1,7 @@
 -- An image of a disk, drawn by the linear congruential generator of the scripts that are made up.
 use Rattle.std.specs.Prelude.{ℕ, zero, suc, ◌+◌, ◌-◌, ◌*◌, ◌/◌, ◌%◌, ◌^◌, min, Bool, ◌==◌, ◌&&◌, ◌||◌, nat_le, nat_lt, if◌then◌else◌, List, [], ◌∷◌, length, slice_index}
 use Rattle.std.specs.List.{list_any}
-use Rattle.ge_model_disk.specs.Disk.{Content}
+use Rattle.ge_model_journal.specs.Disk.{Content}
 
 -- the state after one draw more
 abbrev pub next_state : ℕ → ℕ

@@ -1,6 +1,6 @@
 -- What a disk in memory tells.
 use Rattle.std.specs.Prelude.{◌≡◌, List, [], ◌∷◌}
-use Rattle.ge_model_disk.specs.Disk.{Content, settled_content}
+use Rattle.ge_model_journal.specs.Disk.{Content, settled_content}
 use Rattle.ge_outside.specs.Starts.{start_of}
 use Rattle.ge_outside.specs.Steps.{moments}
 use Rattle.ge_outside.specs.declared.histories.History.{History}

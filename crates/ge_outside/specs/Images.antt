@@ -2,7 +2,7 @@
 use Rattle.std.specs.Prelude.{◌≡◌, ◌⊎◌, ℕ, ◌+◌, ◌-◌, ◌<◌, ◌≤◌, max, List, [], ◌∷◌, ◌++◌, length, take, drop, slice_index, refl}
 use Rattle.std.proofs.Common.{arith, ◌∙◌, ap, length-append, length-take, length-drop, ⊎_elim}
 use Rattle.std.proofs.lemmas.List.{get_or-take, get_or_append_left, get_or-append_right, get_or-drop}
-use Rattle.ge_model_disk.specs.Disk.{Content, IsOutside, IsImage, ReadsAnImage, overwritten, settled_content}
+use Rattle.ge_model_journal.specs.Disk.{Content, IsOutside, IsImage, ReadsAnImage, overwritten, settled_content}
 use Rattle.ge_outside.specs.Steps.{after_step, after_steps, moments}
 use Rattle.ge_outside.specs.declared.memory_steps.Step.{Step}
 use Rattle.ge_outside.specs.declared.memory_steps.Step.TheVariants.{Wrote, Synced}

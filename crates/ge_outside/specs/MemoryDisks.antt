@@ -1,6 +1,6 @@
 -- What a disk in memory holds, and which of its calls fail.
 use Rattle.std.specs.Prelude.{ℕ, List}
-use Rattle.ge_model_disk.specs.Disk.{Content}
+use Rattle.ge_model_journal.specs.Disk.{Content}
 use Rattle.ge_outside.specs.Histories.{history_told}
 use Rattle.ge_outside.specs.declared.schedules.Schedule.{Schedule}
 use Rattle.ge_outside.specs.declared.memory_disks.MemDisk.{MemDisk}

@@ -1,5 +1,5 @@
 -- What a disk holds at a moment, as the code keeps it.
-use Rattle.ge_model_disk.specs.Disk.{Content}
+use Rattle.ge_model_journal.specs.Disk.{Content}
 use Rattle.ge_outside.specs.declared.showing.Shown.{Shown}
 
 abbrev pub shown_content : Shown → Content

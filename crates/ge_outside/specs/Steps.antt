@@ -1,6 +1,6 @@
 -- What a disk in memory tells: its moments, from the bytes that it began with and its steps since.
 use Rattle.std.specs.Prelude.{◌≡◌, ℕ, Bool, true, false, if◌then◌else◌, List, [], ◌∷◌, ◌++◌, Result, Ok, Err, OnOk, OnErr, refl}
-use Rattle.ge_model_disk.specs.Disk.{Content, content_written, content_synced, overwritten, told_written, told_synced}
+use Rattle.ge_model_journal.specs.Disk.{Content, content_written, content_synced, overwritten, told_written, told_synced}
 use Rattle.ge_outside.specs.declared.memory_steps.Write.{Write}
 use Rattle.ge_outside.specs.declared.memory_steps.Step.{Step}
 use Rattle.ge_outside.specs.declared.memory_steps.Step.TheVariants.{Wrote, Synced}

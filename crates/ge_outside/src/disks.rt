@@ -3,7 +3,7 @@ ghost use Rattle.ge_limits.specs.Limits.{area_bytes};
 ghost use Rattle.std.specs.Prelude.{◌≡◌, ◌≤◌, ◌+◌, ◌^◌, ℕ, List, length, IfOk, OnOk, OnErr};
 ghost use Rattle.ge_outside.specs.Faults.{HasCause};
 ghost use Rattle.ge_outside.specs.Disks.{StaysOrWrites};
-ghost use Rattle.ge_model_disk.specs.Disk.{Content, HasLength, IsWithin, Reads, ReadsAnImage, told_written, told_synced};
+ghost use Rattle.ge_model_journal.specs.Disk.{Content, HasLength, IsWithin, Reads, ReadsAnImage, told_written, told_synced};
 
 use crate::Failed;
 

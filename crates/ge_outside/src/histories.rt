@@ -1,7 +1,7 @@
 // The past of a disk in memory.
 ghost use Rattle.ge_limits.specs.Limits.{area_bytes};
 ghost use Rattle.std.specs.Prelude.{◌≡◌, ◌≤◌, ◌+◌, ◌^◌, ◌∷◌, [], List, ℕ, length, IfOk, OnOk, OnErr};
-ghost use Rattle.ge_model_disk.specs.Disk.{settled_content, overwritten, IsWithin, told_written, told_synced};
+ghost use Rattle.ge_model_journal.specs.Disk.{settled_content, overwritten, IsWithin, told_written, told_synced};
 ghost use Rattle.ge_outside.specs.Starts.{start_of};
 ghost use Rattle.ge_outside.specs.Steps.{after_steps, Keeps};
 ghost use Rattle.ge_outside.specs.declared.memory_steps.Step.TheVariants.{Wrote, Synced};

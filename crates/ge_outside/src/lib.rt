@@ -31,4 +31,5 @@ pub use memory_disks::MemDisk;
 pub use memory_doors::MemDoor;
 pub use memory_links::MemLink;
 pub use memory_streams::{MemSink, MemSource, PlainSource};
+pub use schedules::Schedule;
 pub use streams::{Link, Sink, Source, write_all};

@@ -1,7 +1,7 @@
 // A disk in memory.
 ghost use Rattle.ge_limits.specs.Limits.{area_bytes};
 ghost use Rattle.std.specs.Prelude.{◌≡◌, ◌↔◌, ◌+◌, ◌^◌, ◌≤◌, ℕ, List, length, IfOk, IsErr, OnOk, OnErr};
-ghost use Rattle.ge_model_disk.specs.Disk.{settled_content};
+ghost use Rattle.ge_model_journal.specs.Disk.{settled_content};
 ghost use Rattle.ge_outside.specs.Starts.{start_of};
 
 use crate::draws::draw_image;
@@ -24,7 +24,7 @@ pub struct MemDisk {
 impl MemDisk {
     ghost use Rattle.std.specs.Prelude.{[], ◌∷◌};
     ghost use Rattle.ge_outside.specs.MemoryDisks.{disk_told, disk_schedule, disk_fault_count, disk_sync_count};
-    ghost use Rattle.ge_model_disk.specs.Disk.{IsImageNow, read_bytes};
+    ghost use Rattle.ge_model_journal.specs.Disk.{IsImageNow, read_bytes};
     ghost use Rattle.ge_outside.specs.DrawnImages.{drawn_now};
 
     /// A disk that holds these bytes, with nothing pending. The calls whose numbers, counted from 1, are
@@ -67,7 +67,7 @@ impl MemDisk {
 
 impl Disk for MemDisk {
     ghost use Rattle.std.specs.Prelude.{List};
-    ghost use Rattle.ge_model_disk.specs.Disk.{HasLength, IsWithin, Reads, told_written, told_synced};
+    ghost use Rattle.ge_model_journal.specs.Disk.{HasLength, IsWithin, Reads, told_written, told_synced};
     ghost use Rattle.ge_outside.specs.Disks.{StaysOrWrites};
     ghost use Rattle.ge_outside.specs.Faults.{HasCause, one_more};
     ghost use Rattle.ge_outside.specs.Schedules.{IsDue, next_call};

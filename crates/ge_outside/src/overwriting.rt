@@ -1,6 +1,6 @@
 // Writing over bytes.
 ghost use Rattle.std.specs.Prelude.{◌≡◌, ◌+◌, ◌≤◌, length, vec_len, OnOk, OnErr};
-ghost use Rattle.ge_model_disk.specs.Disk.{overwritten};
+ghost use Rattle.ge_model_journal.specs.Disk.{overwritten};
 
 use std::alloc::AllocError;
 

@@ -1,6 +1,6 @@
 // What a disk in memory holds now, from its past.
 ghost use Rattle.std.specs.Prelude.{◌≡◌, IfOk};
-ghost use Rattle.ge_model_disk.specs.Disk.{settled_content};
+ghost use Rattle.ge_model_journal.specs.Disk.{settled_content};
 ghost use Rattle.ge_outside.specs.Steps.{after_steps};
 ghost use Rattle.ge_outside.specs.Shown.{shown_content};
 

@@ -1,6 +1,6 @@
 // What a disk holds at a moment, as data.
 ghost use Rattle.std.specs.Prelude.{◌≡◌, ◌≤◌, vec_len, IfOk, OnOk};
-ghost use Rattle.ge_model_disk.specs.Disk.{settled_content, content_written, content_synced};
+ghost use Rattle.ge_model_journal.specs.Disk.{settled_content, content_written, content_synced};
 ghost use Rattle.ge_outside.specs.Steps.{after_step};
 
 use crate::memory_steps::{Step, Write};

@@ -1,8 +1,8 @@
 -- The first line without its line feed.
 use Rattle.std.proofs.Common.{◌≡◌, ℕ, Bool, true, false, suc, ◌+◌, ◌<◌, cond, List, [], ◌∷◌, take, drop, length, min, refl, ap, ◌∙◌, sym, arith}
 use Rattle.std.specs.List.{position_or_len}
-use Rattle.ge_model_script.specs.Lines.{is_line_feed, lines_of, bare}
-use Rattle.ge_model_script.proofs.FirstLine.{first_len, first_len-is, lines_of-first}
+use Rattle.ge_model_grammar.specs.ScriptLines.{is_line_feed, lines_of, bare}
+use Rattle.ge_model_grammar.proofs.FirstLine.{first_len, first_len-is, lines_of-first}
 
 take_more : (n b : ℕ) (bs : List ℕ) → take (1 + n) (b ∷ bs) ≡ b ∷ take n bs
 take_more n b bs =

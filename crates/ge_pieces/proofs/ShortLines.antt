@@ -5,7 +5,7 @@ use Rattle.std.specs.List.{AllByRecursion, onto_first, position_or_len}
 use Rattle.std.proofs.lemmas.List.{length-take}
 use Rattle.std.proofs.lemmas.Bool.{le-ltb}
 use Rattle.ge_limits.specs.Limits.{line_bytes}
-use Rattle.ge_model_script.specs.Lines.{is_line_feed, put_byte, lines_of, bare, has_long_line}
+use Rattle.ge_model_grammar.specs.ScriptLines.{is_line_feed, put_byte, lines_of, bare, has_long_line}
 
 -- lines of at most so many bytes
 abbrev AreWithin : ℕ → List (List ℕ) → Type 0

@@ -3,6 +3,7 @@
 ghost use Rattle.std.specs.Prelude.{◌≡◌, ◌-◌, ◌^◌, min};
 ghost use Rattle.std.specs.List.{list_all};
 ghost use Rattle.ge_model_text.specs.Value.{is_digit};
+ghost use Rattle.ge_model_grammar.specs.Header.{is_decimal};
 ghost use Rattle.ge_model_rows.specs.Pieces.{is_digits, number_of};
 ghost use Rattle.ge_model_grammar.specs.Targets.{cut_number};
 
@@ -23,6 +24,17 @@ pub fn has_digits(text: &[u8]) -> bool
     ensures { result ≡ is_digits text.now }
 {
     !text.is_empty() && has_digits_alone(text)
+}
+
+/// Whether a text is a number as numbers are written: digits, and no zero before others.
+pub fn is_decimal_number(text: &[u8]) -> bool
+    ensures { result ≡ is_decimal text.now }
+{
+    match text {
+        [] => false,
+        [digit] => is_a_digit(*digit),
+        [first, _, ..] => *first != b'0' && has_digits_alone(text),
+    }
 }
 
 fn digit_of(b: u8) -> u64

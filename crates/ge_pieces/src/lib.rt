@@ -9,7 +9,7 @@
 //! - Cut: [`before`], [`behind`], [`has`], [`slices_at`], [`pieces`]; between blanks [`first_word`], [`behind_word`],
 //!   [`split_word`], [`words_between`], [`trimmed_text`], [`without_first`], [`without_last`]; lists in bodies
 //!   [`items_of_list`].
-//! - Digits: [`has_digits`], [`digits_worth`], [`number_up_to`].
+//! - Digits: [`has_digits`], [`is_decimal_number`], [`digits_worth`], [`number_up_to`].
 //! - Put together: [`append_joined`], [`join`], [`join_list`], [`or_none_text`], [`lower`].
 //! - Compared: [`is_same`], [`is_word`], [`same_key`], [`is_among`], [`is_in`], [`begins`], [`ends`].
 //! - Names: [`is_a_name`], [`is_a_job_name`], [`is_a_group_name`], [`may_stand_in_job_name`], [`has_job_name_bytes`],
@@ -37,7 +37,7 @@ pub use cutting::{
     before, behind, behind_word, first_word, has, is_blank_byte, items_of_list, pieces, slices_at,
     split_word, trimmed_text, without_first, without_last, words_between,
 };
-pub use digits::{digits_worth, has_digits, number_up_to};
+pub use digits::{digits_worth, has_digits, is_decimal_number, number_up_to};
 pub use faults::{earlier, note, sooner_of};
 pub use joining::{append_joined, join, join_list, lower, or_none_text};
 pub use lines::{

@@ -4,7 +4,7 @@
 //! that ends it, which the last one may lack.
 
 ghost use Rattle.std.specs.Prelude.{◌≡◌, ◌<◌, ◌≤◌, ◌∷◌, take, drop, length};
-ghost use Rattle.ge_model_script.specs.Lines.{lines_of, bare, is_long, has_long_line, is_too_long};
+ghost use Rattle.ge_model_grammar.specs.ScriptLines.{lines_of, bare, is_long, has_long_line, is_too_long};
 
 use crate::cutting::{before, place_or_end};
 use ge_limits::{LINE_BYTES, TEXT_BYTES};

@@ -3,7 +3,7 @@
 ghost use Rattle.std.specs.Prelude.{◌≡◌};
 ghost use Rattle.std.specs.List.{list_all};
 ghost use Rattle.std.specs.Int.{is_in_range};
-ghost use Rattle.ge_model_script.specs.Names.{is_name_byte, is_name, is_barred, is_job_name_byte, is_job_name, begins_with_digit};
+ghost use Rattle.ge_model_grammar.specs.Names.{is_name_byte, is_name, is_barred, is_job_name_byte, is_job_name, begins_with_digit};
 ghost use Rattle.ge_model_grammar.specs.Configuring.{is_group_name};
 
 fn may_stand_in_name(b: u8) -> bool

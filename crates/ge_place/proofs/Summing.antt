@@ -14,7 +14,7 @@ use Rattle.ge_rows.specs.contracts.scheduling.LimitIdOrd.TheImpl.{cmp-value}
 use Rattle.ge_timeline.proofs.Numbering.{same_at}
 use Rattle.ge_model_rows.specs.HostRows.{InstanceId}
 use Rattle.ge_model_rows.specs.ScheduleRows.{LimitId}
-use Rattle.ge_model_bookings.specs.Bookings.{same_limit}
+use Rattle.ge_model_place.specs.Bookings.{same_limit}
 use Rattle.ge_model_place.specs.Limits.{greatest_demand}
 use Rattle.ge_model_place.specs.Placement.{Room, Cell, slot_asks, asked_so_far, fits_one_more, takes_one_more}
 use Rattle.ge_model_place.proofs.Same.{limits_equal}

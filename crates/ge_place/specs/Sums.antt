@@ -4,7 +4,7 @@ use Rattle.std.specs.List.{list_all}
 use Rattle.std.specs.Map.{lookup}
 use Rattle.ge_model_rows.specs.HostRows.{InstanceId}
 use Rattle.ge_model_rows.specs.ScheduleRows.{LimitId}
-use Rattle.ge_model_bookings.specs.Bookings.{same_limit}
+use Rattle.ge_model_place.specs.Bookings.{same_limit}
 use Rattle.ge_model_place.specs.Limits.{Counted, greatest_demand}
 use Rattle.ge_model_place.specs.Placement.{Room, Cell, slot_asks, asked_so_far}
 use Rattle.ge_place.specs.declared.spots.Bound.{Bound}

@@ -13,10 +13,10 @@ use crate::seeing::{Spot, all_spots};
 use crate::single::single_slot;
 use crate::spreading::spread;
 use ge_opening::{any_forced, instance_order};
-use ge_queues::global_host;
 use ge_rows::{
     Allocation, Cluster, Grant, Groups, HostRow, InstanceId, Job, List, PeRequest, TaskId, job_at,
 };
+use ge_site::global_host;
 use ge_timeline::Timeline;
 use ge_windows::{is_in_time, window_end_from};
 use std::alloc::{AllocError, Global};

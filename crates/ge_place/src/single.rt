@@ -2,7 +2,7 @@
 ghost use Rattle.std.specs.Prelude.{◌≡◌, ◌<◌, ◌&&◌, IfOk, Some};
 ghost use Rattle.std.specs.List.{list_all, find};
 ghost use Rattle.std.specs.Option.{option_copied, option_map};
-ghost use Rattle.ge_demands.specs.Counts.{counted_as};
+ghost use Rattle.ge_capacities.specs.Counts.{counted_as};
 ghost use Rattle.ge_model_place.specs.Placement.{room_of};
 ghost use Rattle.ge_model_place.specs.Runs.{one_slot};
 ghost use Rattle.ge_place.specs.Spots.{rooms_at};

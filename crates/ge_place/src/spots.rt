@@ -1,8 +1,8 @@
 //! What is seen at an instance.
 ghost use Rattle.std.specs.Prelude.{◌≡◌, ◌<◌, map, IfOk};
-ghost use Rattle.ge_model_bookings.specs.Bookings.{peak};
+ghost use Rattle.ge_model_place.specs.Bookings.{peak};
 ghost use Rattle.ge_model_place.specs.Placement.{room_of};
-ghost use Rattle.ge_demands.specs.Counts.{counted_as, all_counted};
+ghost use Rattle.ge_capacities.specs.Counts.{counted_as, all_counted};
 ghost use Rattle.ge_place.specs.Spots.{room_as, rooms_as, is_free_at, rooms_at, cell_in, IsSeen};
 
 use crate::searching::Search;

@@ -1,6 +1,6 @@
 //! Sums of what is asked of limits.
 ghost use Rattle.std.specs.Prelude.{◌≡◌, ◌+◌, [], cond, min, OnOk};
-ghost use Rattle.ge_model_bookings.specs.Bookings.{same_limit};
+ghost use Rattle.ge_model_place.specs.Bookings.{same_limit};
 ghost use Rattle.ge_model_place.specs.Limits.{greatest_demand};
 ghost use Rattle.ge_model_rows.specs.ScheduleRows.{LimitId as Limit};
 ghost use Rattle.ge_place.specs.Sums.{sum_in};

@@ -6,11 +6,11 @@ ghost use Rattle.ge_model_config.specs.Cited.{printed_attribute, number_text};
 ghost use Rattle.ge_model_config.specs.Pairs.{values_text};
 ghost use Rattle.ge_model_config.specs.Overrides.{override_text, attr_text};
 
+use crate::numbers::decimal_text;
 use crate::values::values_text;
 use ge_complex::amount_text;
 use ge_pieces::join_list;
 use ge_rows::{Attr, Cluster, Kind, List, Table, Text, Value};
-use ge_wording::decimal_text;
 use std::alloc::{AllocError, Global};
 
 /// How one value of an attribute is printed.

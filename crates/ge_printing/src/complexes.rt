@@ -4,9 +4,9 @@ ghost use Rattle.std.specs.Prelude.{◌≡◌, IfOk, codes, map};
 ghost use Rattle.ge_model_config.specs.Columns.{kind_text, relop_text, requestable_text, consumable_text};
 ghost use Rattle.ge_model_config.specs.Complexes.{printed_complex};
 
+use crate::joining::join_words;
 use ge_complex::{fixed_text, value_text};
 use ge_rows::{ComplexDef, Consumable, Kind, List, Relop, Requestable, Table, Text};
-use ge_wording::join_words;
 use std::alloc::{AllocError, Global};
 
 fn kind_word(kind: &Kind) -> &[u8]

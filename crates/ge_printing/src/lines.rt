@@ -5,10 +5,10 @@ ghost use Rattle.ge_model_rows.specs.Pieces.{list_text};
 ghost use Rattle.ge_model_rows.specs.Values.{fixed_text};
 ghost use Rattle.ge_model_config.specs.Cited.{printed_attribute, number_text};
 
+use crate::numbers::decimal_text;
 use ge_complex::{amount_text, fixed_text};
 use ge_pieces::join_list;
 use ge_rows::{Kind, List, Text};
-use ge_wording::decimal_text;
 use std::alloc::{AllocError, Global};
 
 fn attribute_line(alloc: Global, attribute: &[u8], value: &[u8]) -> Result<Text, AllocError>

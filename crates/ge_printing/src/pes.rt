@@ -4,8 +4,8 @@ ghost use Rattle.std.specs.Prelude.{◌≡◌, ◌++◌, ◌∷◌, [], IfOk, co
 ghost use Rattle.ge_model_config.specs.Environments.{allocation_text, assumed_text, pe_lines};
 
 use crate::lines::{put, put_names, put_number};
+use crate::numbers::decimal_text;
 use ge_rows::{Allocation, List, PeRow, Text, UrgencySlots};
-use ge_wording::decimal_text;
 use std::alloc::{AllocError, Global};
 
 fn allocation(alloc: Global, rule: Allocation) -> Result<Text, AllocError>

@@ -4,8 +4,8 @@ ghost use Rattle.std.specs.Prelude.{◌≡◌, ◌++◌, ◌∷◌, [], IfOk, On
 ghost use Rattle.ge_model_rows.specs.Pieces.{list_text};
 ghost use Rattle.ge_model_config.specs.Shares.{node_lines};
 
+use crate::numbers::{decimal_text, number_list};
 use ge_rows::{List, ShareNode, Table, Text};
-use ge_wording::{decimal_text, number_list};
 use std::alloc::{AllocError, Global};
 
 // A line of a name and a value.

@@ -8,9 +8,8 @@ ghost use Rattle.ge_model_rows.specs.Pieces.{is_empty};
 ghost use Rattle.ge_model_place.specs.Quotas.{names_one, filter_admits, admits_name};
 
 use crate::asking::Who;
-use ge_access::in_set;
-use ge_hosts::group_has;
 use ge_rows::{Cluster, Filter, Groups, Text};
+use ge_site::{group_has, in_set};
 use ge_text::matches;
 use std::alloc::{AllocError, Global};
 

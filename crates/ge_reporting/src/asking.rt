@@ -5,11 +5,10 @@ ghost use Rattle.ge_model_core.specs.Showing.{job_account_plan, account_plan};
 ghost use Rattle.ge_model_core.specs.Booking.{show_booked_plan};
 
 use crate::stopping::note_manager;
-use ge_accounting::account;
 use ge_answers::{refuse, show};
 use ge_base::Refusal;
-use ge_job_lists::{booked_lines, orders, task_lines};
-use ge_jobs::find_running;
+use ge_jobs::is_running;
+use ge_listing::{account, booked_lines, orders, task_lines};
 use ge_pieces::note;
 use ge_rows::{Cluster, Event, List, Planned, Query, Text};
 use std::alloc::{AllocError, Global};
@@ -50,7 +49,7 @@ pub fn plan_task(
 {
     let mut faults = None;
     note_manager(cluster, e, &mut faults);
-    let missing = find_running(alloc, &cluster.jobs, serial).is_none();
+    let missing = !is_running(alloc, &cluster.jobs, serial);
     note(&mut faults, missing, Refusal::NoSuchObject);
     match faults {
         Some(refusal) => refuse(alloc, refusal),

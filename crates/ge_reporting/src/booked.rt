@@ -6,12 +6,12 @@ ghost use Rattle.ge_model_rows.specs.Faults.{after_faults, first_fault};
 ghost use Rattle.ge_model_core.specs.Booking.{unbook_faults_of, unbook_faults, unbook_plan};
 
 use crate::joining::is_joined;
-use ge_access::is_operator;
 use ge_answers::{accept, refuse};
 use ge_base::Refusal;
 use ge_deleting::each_once;
 use ge_pieces::{is_same, note};
 use ge_rows::{Advance, Change, Cluster, Event, List, Planned, Text};
+use ge_site::is_operator;
 use std::alloc::{AllocError, Global};
 
 // What refuses that a reservation that was looked up is given up. Whether the user is an operator is known before.

@@ -9,7 +9,7 @@ ghost use Rattle.ge_model_core.specs.Reports.{serial_faults, end_faults, end_pla
 use crate::stopping::note_manager;
 use ge_answers::{done, refuse};
 use ge_base::Refusal;
-use ge_jobs::find_running;
+use ge_jobs::is_running;
 use ge_limits::AMOUNTS;
 use ge_pieces::note;
 use ge_rows::{Change, Cluster, Event, Planned};
@@ -22,7 +22,7 @@ fn note_serial(alloc: Global, cluster: &Cluster, serial: u64, faults: &mut Optio
     if serial == 0 || cluster.next_serial <= serial {
         note(faults, true, Refusal::NoSuchObject);
     } else {
-        let ended = find_running(alloc, &cluster.jobs, serial).is_none();
+        let ended = !is_running(alloc, &cluster.jobs, serial);
         note(faults, ended, Refusal::StaleReport);
     }
 }

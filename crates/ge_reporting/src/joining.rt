@@ -2,8 +2,7 @@
 ghost use Rattle.std.specs.Prelude.{◌≡◌, ◌≤◌};
 ghost use Rattle.ge_model_jobs.specs.Starting as starting;
 
-use ge_jobs::JobTable;
-use ge_rows::{JobMark, MarkSort, Text};
+use ge_rows::{JobMark, JobTable, MarkSort, Text};
 use std::alloc::Global;
 
 // Whether a job bears the mark of a reservation.

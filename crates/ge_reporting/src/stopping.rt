@@ -5,11 +5,11 @@ ghost use Rattle.ge_model_core.specs.Configuring.{manager_faults};
 ghost use Rattle.ge_model_core.specs.Reports.{stop_plan};
 ghost use Rattle.ge_model_core.specs.Answers.{shown, done_lines};
 
-use ge_access::is_manager;
 use ge_answers::{one_line, refuse};
 use ge_base::Refusal;
 use ge_pieces::note;
 use ge_rows::{Cluster, Event, Planned, Reply, Text};
+use ge_site::is_manager;
 use std::alloc::{AllocError, Global};
 
 /// Notes that the user is no manager.

@@ -1,7 +1,7 @@
 // The whole cluster.
 use crate::accounts::Line;
 use crate::hosts::HostRow;
-use crate::job_row::JobRow;
+use crate::job_row::JobTable;
 use crate::jobs::Advance;
 use crate::people::{ProjectRow, ShareNode, UserRow};
 use crate::queues::{PeRow, QueueRow};
@@ -48,7 +48,7 @@ pub struct Cluster {
     /// The operators in the order in which they came: `qconf -ao`, `-do`. Managers are operators too.
     pub operators: List<Text>,
     /// Live jobs by number. A job that loses its last task leaves.
-    pub jobs: Table<u32, JobRow>,
+    pub jobs: JobTable,
     /// Usage by user, project and epoch of the halftime, weighted by `usage_weight_list`. An end adds to it; a new
     /// halftime puts it into new epochs.
     pub usage: Table<(Text, Text, u64), u128>,

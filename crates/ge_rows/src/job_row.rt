@@ -6,7 +6,7 @@ ghost use Rattle.ge_collections.specs.Keyed.{at_number};
 use crate::jobs::Job;
 use crate::labels::{JobFacts, JobLabel};
 use crate::marks::JobMark;
-use ge_collections::{Edit, Row, Table, TryEdit, Twin};
+use ge_job_index::{Edit, Index, Row, TryEdit};
 use std::alloc::{AllocError, Global};
 use std::marker::Model;
 
@@ -44,8 +44,11 @@ impl JobRow {
     }
 }
 
+/// The live jobs by number.
+pub type JobTable = Index<u32, JobRow>;
+
 /// The job of a number in the table of jobs.
-pub fn job_at(jobs: &Table<u32, JobRow>, number: u32) -> Option<&Job>
+pub fn job_at(jobs: &JobTable, number: u32) -> Option<&Job>
     ensures { option_copied result ≡ at_number jobs.now number }
 {
     match jobs.get(&number) {

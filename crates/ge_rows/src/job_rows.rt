@@ -1,9 +1,9 @@
-// What a table of jobs keeps of them, and what a job keeps of its running tasks.
+// What the table of jobs keeps of them.
 ghost use Rattle.std.specs.Prelude.{◌≡◌, ◌≤◌, ◌^◌, ◌++◌, [], ◌∷◌, IfOk, OnOk, map, flat_map};
 ghost use Rattle.ge_rows.specs.Marks.{mark_of, project_marks, advance_marks, grant_marks, task_marks as marks_of_task, pe_marks, attribute_mark, own_marks};
 ghost use Rattle.ge_rows.specs.Weights.{live_tasks as live_of};
 ghost use Rattle.ge_rows.specs.JobShort.{job_facts as facts_of_job};
-ghost use Rattle.ge_collections.specs.Marked.{is_among};
+ghost use Rattle.ge_job_index.specs.Marked.{is_among};
 ghost use Rattle.std.specs.Map.{keys_of, values_of};
 
 use crate::asked::{least_amount, shortest_time};
@@ -12,51 +12,9 @@ use crate::labels::{JobFacts, JobLabel, labels_of};
 use crate::marks::{JobMark, MarkSort};
 use crate::tasks::{TaskSet, TaskSpan};
 use crate::values::Value;
-use ge_collections::{Row, Table, Text, Twin, twins2};
+use ge_collections::{Table, Text, Twin, twins2};
+use ge_job_index::Row;
 use std::alloc::{AllocError, Global};
-
-impl Row for Running {
-    ghost use Rattle.std.specs.Prelude.{[], ◌∷◌};
-
-    /// A serial.
-    type Mark = u64;
-
-    type Facts = ();
-
-    type Label = ();
-
-    ghost marks = { λ task. task.serial ∷ [] };
-
-    ghost short = { λ _. tt };
-
-    ghost labels = { λ _. (tt, tt, tt) };
-
-    fn weights(&self) -> (u128, u128) {
-        (0, 0)
-    }
-
-    fn bears(&self, mark: &u64) -> bool {
-        self.serial == *mark
-    }
-
-    fn marks(&self, alloc: Global) -> Result<Vec<u64>, AllocError> {
-        let mut marks = Vec::new(alloc);
-        marks.push(self.serial)?;
-        Ok(marks)
-    }
-
-    fn keeps_short() -> bool {
-        false
-    }
-
-    fn short(&self) {}
-
-    fn labels(&self, _alloc: Global) -> Result<((), (), ()), AllocError> {
-        Ok(((), (), ()))
-    }
-
-    fn orderly(&self) {}
-}
 
 // One mark more, of one name.
 fn push(

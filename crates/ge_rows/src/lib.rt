@@ -1,11 +1,11 @@
 //! The rows: everything that the cluster keeps, that a command says, that a run decides and that the spool holds,
-//! as plain records and enums over [`Text`], [`List`] and [`Table`].
+//! as plain records and enums over [`Text`], [`List`], [`Table`] and [`Index`].
 //!
 //! - `values`: values, their kinds, the rows of the complex table.
 //! - `hosts`, `queues`, `quotas`, `people`, `settings`: what `qconf` configures.
 //! - `tasks`, `jobs`, `accounts`: jobs, their tasks and sets of tasks, accounting lines.
-//! - `job_row`: a job as the table of jobs keeps it.
-//! - `marks`, `labels`, `asked`, `job_rows`, `plain_rows`: what a table keeps of its rows beside them.
+//! - `job_row`: a job as the table of jobs keeps it, and that table.
+//! - `marks`, `labels`, `asked`, `job_rows`: what the table of jobs keeps of them beside them.
 //! - `cluster`: all of these together; `opening_rows`: the cluster before the first command.
 //! - `scheduling`: limits, bookings and the decisions of a run.
 //! - `entries`: what an accepted command changes; `own`: a value in memory of its own.
@@ -32,7 +32,6 @@ mod opening_complexes;
 mod opening_rows;
 mod own;
 mod people;
-mod plain_rows;
 mod planned;
 mod queues;
 mod quotas;
@@ -47,11 +46,10 @@ pub use cluster::Cluster;
 pub use commands::{Command, Listing, Options, Query};
 pub use entries::{Change, Entry, Item, Key, ObjectKind, Patch, Pick};
 pub use events::{Event, Form, Reply};
-pub use ge_collections::{
-    Edit, List, Row, ShortRow, Shorts, Table, Text, TryEdit, Twin, twins2, twins3, twins4,
-};
+pub use ge_collections::{List, Table, Text, Twin, twins2, twins3, twins4};
+pub use ge_job_index::{Edit, Index, Row, ShortRow, Shorts, TryEdit};
 pub use hosts::{Groups, HostRow, InstanceId};
-pub use job_row::{InRow, JobRow, job_at};
+pub use job_row::{InRow, JobRow, JobTable, job_at};
 pub use job_rows::task_marks;
 pub use jobs::{Advance, Grant, Job, PeRequest, Request, Running};
 pub use labels::{JobFacts, JobKind, JobLabel};

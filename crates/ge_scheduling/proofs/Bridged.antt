@@ -10,9 +10,9 @@ use Rattle.ge_model_rows.specs.ScheduleRows.{Booking}
 use Rattle.ge_model_rows.specs.TaskRows.{TaskId}
 use Rattle.ge_model_place.specs.Placement.{placement}
 use Rattle.ge_model_place.specs.Running.{serial_after, running_of, owner_is_full, is_held_back, may_reserve, decision_of}
-use Rattle.ge_scheduling.specs.declared.counting.Tally.{Tally}
-use Rattle.ge_scheduling.specs.Counts.{count_at, is_over, may_be_reserved, IsTallied}
-use Rattle.ge_scheduling.specs.Verdicts.{decision_by, decision_at}
+use Rattle.ge_attempts.specs.declared.counting.Tally.{Tally}
+use Rattle.ge_attempts.specs.Counts.{count_at, is_over, may_be_reserved, IsTallied}
+use Rattle.ge_attempts.specs.Verdicts.{decision_by, decision_at}
 
 full_same : (c : Cluster) (decisions : List Decision) (tally : Tally) → IsTallied c decisions tally → (owner : List ℕ) → is_over c.sched tally owner ≡ owner_is_full c decisions owner
 full_same c decisions tally is owner = here (c.sched.maxujobs == 0) refl

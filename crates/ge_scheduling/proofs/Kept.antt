@@ -15,19 +15,19 @@ use Rattle.ge_model_rows.specs.ScheduleRows.{Booking}
 use Rattle.ge_model_rows.specs.TaskRows.{TaskId}
 use Rattle.ge_model_place.specs.Placement.{placement_of}
 use Rattle.ge_model_place.specs.Running.{owner_is_full, serial_after, may_reserve, earliest_end, booked_by, start_with, reserve_at, decision_of, decide}
-use Rattle.ge_scheduling.specs.declared.counting.Tally.{Tally}
-use Rattle.ge_scheduling.specs.Counts.{is_over, may_be_reserved, IsTallied}
-use Rattle.ge_collections.specs.declared.short_row.ShortRow.{ShortRow}
+use Rattle.ge_attempts.specs.declared.counting.Tally.{Tally}
+use Rattle.ge_attempts.specs.Counts.{is_over, may_be_reserved, IsTallied}
+use Rattle.ge_job_index.specs.declared.short_row.ShortRow.{ShortRow}
 use Rattle.ge_rows.specs.declared.labels.JobFacts.{JobFacts}
-use Rattle.ge_scheduling.specs.KindNotes.{kind_in, is_noted, noted_with, kind_after, started_by, NoneStarts, AreShut}
+use Rattle.ge_attempts.specs.KindNotes.{kind_in, is_noted, noted_with, kind_after, started_by, NoneStarts, AreShut}
 use Rattle.ge_scheduling.specs.Passing.{passed_by, Waits, Follows}
-use Rattle.ge_scheduling.specs.declared.rests.Room.{Room}
-use Rattle.ge_scheduling.specs.Amounts.{IsInTable}
-use Rattle.ge_scheduling.specs.Rests.{AreLeft}
-use Rattle.ge_scheduling.specs.Verdicts.{grants_at, can_be_placed, reserved_from, reserved, waiting, placed_with, decision_by, decision_at}
+use Rattle.ge_attempts.specs.declared.rests.Room.{Room}
+use Rattle.ge_attempts.specs.Amounts.{IsInTable}
+use Rattle.ge_attempts.specs.Rests.{AreLeft}
+use Rattle.ge_attempts.specs.Verdicts.{grants_at, can_be_placed, reserved_from, reserved, waiting, placed_with, decision_by, decision_at}
 use Rattle.ge_scheduling.proofs.Bridged.{by_parts, model_by_parts, may_same, decision_tallied}
 use Rattle.ge_scheduling.proofs.Shut.{must_wait, shut_later, shut_after}
-use Rattle.ge_scheduling.proofs.Tallies.{tallied_skip}
+use Rattle.ge_attempts.proofs.Tallies.{tallied_skip}
 
 -- a decision, of another task
 for_task : TaskId → Decision → Decision

@@ -15,8 +15,8 @@ use Rattle.ge_model_place.proofs.Laws.{decides_each}
 use Rattle.ge_scheduling.specs.declared.underway.Run.{Run}
 use Rattle.ge_scheduling.specs.Bases.{may_keep}
 use Rattle.ge_scheduling.specs.UnderWay.{IsUnderWay, OthersWait, tasks_decided}
-use Rattle.ge_scheduling.proofs.LeftOut.{nothing_placed}
-use Rattle.ge_scheduling.proofs.Remaining.{none_open}
+use Rattle.ge_attempts.proofs.LeftOut.{nothing_placed}
+use Rattle.ge_attempts.proofs.Remaining.{none_open}
 use Rattle.ge_scheduling.proofs.Waiting.{each_waits}
 
 module _ (c : Cluster) (groups : Groups) (order : List InstanceId) (now : ℕ) where

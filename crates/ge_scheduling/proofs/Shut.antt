@@ -10,7 +10,7 @@ use Rattle.std.proofs.lemmas.List.Sums.{sum_by_push}
 use Rattle.std.proofs.lemmas.Map.Lookups.{exact_unsigned}
 use Rattle.std.proofs.lemmas.Map.Views.{tells_apart}
 use Rattle.ge_collections.specs.Keyed.{at_number}
-use Rattle.ge_collections.specs.declared.short_row.ShortRow.{ShortRow}
+use Rattle.ge_job_index.specs.declared.short_row.ShortRow.{ShortRow}
 use Rattle.ge_limits.specs.Limits.{last_serial}
 use Rattle.ge_model_rows.specs.ClusterRows.{Cluster}
 use Rattle.ge_model_rows.specs.DecisionRows.{Decision, Start, Reserve, Skip}
@@ -22,11 +22,11 @@ use Rattle.ge_model_place.specs.Placement.{placement_of}
 use Rattle.ge_model_place.specs.Running.{is_start, serial_after, starts_for, running_of, owner_is_full, may_reserve, booked_by, start_with, decision_of}
 use Rattle.ge_rows.specs.JobShort.{job_kind}
 use Rattle.ge_rows.specs.declared.labels.JobFacts.{JobFacts}
-use Rattle.ge_scheduling.specs.KindNotes.{kind_in, TellKinds, noted_with, alone, kind_after, started_by, NoneStarts, AreShut}
-use Rattle.ge_scheduling.specs.Verdicts.{placed_with}
+use Rattle.ge_attempts.specs.KindNotes.{kind_in, TellKinds, noted_with, alone, kind_after, started_by, NoneStarts, AreShut}
+use Rattle.ge_attempts.specs.Verdicts.{placed_with}
 use Rattle.ge_scheduling.proofs.Bridged.{by_parts, model_by_parts}
-use Rattle.ge_scheduling.proofs.Grown.{never_placed}
-use Rattle.ge_scheduling.proofs.OneKind.{placed_alike}
+use Rattle.ge_attempts.proofs.Grown.{never_placed}
+use Rattle.ge_attempts.proofs.OneKind.{placed_alike}
 
 -- by whether a task is held back and what number is next
 

@@ -19,10 +19,10 @@ use Rattle.ge_model_place.specs.Placement.{placement_of}
 use Rattle.ge_model_place.specs.Running.{is_reserve, may_reserve, decide, run_of}
 use Rattle.ge_model_place.specs.Windows.{base_bookings}
 use Rattle.ge_scheduling.specs.declared.basis.Basis.{Basis}
-use Rattle.ge_scheduling.specs.Amounts.{IsInTable}
+use Rattle.ge_attempts.specs.Amounts.{IsInTable}
 use Rattle.ge_scheduling.specs.Bases.{asks_to_keep, may_keep, IsBasis, AllWait}
 use Rattle.ge_scheduling.proofs.Kept.{must_each_wait, weighed_decides}
-use Rattle.ge_scheduling.proofs.LeftOut.{nothing_placed, none_vacant}
+use Rattle.ge_attempts.proofs.LeftOut.{nothing_placed, none_vacant}
 
 -- no job of a table asks for slots to be kept
 none_asks : (rows : List (ℕ × Job)) → list_any asks_to_keep rows ≡ false → (number : ℕ) (job : Job) → at_number rows number ≡ Some job → job.reserve ≡ false

@@ -11,7 +11,7 @@ use Rattle.ge_model_place.specs.InstanceOrder.{instance_order}
 use Rattle.ge_model_place.specs.Running.{run_of}
 use Rattle.ge_model_place.specs.Windows.{base_bookings}
 use Rattle.ge_scheduling.specs.declared.basis.Basis.{Basis}
-use Rattle.ge_scheduling.specs.Vacant.{is_vacant}
+use Rattle.ge_attempts.specs.Vacant.{is_vacant}
 
 -- a basis is that of a cluster at its moment: sched_conf
 pub record IsBasis (c : Cluster) (basis : Basis) : Type 0 where

@@ -1,12 +1,4 @@
-pub mod Counts
-pub mod Verdicts
-pub mod KindNotes
-pub mod Vacant
 pub mod Bases
-pub mod Common
-pub mod Amounts
-pub mod Closing
-pub mod Rests
 pub mod Passing
 pub mod Sooner
 pub mod UnderWay

@@ -2,7 +2,7 @@
 use Rattle.std.specs.Prelude.{◌≡◌, ℕ, false, List, Option, Some, None, IfSome}
 use Rattle.std.specs.BTreeSet.{BTreeSet}
 use Rattle.ge_collections.specs.Keyed.{at_number}
-use Rattle.ge_collections.specs.declared.short_row.ShortRow.{ShortRow}
+use Rattle.ge_job_index.specs.declared.short_row.ShortRow.{ShortRow}
 use Rattle.ge_model_rows.specs.ClusterRows.{Cluster}
 use Rattle.ge_model_rows.specs.DecisionRows.{Decision}
 use Rattle.ge_model_rows.specs.HostRows.{Groups, InstanceId}
@@ -11,11 +11,11 @@ use Rattle.ge_model_rows.specs.ScheduleRows.{Booking}
 use Rattle.ge_model_rows.specs.TaskRows.{TaskId}
 use Rattle.ge_model_place.specs.Running.{decision_of}
 use Rattle.ge_rows.specs.declared.labels.JobFacts.{JobFacts}
-use Rattle.ge_scheduling.specs.declared.counting.Tally.{Tally}
-use Rattle.ge_scheduling.specs.Counts.{IsTallied, may_be_reserved}
-use Rattle.ge_scheduling.specs.KindNotes.{TellKinds, AreShut}
-use Rattle.ge_scheduling.specs.declared.rests.Room.{Room}
-use Rattle.ge_scheduling.specs.Rests.{AreLeft}
+use Rattle.ge_attempts.specs.declared.counting.Tally.{Tally}
+use Rattle.ge_attempts.specs.Counts.{IsTallied, may_be_reserved}
+use Rattle.ge_attempts.specs.KindNotes.{TellKinds, AreShut}
+use Rattle.ge_attempts.specs.declared.rests.Room.{Room}
+use Rattle.ge_attempts.specs.Rests.{AreLeft}
 
 -- the job of which a decision makes a task wait
 abbrev pub passed_by : ℕ → Decision → Option ℕ

@@ -9,9 +9,9 @@ use Rattle.ge_model_place.specs.InstanceOrder.{instance_order}
 use Rattle.ge_model_place.specs.Running.{task_of, decided, run_of}
 use Rattle.ge_scheduling.specs.declared.underway.Run.{Run}
 use Rattle.ge_scheduling.specs.Bases.{may_keep}
-use Rattle.ge_scheduling.specs.Counts.{IsTallied}
+use Rattle.ge_attempts.specs.Counts.{IsTallied}
 use Rattle.ge_scheduling.specs.Passing.{Waits}
-use Rattle.ge_scheduling.specs.Rests.{AreLeft}
+use Rattle.ge_attempts.specs.Rests.{AreLeft}
 
 -- the tasks that are decided, in their order
 abbrev pub tasks_decided : Run → List TaskId

@@ -2,17 +2,15 @@
 ghost use Rattle.std.specs.Prelude.{◌≡◌, ◌≤◌, [], false, Some, IfOk, OnOk, IsTrue, fold};
 ghost use Rattle.ge_model_place.specs.Windows.{base_bookings};
 ghost use Rattle.ge_model_place.specs.Running.{decide as with_task};
-ghost use Rattle.ge_scheduling.specs.KindNotes.{TellKinds};
+ghost use Rattle.ge_attempts.specs.KindNotes.{TellKinds};
 ghost use Rattle.ge_scheduling.specs.Passing.{passed_by as job_passed, MayNotKeep, Waits, Follows};
 
 use crate::bookings::book;
-use crate::counting::{Tally, count, first_tally, may_reserve};
 use crate::deciding::decision;
-use crate::kinds::{is_noted, note};
-use crate::renewing::renew;
-use crate::rests::{Room, room_at};
-use crate::setting::Setting;
-use crate::vacancy::no_slot_is_left;
+use crate::noting::{is_noted, note};
+use ge_attempts::{
+    Room, Setting, Tally, count, first_tally, may_reserve, no_slot_is_left, renew, room_at,
+};
 use ge_rows::{Decision, List, TaskId, job_at};
 use ge_timeline::Timeline;
 use std::alloc::{AllocError, Global};

@@ -4,13 +4,10 @@ ghost use Rattle.std.specs.List.{list_any};
 ghost use Rattle.ge_scheduling.specs.Bases.{IsBasis, AllWait, asks_to_keep, is_shut, may_keep};
 
 use crate::bookings::first_booked;
-use crate::kinds::kinds_of;
-use crate::setting::Setting;
-use crate::vacancy::{no_slot_is_left, vacant_instances};
-use ge_hosts::expand;
+use ge_attempts::{Setting, kinds_of, no_slot_is_left, vacant_instances};
 use ge_opening::{any_forced, instance_order};
-use ge_queues::global_host;
-use ge_rows::{Cluster, Groups, InstanceId, JobRow, List, Table};
+use ge_rows::{Cluster, Groups, InstanceId, JobTable, List};
+use ge_site::{expand, global_host};
 use ge_timeline::Timeline;
 use std::alloc::{AllocError, Global};
 use std::collections::BTreeMap;
@@ -60,7 +57,7 @@ pub fn basis_of(alloc: Global, cluster: &Cluster, now: u64) -> Result<Basis, All
 }
 
 // Whether some job asks for slots to be kept for it.
-fn one_asks(jobs: &Table<u32, JobRow>) -> bool
+fn one_asks(jobs: &JobTable) -> bool
     ensures { result ≡ list_any asks_to_keep jobs.now }
 {
     for (_number, row) in jobs.iter() {

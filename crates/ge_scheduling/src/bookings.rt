@@ -4,7 +4,7 @@ ghost use Rattle.ge_collections.specs.Keyed.{at_number};
 ghost use Rattle.ge_model_place.specs.Running.{booking_at, booked_by};
 ghost use Rattle.ge_model_place.specs.Windows.{base_bookings as base};
 
-use crate::setting::Setting;
+use ge_attempts::Setting;
 use ge_rows::{Decision, Grant, List, TaskId, job_at};
 use ge_timeline::Timeline;
 use ge_windows::{base_bookings, booking};

@@ -4,19 +4,16 @@ ghost use Rattle.std.specs.List.{list_all};
 ghost use Rattle.ge_collections.specs.Keyed.{at_number};
 ghost use Rattle.ge_model_place.specs.Placement.{placement_of};
 ghost use Rattle.ge_model_place.specs.Running.{start_with as started};
-ghost use Rattle.ge_scheduling.specs.Amounts.{IsInTable};
-ghost use Rattle.ge_scheduling.specs.Counts.{is_over, may_be_reserved};
-ghost use Rattle.ge_scheduling.specs.Rests.{blocked_in, AreLeft};
-ghost use Rattle.ge_scheduling.specs.Vacant.{goes_on as has_moment};
-ghost use Rattle.ge_scheduling.specs.Verdicts.{waiting, decision_by, decision_at};
+ghost use Rattle.ge_attempts.specs.Amounts.{IsInTable};
+ghost use Rattle.ge_attempts.specs.Counts.{is_over, may_be_reserved};
+ghost use Rattle.ge_attempts.specs.Rests.{blocked_in, AreLeft};
+ghost use Rattle.ge_attempts.specs.Vacant.{goes_on as has_moment};
+ghost use Rattle.ge_attempts.specs.Verdicts.{waiting, decision_by, decision_at};
 
-use crate::asking::asked_limits;
-use crate::counting::{Tally, is_full, may_reserve};
-use crate::placing::{place_at_once, place_now};
-use crate::reserving::reserve;
-use crate::rests::{Room, is_before};
-use crate::setting::Setting;
-use crate::vacancy::goes_on;
+use ge_attempts::{
+    Room, Setting, Tally, asked_limits, goes_on, is_before, is_full, may_reserve, place_at_once,
+    place_now, reserve,
+};
 use ge_limits::LAST_SERIAL;
 use ge_rows::{Decision, Grant, Job, List, Start, TaskId, job_at};
 use ge_timeline::Timeline;

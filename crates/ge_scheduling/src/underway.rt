@@ -7,13 +7,10 @@ ghost use Rattle.ge_scheduling.specs.UnderWay.{IsUnderWay, OthersWait, leaves_no
 
 use crate::advancing::{Progress, advance_all, begin};
 use crate::basis::{Basis, none_is_kept};
-use crate::holding::{Holders, holders_of};
-use crate::kinds::kinds_of;
-use crate::setting::Setting;
-use crate::vacancy::no_slot_is_left;
+use ge_attempts::{Holders, Setting, holders_of, kinds_of, no_slot_is_left};
 use ge_opening::any_forced;
-use ge_queues::global_host;
 use ge_rows::{Cluster, Decision, Groups, InstanceId, List, TaskId};
+use ge_site::global_host;
 use std::alloc::{AllocError, Global};
 use std::collections::{BTreeMap, BTreeSet};
 

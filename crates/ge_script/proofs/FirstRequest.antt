@@ -2,8 +2,8 @@
 use Rattle.std.proofs.Common.{◌≡◌, ℕ, ◌+◌, ◌<◌, true, false, List, [], ◌∷◌, ◌++◌, take, drop, length, refl, ap, ◌∙◌, sym, append_assoc, arith}
 use Rattle.std.proofs.lemmas.List.{drop-drop}
 use Rattle.std.proofs.Math.Seq.{take-add}
-use Rattle.ge_model_script.specs.Lines.{lines_of, is_header, put_line, cut_requests, requests_in, requests_of}
-use Rattle.ge_model_script.proofs.FirstLine.{first_len, lines_of-first_at, is_header-first_len, is_header-first}
+use Rattle.ge_model_grammar.specs.ScriptLines.{lines_of, is_header, put_line, cut_requests, requests_in, requests_of}
+use Rattle.ge_model_grammar.proofs.FirstLine.{first_len, lines_of-first_at, is_header-first_len, is_header-first}
 
 put_text : (line : List ℕ) (p : List ℕ × List (List ℕ)) → is_header line ≡ false → put_line line p ≡ (line ++ p.0, p.1)
 put_text line (text, requests) h = rw h refl

@@ -1,3 +1,5 @@
 pub mod FirstRequest
 pub mod RequestEnds
 pub mod PieceByPiece
+pub mod Steps
+pub mod WholeScript

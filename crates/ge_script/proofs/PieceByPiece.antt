@@ -6,9 +6,9 @@ use Rattle.std.specs.List.{copy_within}
 use Rattle.std.proofs.lemmas.List.{length-append, length-drop, take_all}
 use Rattle.std.proofs.lemmas.List.Edits.{take-paste}
 use Rattle.ge_rows.specs.declared.events.Event.{Event}
-use Rattle.ge_model_script.specs.Lines.{requests_of}
-use Rattle.ge_model_script.specs.Events.{event_of, events_of}
-use Rattle.ge_model_script.specs.Sources.{Moved, IsReadToEnd}
+use Rattle.ge_model_grammar.specs.ScriptLines.{requests_of}
+use Rattle.ge_model_grammar.specs.Events.{event_of, events_of}
+use Rattle.ge_model_grammar.specs.Sources.{Moved, IsReadToEnd}
 use Rattle.ge_script.specs.Pieces.{coming_of, total_of, GivesNext}
 
 -- nothing is held at first

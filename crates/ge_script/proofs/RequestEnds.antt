@@ -4,10 +4,10 @@ use Rattle.std.specs.Prelude.{map}
 use Rattle.std.specs.List.{onto_first}
 use Rattle.std.proofs.lemmas.Bool.{true≢false, cases_order, lt-ltb}
 use Rattle.std.proofs.lemmas.List.{length-drop, length-take, length-append, drop-drop, take-append-le, take-append-drop, drop-append-le, append-nil}
-use Rattle.ge_model_script.specs.Lines.{is_line_feed, lines_of, is_header, has_long_line, cut_requests, requests_in, requests_of}
-use Rattle.ge_model_script.proofs.FirstLine.{first_len, lines_of-first_at, is_header-first_len}
+use Rattle.ge_model_grammar.specs.ScriptLines.{is_line_feed, lines_of, is_header, has_long_line, cut_requests, requests_in, requests_of}
+use Rattle.ge_model_grammar.proofs.FirstLine.{first_len, lines_of-first_at, is_header-first_len}
 use Rattle.ge_rows.specs.declared.events.Form.TheVariants.{TooLong}
-use Rattle.ge_model_script.specs.Events.{unread, event_in, event_of, events_of}
+use Rattle.ge_model_grammar.specs.Events.{unread, event_in, event_of, events_of}
 use Rattle.ge_limits.specs.Limits as limit
 use Rattle.ge_script.specs.Pieces.{ends_request, HasPassed, coming_of}
 

@@ -2,9 +2,9 @@
 use Rattle.std.specs.Prelude.{◌≡◌, ℕ, ◌+◌, ◌<◌, ◌≤◌, Bool, true, false, ◌&&◌, List, [], ◌∷◌, ◌++◌, length, drop, vec_len, Option, Some, None}
 use Rattle.ge_limits.specs.Limits as limit
 use Rattle.ge_rows.specs.declared.events.Event.{Event}
-use Rattle.ge_model_script.specs.Lines.{is_line_feed, is_header}
-use Rattle.ge_model_script.specs.Events.{events_of}
-use Rattle.ge_model_script.specs.Sources.{IsReadToEnd}
+use Rattle.ge_model_grammar.specs.ScriptLines.{is_line_feed, is_header}
+use Rattle.ge_model_grammar.specs.Events.{events_of}
+use Rattle.ge_model_grammar.specs.Sources.{IsReadToEnd}
 use Rattle.ge_script.specs.declared.pieces.Script.{Script}
 
 -- whether a request ends with the first byte: a line feed with a header behind it

@@ -1,8 +1,8 @@
 // The events of a script.
 ghost use Rattle.std.specs.Prelude.{◌≡◌, ◌∷◌, ◌<◌, [], length, IfOk, IfSome, MatchOption};
-ghost use Rattle.ge_model_script.specs.Lines.{text_of, lines_of, requests_of};
-ghost use Rattle.ge_model_script.specs.Header.{header_parts};
-ghost use Rattle.ge_model_script.specs.Events.{unread, with_header, event_of, events_of};
+ghost use Rattle.ge_model_grammar.specs.ScriptLines.{text_of, lines_of, requests_of};
+ghost use Rattle.ge_model_grammar.specs.Header.{header_parts};
+ghost use Rattle.ge_model_grammar.specs.Events.{unread, with_header, event_of, events_of};
 ghost use Rattle.ge_script.specs.Shows.{says_header};
 
 use crate::header::{Header, read_header};
@@ -61,7 +61,7 @@ pub fn read_event(alloc: Global, request: &[u8]) -> Result<Event, AllocError>
 }
 
 /// The bytes of the first request of a script and those of the script after it, or nothing where the script is empty.
-#[tactic(auto, unfolding(ge_model_script::specs::Events::events_of))]
+#[tactic(auto, unfolding(ge_model_grammar::specs::Events::events_of))]
 pub fn next_request(script: &[u8]) -> Option<(&[u8], &[u8])>
     ensures events { MatchOption result (events_of script.now ≡ []) (λ parts. events_of script.now
         ≡ event_of parts.0.now ∷ events_of parts.1.now) }

@@ -1,13 +1,11 @@
 // The header of a request.
 ghost use Rattle.std.specs.Prelude.{◌≡◌, min, ◌^◌, ◌-◌};
-ghost use Rattle.std.specs.List.{list_all};
-ghost use Rattle.std.specs.Char.{is_ascii_digit};
 ghost use Rattle.ge_script.specs.Shows.{says_header};
 ghost use Rattle.ge_limits.specs.Limits.{moments};
-ghost use Rattle.ge_model_script.specs.Header.{is_decimal, decimal_value, moment_of, header_parts};
+ghost use Rattle.ge_model_grammar.specs.Header.{decimal_value, moment_of, header_parts};
 
 use ge_limits::MOMENTS;
-use ge_pieces::{is_a_name, split_word};
+use ge_pieces::{is_a_name, is_decimal_number, split_word};
 
 /// The moment, the user and the group of a request.
 #[derive(Clone, Copy)]
@@ -15,28 +13,6 @@ pub(crate) struct Header<'a> {
     pub(crate) moment: u64,
     pub(crate) user: &'a [u8],
     pub(crate) group: &'a [u8],
-}
-
-fn is_digit(byte: u8) -> bool
-    ensures { result ≡ is_ascii_digit byte }
-{
-    byte.is_ascii_digit()
-}
-
-fn has_digits_alone(text: &[u8]) -> bool
-    ensures { result ≡ list_all is_ascii_digit text.now }
-{
-    text.iter().all(|b| is_digit(*b))
-}
-
-fn is_decimal_number(text: &[u8]) -> bool
-    ensures { result ≡ is_decimal text.now }
-{
-    match text {
-        [] => false,
-        [digit] => is_digit(*digit),
-        [first, _, ..] => *first != b'0' && has_digits_alone(text),
-    }
 }
 
 fn digit_worth(digit: u8) -> u64

@@ -3,7 +3,7 @@ ghost use Rattle.std.specs.Prelude.{◌≡◌, ◌≤◌, ◌<◌, ◌+◌, ◌^
 ghost use Rattle.ge_outside.specs.Faults.{Rose};
 ghost use Rattle.ge_script.specs.declared.input.ScriptFault.TheVariants.{Read, Memory};
 ghost use Rattle.ge_limits.specs.Limits.{script_bytes};
-ghost use Rattle.ge_model_script.specs.Sources.{Moved, IsReadToEnd};
+ghost use Rattle.ge_model_grammar.specs.Sources.{Moved, IsReadToEnd};
 
 use ge_limits::SCRIPT_BYTES;
 use ge_outside::{Failed, Source};

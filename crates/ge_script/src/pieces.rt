@@ -2,9 +2,9 @@
 ghost use Rattle.std.specs.Prelude.{◌≡◌, ◌+◌, ◌-◌, ◌<◌, ◌≤◌, ◌++◌, ◌∷◌, [], ℕ, List, length, take, drop, true, false, vec_len, cond, Option, option_map, Some, ⊤, IfOk, IfSome, MatchOption, OnOk, IsErrOf};
 ghost use Rattle.ge_limits.specs.Limits.{script_bytes, text_bytes};
 ghost use Rattle.ge_outside.specs.Faults.{Rose};
-ghost use Rattle.ge_model_script.specs.Lines.{requests_of};
-ghost use Rattle.ge_model_script.specs.Events.{events_of};
-ghost use Rattle.ge_model_script.specs.Sources.{IsReadToEnd};
+ghost use Rattle.ge_model_grammar.specs.ScriptLines.{requests_of};
+ghost use Rattle.ge_model_grammar.specs.Events.{events_of};
+ghost use Rattle.ge_model_grammar.specs.Sources.{IsReadToEnd};
 ghost use Rattle.ge_script.specs.Pieces.{ends_request, HasPassed, held, given_count, read_count, total_count, coming, IsOver, GivesNext};
 
 use crate::events::read_event;

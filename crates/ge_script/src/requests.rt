@@ -1,6 +1,6 @@
 // Where the requests of a script end.
 ghost use Rattle.std.specs.Prelude.{◌≡◌, ◌+◌, ◌<◌, ◌≤◌, ◌∷◌, take, drop, length};
-ghost use Rattle.ge_model_script.specs.Lines.{is_header, requests_of};
+ghost use Rattle.ge_model_grammar.specs.ScriptLines.{is_header, requests_of};
 
 use ge_pieces::{bytes_from, line_len};
 

@@ -1,7 +1,7 @@
 // The text of a request.
 ghost use Rattle.std.specs.Prelude.{◌≡◌, ◌<◌, ◌≤◌, ◌∷◌, ◌++◌, IfOk, OnOk, nat_eq};
 ghost use Rattle.std.specs.List.{starts_with};
-ghost use Rattle.ge_model_script.specs.Lines.{lines_of, unescaped, text_of};
+ghost use Rattle.ge_model_grammar.specs.ScriptLines.{lines_of, unescaped, text_of};
 
 use ge_pieces::{bytes_from, first_bare_line};
 use ge_rows::Text;

@@ -4,14 +4,14 @@ use Rattle.ge_outside.specs.Clocks.{Answers}
 use Rattle.ge_outside.specs.Streams.{Gains, GainsPrefix}
 use Rattle.ge_model_rows.specs.ClusterRows.{Cluster}
 use Rattle.ge_model_rows.specs.EventRows.{Event, Planned}
-use Rattle.ge_model_batch.specs.Traced.{Traced}
+use Rattle.ge_model_program.specs.Traced.{Traced}
 use Rattle.ge_model_wire.specs.Frames.{reply_frame}
-use Rattle.ge_model_serve.specs.Answered.{own_reply, framed, frame_trace}
-use Rattle.ge_model_serve.specs.Links.{OnTold, EndsAs}
-use Rattle.ge_model_serve.specs.declared.LinkEnd.{LinkEnd}
-use Rattle.ge_model_serve.specs.declared.LinkEnd.TheVariants as end
-use Rattle.ge_model_serve.proofs.Own.{reply-some}
-use Rattle.ge_model_serve.proofs.Serving.{HasServed}
+use Rattle.ge_model_program.specs.Answered.{own_reply, framed, frame_trace}
+use Rattle.ge_model_program.specs.Links.{OnTold, EndsAs}
+use Rattle.ge_model_program.specs.declared.LinkEnd.{LinkEnd}
+use Rattle.ge_model_program.specs.declared.LinkEnd.TheVariants as end
+use Rattle.ge_model_program.proofs.Own.{reply-some}
+use Rattle.ge_model_program.proofs.Serving.{HasServed}
 use Rattle.ge_wire.specs.Answers.{Reads, OnlyReads}
 use Rattle.ge_wire.specs.declared.faults.WireFault.{WireFault}
 use Rattle.ge_spool.specs.Settled.{generation_of}

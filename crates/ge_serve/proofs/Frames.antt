@@ -5,12 +5,12 @@ use Rattle.ge_outside.specs.Clocks.{Answers, Ticks}
 use Rattle.ge_model_rows.specs.ClusterRows.{Cluster}
 use Rattle.ge_model_rows.specs.EventRows.{Event, Reply, Planned}
 use Rattle.ge_model_core.specs.Render.{rendered}
-use Rattle.ge_model_batch.specs.Traced.{Traced, traced}
+use Rattle.ge_model_program.specs.Traced.{Traced, traced}
 use Rattle.ge_model_wire.specs.Frames.{reply_frame}
 use Rattle.ge_model_wire.specs.Payloads.{event_in_payload}
-use Rattle.ge_model_serve.specs.Moments.{frame_moment, is_due, runs_before, frame_events}
-use Rattle.ge_model_serve.specs.Answered.{FrameMarks, marks_of, own_reply, framed, framed_reply, frame_trace}
-use Rattle.ge_model_store.specs.StandsFor.{StandsForOneOf}
+use Rattle.ge_model_program.specs.Moments.{frame_moment, is_due, runs_before, frame_events}
+use Rattle.ge_model_program.specs.Answered.{FrameMarks, marks_of, own_reply, framed, framed_reply, frame_trace}
+use Rattle.ge_model_program.specs.StandsFor.{StandsForOneOf}
 use Rattle.ge_spool.specs.Settled.{generation_of}
 use Rattle.ge_master.specs.Areas.{Areas, HasFailed}
 use Rattle.ge_master.specs.Homes.{Parts}

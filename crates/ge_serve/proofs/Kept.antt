@@ -4,10 +4,10 @@ use Rattle.std.specs.Prelude.{◌||◌}
 use Rattle.std.proofs.lemmas.Bool.{cases_lt}
 use Rattle.ge_limits.specs.Limits as limit
 use Rattle.ge_outside.specs.Faults.{Rose}
-use Rattle.ge_model_disk.specs.Disk.{Content, IsImageNow, IsImageSince}
-use Rattle.ge_model_batch.specs.Traced.{Traced}
-use Rattle.ge_model_store.specs.StandsFor.{cluster_bytes}
-use Rattle.ge_model_replay.specs.Runs.{IsTooLong}
+use Rattle.ge_model_journal.specs.Disk.{Content, IsImageNow, IsImageSince}
+use Rattle.ge_model_program.specs.Traced.{Traced}
+use Rattle.ge_model_program.specs.StandsFor.{cluster_bytes}
+use Rattle.ge_model_program.specs.Runs.{IsTooLong}
 use Rattle.ge_spool.specs.Settled.{generation_of}
 use Rattle.ge_spool.specs.declared.spool.Spool.{Spool}
 use Rattle.ge_master.specs.Areas.{Areas, HasFailed}

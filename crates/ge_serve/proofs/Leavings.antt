@@ -3,7 +3,7 @@ use Rattle.std.proofs.Common.{ℕ, ◌+◌, ◌≤◌, List, Option, Some, Ok, E
 use Rattle.ge_outside.specs.Clocks.{Answers}
 use Rattle.ge_model_rows.specs.ClusterRows.{Cluster}
 use Rattle.ge_model_rows.specs.EventRows.{Event, Planned}
-use Rattle.ge_model_serve.specs.Answered.{frame_trace}
+use Rattle.ge_model_program.specs.Answered.{frame_trace}
 use Rattle.ge_spool.specs.Settled.{generation_of}
 use Rattle.ge_master.specs.Areas.{Areas}
 use Rattle.ge_master.specs.Homes.{Parts, IsHome}

@@ -11,10 +11,10 @@ use Rattle.ge_model_rows.specs.ClusterRows.{Cluster}
 use Rattle.ge_model_rows.specs.EventRows.{Event, Planned}
 use Rattle.ge_model_core.specs.Plan.{plan_of}
 use Rattle.ge_model_wire.specs.Frames.{frames_of}
-use Rattle.ge_model_serve.specs.Served.{frames_in, Served}
-use Rattle.ge_model_serve.specs.Doors.{OnDoor, AllGivenBack, OneInHand, ServedTo}
-use Rattle.ge_model_serve.proofs.Ending.{map-hand}
-use Rattle.ge_model_serve.proofs.LinksOn.{served-more}
+use Rattle.ge_model_program.specs.Served.{frames_in, Served}
+use Rattle.ge_model_program.specs.Doors.{OnDoor, AllGivenBack, OneInHand, ServedTo}
+use Rattle.ge_model_program.proofs.Ending.{map-hand}
+use Rattle.ge_model_program.proofs.LinksOn.{served-more}
 use Rattle.ge_spool.specs.Settled.{generation_of}
 use Rattle.ge_master.specs.Areas.{Areas, HasFailed}
 use Rattle.ge_master.specs.Homes.{Parts, IsHome}

@@ -8,15 +8,15 @@ use Rattle.ge_outside.specs.Clocks.{Answers, Ticks, next_answer, later_answers}
 use Rattle.ge_outside.specs.Streams.{Gains, GainsPrefix}
 use Rattle.ge_model_rows.specs.ClusterRows.{Cluster}
 use Rattle.ge_model_rows.specs.EventRows.{Event, Planned}
-use Rattle.ge_model_batch.specs.Traced.{Traced}
+use Rattle.ge_model_program.specs.Traced.{Traced}
 use Rattle.ge_model_wire.specs.Frames.{link_bytes, frame_size, is_no_frame, first_payload, taken_of}
-use Rattle.ge_model_serve.specs.Answered.{FrameMarks, own_reply, framed, frame_trace}
-use Rattle.ge_model_serve.specs.Links.{OnTold, LeftWhole, LeftInHand, HoldsOneOf, EndsAs}
-use Rattle.ge_model_serve.specs.declared.LinkEnd.TheVariants as end
-use Rattle.ge_model_serve.proofs.Own.{reply-some}
-use Rattle.ge_model_serve.proofs.Ending.{whole-left}
-use Rattle.ge_model_serve.proofs.Serving as serving
-use Rattle.ge_model_serve.proofs.Serving.{HasServed}
+use Rattle.ge_model_program.specs.Answered.{FrameMarks, own_reply, framed, frame_trace}
+use Rattle.ge_model_program.specs.Links.{OnTold, LeftWhole, LeftInHand, HoldsOneOf, EndsAs}
+use Rattle.ge_model_program.specs.declared.LinkEnd.TheVariants as end
+use Rattle.ge_model_program.proofs.Own.{reply-some}
+use Rattle.ge_model_program.proofs.Ending.{whole-left}
+use Rattle.ge_model_program.proofs.Serving as serving
+use Rattle.ge_model_program.proofs.Serving.{HasServed}
 use Rattle.ge_wire.specs.Answers.{Reads, OnlyReads}
 use Rattle.ge_wire.specs.declared.faults.WireFault.{WireFault}
 use Rattle.ge_wire.specs.declared.faults.WireFault.TheVariants as fault

@@ -5,12 +5,12 @@ use Rattle.ge_outside.specs.Doors.{ClosedLink, Opens, Closes}
 use Rattle.ge_outside.specs.Faults.{Rose}
 use Rattle.ge_model_rows.specs.ClusterRows.{Cluster}
 use Rattle.ge_model_rows.specs.EventRows.{Event, Planned}
-use Rattle.ge_model_serve.specs.Links.{OnTold, LeftInHand, EndsAs}
-use Rattle.ge_model_serve.specs.Served.{IsGivenBack}
-use Rattle.ge_model_serve.specs.Doors.{OnDoor}
-use Rattle.ge_model_serve.specs.declared.LinkEnd.{LinkEnd}
-use Rattle.ge_model_serve.specs.declared.LinkEnd.TheVariants as end
-use Rattle.ge_model_serve.proofs.Ending.{map-hand, map-ends, hand-of, later-told}
+use Rattle.ge_model_program.specs.Links.{OnTold, LeftInHand, EndsAs}
+use Rattle.ge_model_program.specs.Served.{IsGivenBack}
+use Rattle.ge_model_program.specs.Doors.{OnDoor}
+use Rattle.ge_model_program.specs.declared.LinkEnd.{LinkEnd}
+use Rattle.ge_model_program.specs.declared.LinkEnd.TheVariants as end
+use Rattle.ge_model_program.proofs.Ending.{map-hand, map-ends, hand-of, later-told}
 use Rattle.ge_spool.specs.Settled.{generation_of}
 use Rattle.ge_master.specs.Areas.{Areas}
 use Rattle.ge_master.specs.Homes.{Parts, IsHome}

@@ -3,9 +3,9 @@ use Rattle.std.specs.Prelude.{ℕ, List, Option, Result, Ok, Err}
 use Rattle.ge_outside.specs.Clocks.{Answers}
 use Rattle.ge_model_rows.specs.ClusterRows.{Cluster}
 use Rattle.ge_model_rows.specs.EventRows.{Event, Planned}
-use Rattle.ge_model_serve.specs.Links.{LeftInHand, EndsAs}
-use Rattle.ge_model_serve.specs.declared.LinkEnd.{LinkEnd}
-use Rattle.ge_model_serve.specs.declared.LinkEnd.TheVariants as end
+use Rattle.ge_model_program.specs.Links.{LeftInHand, EndsAs}
+use Rattle.ge_model_program.specs.declared.LinkEnd.{LinkEnd}
+use Rattle.ge_model_program.specs.declared.LinkEnd.TheVariants as end
 use Rattle.ge_wire.specs.declared.faults.WireFault.{WireFault}
 use Rattle.ge_wire.specs.declared.faults.WireFault.TheVariants as fault
 use Rattle.ge_master.specs.Areas.{Areas}

@@ -1,7 +1,7 @@
 -- What the areas are left with after frames of a connection.
 use Rattle.std.specs.Prelude.{◌⊎◌, ℕ, ◌+◌, ◌*◌, ◌≤◌}
 use Rattle.ge_model_rows.specs.ClusterRows.{Cluster}
-use Rattle.ge_model_replay.specs.Runs.{EachStandsForOneOf, IsTooLong}
+use Rattle.ge_model_program.specs.Runs.{EachStandsForOneOf, IsTooLong}
 use Rattle.ge_spool.specs.Settled.{generation_of}
 use Rattle.ge_spool.specs.declared.spool.Spool.{Spool}
 use Rattle.ge_master.specs.Areas.{Areas}

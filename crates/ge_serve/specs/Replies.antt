@@ -3,10 +3,10 @@ use Rattle.std.specs.Prelude.{◌≡◌, ◌⊎◌, ℕ, ◌+◌, ◌≤◌, ◌
 use Rattle.ge_outside.specs.Clocks.{Answers, Ticks}
 use Rattle.ge_model_rows.specs.ClusterRows.{Cluster}
 use Rattle.ge_model_rows.specs.EventRows.{Event, Planned}
-use Rattle.ge_model_batch.specs.Traced.{Traced}
-use Rattle.ge_model_replay.specs.Runs.{EachStandsForOneOf}
+use Rattle.ge_model_program.specs.Traced.{Traced}
+use Rattle.ge_model_program.specs.Runs.{EachStandsForOneOf}
 use Rattle.ge_model_wire.specs.Frames.{reply_frame}
-use Rattle.ge_model_serve.specs.Answered.{FrameMarks, own_reply, framed, frame_trace}
+use Rattle.ge_model_program.specs.Answered.{FrameMarks, own_reply, framed, frame_trace}
 use Rattle.ge_spool.specs.Settled.{generation_of}
 use Rattle.ge_master.specs.Areas.{Areas, HasFailed}
 use Rattle.ge_master.specs.Homes.{Parts, IsHome}

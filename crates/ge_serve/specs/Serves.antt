@@ -8,11 +8,11 @@ use Rattle.ge_model_rows.specs.ClusterRows.{Cluster}
 use Rattle.ge_model_rows.specs.EventRows.{Event, Planned}
 use Rattle.ge_model_core.specs.Plan.{plan_of}
 use Rattle.ge_model_wire.specs.Frames.{frames_of}
-use Rattle.ge_model_serve.specs.Links.{InHand}
-use Rattle.ge_model_serve.specs.Served.{LinkLeaves}
-use Rattle.ge_model_serve.specs.Doors.{OnDoor, ServedTo}
-use Rattle.ge_model_serve.specs.declared.LinkEnd.{LinkEnd}
-use Rattle.ge_model_serve.specs.declared.LinkEnd.TheVariants as end
+use Rattle.ge_model_program.specs.Links.{InHand}
+use Rattle.ge_model_program.specs.Served.{LinkLeaves}
+use Rattle.ge_model_program.specs.Doors.{OnDoor, ServedTo}
+use Rattle.ge_model_program.specs.declared.LinkEnd.{LinkEnd}
+use Rattle.ge_model_program.specs.declared.LinkEnd.TheVariants as end
 use Rattle.ge_spool.specs.Settled.{generation_of}
 use Rattle.ge_master.specs.Areas.{Areas, HasFailed}
 use Rattle.ge_master.specs.Homes.{Parts, IsHome}

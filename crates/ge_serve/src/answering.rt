@@ -4,7 +4,7 @@ ghost use Rattle.std.specs.Result.{is_err};
 ghost use Rattle.ge_model_core.specs.Plan.{plan_of};
 ghost use Rattle.ge_master.specs.Areas.{areas_of};
 ghost use Rattle.ge_master.specs.Masters.{HasLength, parts_of, is_gone};
-ghost use Rattle.ge_model_serve.specs.Answered.{own_reply};
+ghost use Rattle.ge_model_program.specs.Answered.{own_reply};
 ghost use Rattle.ge_serve.specs.Replies.{AnswersFrame};
 
 use crate::moments::events_of_frame;
@@ -14,7 +14,7 @@ use ge_rows::{List, Reply, Text};
 use std::alloc::Global;
 
 // The reply to a frame's own event, which is the last of those to its events.
-#[tactic(auto, using(ge_model_serve::proofs::Own::own_last))]
+#[tactic(auto, using(ge_model_program::proofs::Own::own_last))]
 fn reply_to_frame(mut replies: List<Reply>) -> Option<Reply>
     ensures { IfSome result (λ reply. own_reply replies ≡ reply ∷ []) }
 {

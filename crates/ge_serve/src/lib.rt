@@ -13,6 +13,6 @@ mod serving;
 mod statuses;
 
 pub use ge_master::{Master, Stop, apply, plan, render};
-pub use ge_model_serve::LinkEnd;
+pub use ge_model_program::LinkEnd;
 pub use linking::serve_link;
 pub use serving::serve;

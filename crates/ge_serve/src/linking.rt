@@ -2,7 +2,7 @@
 ghost use Rattle.std.specs.Prelude.{◌≡◌, ◌≤◌, true, false, Err, OnOk};
 ghost use Rattle.std.specs.Result.{is_err};
 ghost use Rattle.ge_model_core.specs.Plan.{plan_of};
-ghost use Rattle.ge_model_serve.specs.Links.{OnTold};
+ghost use Rattle.ge_model_program.specs.Links.{OnTold};
 ghost use Rattle.ge_outside.specs.Faults.{Rose};
 ghost use Rattle.ge_master.specs.Areas.{HasFailed, areas_of};
 ghost use Rattle.ge_master.specs.Homes.{IsHome};

@@ -1,6 +1,6 @@
 // The events of a frame.
 ghost use Rattle.std.specs.Prelude.{◌≡◌, IfOk};
-ghost use Rattle.ge_model_serve.specs.Moments.{frame_moment, is_due, put_in_run, runs_before, frame_events};
+ghost use Rattle.ge_model_program.specs.Moments.{frame_moment, is_due, put_in_run, runs_before, frame_events};
 
 use ge_limits::MOMENTS;
 use ge_rows::{Cluster, Event, Form, List, Text};
@@ -48,7 +48,7 @@ fn runs(alloc: Global, due: bool, moment: u64) -> Result<List<Event>, AllocError
 }
 
 /// The events of a frame, for what the clock answers: perhaps a scheduling run, and then its own.
-#[tactic(auto, unfolding(ge_model_serve::specs::Moments::frame_events))]
+#[tactic(auto, unfolding(ge_model_program::specs::Moments::frame_events))]
 pub(crate) fn events_of_frame(
     alloc: Global,
     cluster: &Cluster,

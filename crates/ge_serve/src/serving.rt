@@ -1,7 +1,7 @@
 // Connections one after the other.
 ghost use Rattle.std.specs.Prelude.{◌≡◌, ◌⊎◌, ◌≤◌, ◌||◌, nat_le, false, OnOk, IfErr};
 ghost use Rattle.ge_model_core.specs.Plan.{plan_of};
-ghost use Rattle.ge_model_serve.specs.Doors.{OnDoor};
+ghost use Rattle.ge_model_program.specs.Doors.{OnDoor};
 ghost use Rattle.ge_outside.specs.Faults.{Rose};
 ghost use Rattle.ge_master.specs.Areas.{HasFailed, areas_of};
 ghost use Rattle.ge_master.specs.Homes.{IsHome};

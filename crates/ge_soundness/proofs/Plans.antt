@@ -8,7 +8,7 @@ use Rattle.ge_model_rows.specs.CommandRows.{Command}
 use Rattle.ge_model_rows.specs.EntryRows.{Change}
 use Rattle.ge_model_rows.specs.EventRows.{Event, Form}
 use Rattle.ge_model_rows.specs.JobRows.{Advance}
-use Rattle.ge_model_script.specs.Lines.{is_too_long}
+use Rattle.ge_model_grammar.specs.ScriptLines.{is_too_long}
 use Rattle.ge_model_core.specs.Forms.{is_cut}
 use Rattle.ge_model_core.specs.Plan.{event_command, command_plan, timely_plan, plan_of}
 use Rattle.ge_model_jobs.specs.Soundness.{IsSound}

@@ -4,7 +4,7 @@ use Rattle.std.specs.Prelude.{IfSome, ◌&&◌, nat_le, length, is_some}
 use Rattle.ge_rows.specs.Keyed.{text_eq, at_text}
 use Rattle.ge_model_rows.specs.CommandRows.{Command, Listing, Query}
 use Rattle.ge_model_rows.specs.EntryRows.{ObjectKind, Key}
-use Rattle.ge_model_script.specs.Names.{is_name}
+use Rattle.ge_model_grammar.specs.Names.{is_name}
 use Rattle.ge_model_rows.specs.Pieces.{is_empty, before_byte, behind_byte}
 use Rattle.ge_model_jobs.proofs.Orderly.{ArePicks}
 use Rattle.ge_model_grammar.specs.Bodies.{body_of}

@@ -3,7 +3,7 @@ use Rattle.std.specs.Prelude.{◌≡◌, ◌⊎◌, ℕ, ◌+◌, ◌<◌, ◌�
 use Rattle.std.proofs.Common.{arith, ◌∙◌, sym, ap, subst, inl, inr, ⊎_elim, length-append, append_assoc, drop-cons}
 use Rattle.std.proofs.lemmas.List.{get_or_append_left, get_or-take, drop_at, take-append-drop}
 use Rattle.std.proofs.lemmas.Bool.{eqb-true, ne_eqb}
-use Rattle.ge_model_disk.specs.Disk.{overwritten}
+use Rattle.ge_model_journal.specs.Disk.{overwritten}
 use Rattle.ge_model_journal.specs.Area.{number8, head, is_bad_generation, written_format}
 use Rattle.ge_model_journal.specs.Journal.{State}
 use Rattle.ge_model_journal.specs.declared.Head.TheVariants.{Closed}

@@ -1,7 +1,7 @@
 -- Areas tell more with each call of a disk.
 use Rattle.std.specs.Prelude.{◌≡◌, ◌⊎◌, ℕ, ◌≤◌, List, [], ◌∷◌, length}
 use Rattle.std.proofs.Common.{arith, inl, inr}
-use Rattle.ge_model_disk.specs.Disk.{Content, told_written, told_synced}
+use Rattle.ge_model_journal.specs.Disk.{Content, told_written, told_synced}
 
 pub length_written : (old new : List Content) (at : ℕ) (piece : List ℕ) → new ≡ told_written old at piece → length old ≤ length new
 length_written [] new at piece written = omega arith

@@ -3,7 +3,7 @@ use Rattle.std.specs.Prelude.{◌≡◌, ◌⊎◌, ℕ, zero, suc, ◌+◌, ◌
 use Rattle.std.proofs.Common.{arith, ◌∙◌, sym, ap, subst, ⊎_elim, append_assoc, append-nil, length-take}
 use Rattle.std.proofs.lemmas.List.{get_or-take, take-append-drop, drop-drop}
 use Rattle.std.proofs.lemmas.Bool.{lt-ltb}
-use Rattle.ge_model_disk.specs.Disk.{Content, HasLength, Reads}
+use Rattle.ge_model_journal.specs.Disk.{Content, HasLength, Reads}
 use Rattle.ge_model_journal.specs.Area.{number4, number8, head, head_of, and_found, is_bad_length, records_from}
 use Rattle.ge_model_journal.specs.declared.Head.TheVariants.{Closed}
 use Rattle.ge_spool.specs.Reads.{and_records, IsHeadOf}

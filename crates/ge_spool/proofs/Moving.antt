@@ -1,7 +1,7 @@
 -- What every pair of images stands for while one of the two areas is written.
 use Rattle.std.specs.Prelude.{◌≡◌, ◌⊎◌, ℕ, ◌+◌, ◌<◌, Bool, true, false, ◌==◌, List, length, slice_index, refl}
 use Rattle.std.proofs.Common.{arith, subst, inl, inr}
-use Rattle.ge_model_disk.specs.Disk.{Content, IsImageSince}
+use Rattle.ge_model_journal.specs.Disk.{Content, IsImageSince}
 use Rattle.ge_model_journal.specs.Area.{head}
 use Rattle.ge_model_journal.specs.Journal.{State, header_of, picked, with_record, compacted, IsOneOf}
 use Rattle.ge_spool.specs.Moments.{IsQuiet, Torn, Since, since_none, since_quiet}

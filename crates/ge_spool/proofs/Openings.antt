@@ -1,7 +1,7 @@
 -- Opening as a whole: what every pair of images stands for, and what is answered.
 use Rattle.std.specs.Prelude.{◌≡◌, ◌⊎◌, ℕ, Bool, true, false, ◌==◌, nat_lt, if◌then◌else◌, List, [], ◌∷◌, length, Ok, Err, refl}
 use Rattle.std.proofs.Common.{◌∙◌, sym, ap, subst, inl, inr, ⊎_elim}
-use Rattle.ge_model_disk.specs.Disk.{Content, IsImageSince, overwritten, read_bytes, settled_content, told_synced}
+use Rattle.ge_model_journal.specs.Disk.{Content, IsImageSince, overwritten, read_bytes, settled_content, told_synced}
 use Rattle.ge_model_journal.specs.Area.{head}
 use Rattle.ge_model_journal.specs.Journal.{meaning, meaning_by, choice, first_state, area_number, counted_area}
 use Rattle.ge_model_journal.specs.Writing.{bytes_of_area, padded, first_opened, second_opened}

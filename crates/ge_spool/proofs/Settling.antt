@@ -2,7 +2,7 @@
 use Rattle.std.specs.Prelude.{◌≡◌, ℕ, ◌<◌, Bool, true, false, not, ◌==◌, ◌++◌, List, ◌∷◌, length, take, drop, slice_index, Result, Ok, Err, OnOk, is_err, refl}
 use Rattle.std.proofs.Common.{arith, ◌∙◌, sym, ap, subst, eq-eqb}
 use Rattle.std.proofs.lemmas.List.{get_or_append_left}
-use Rattle.ge_model_disk.specs.Disk.{Content, IsImageSince, read_bytes}
+use Rattle.ge_model_journal.specs.Disk.{Content, IsImageSince, read_bytes}
 use Rattle.ge_model_journal.specs.Area.{head, records_of}
 use Rattle.ge_model_journal.specs.Journal.{State, choice, header_of, picked, meaning}
 use Rattle.ge_model_journal.specs.declared.Choice.TheVariants.{Chosen}

@@ -2,7 +2,7 @@
 use Rattle.std.specs.Prelude.{◌≡◌, ℕ, ◌+◌, ◌-◌, ◌<◌, ◌≤◌, Bool, true, false, not, ◌==◌, ◌||◌, if◌then◌else◌, nat_lt, List, [], ◌∷◌, length, take, drop, slice_index, Result, Ok, Err, refl}
 use Rattle.std.proofs.Common.{arith, ◌∙◌, sym, ap, subst, inl, inr, ⊎_elim, eq-eqb}
 use Rattle.std.proofs.lemmas.Bool.{lt-ltb, le-ltb, cases_lt}
-use Rattle.ge_model_disk.specs.Disk.{Content, HasLength, overwritten}
+use Rattle.ge_model_journal.specs.Disk.{Content, HasLength, overwritten}
 use Rattle.ge_model_journal.specs.Area.{number8, head, is_format, is_bad_generation, records_from, records_of}
 use Rattle.ge_model_journal.specs.Journal.{State, meaning, meaning_by, choice, picked, state_of, area_number, first_state}
 use Rattle.ge_model_journal.specs.Writing.{padded}

@@ -3,7 +3,7 @@ use Rattle.std.specs.Prelude.{◌≡◌, ◌⊎◌, ℕ, suc, ◌+◌, ◌<◌, 
 use Rattle.std.proofs.Common.{arith, ◌∙◌, sym, ap, inl, inr, ⊎_elim, length-append, length-take, append_assoc, append-nil, drop-cons}
 use Rattle.std.proofs.lemmas.List.{take_at, drop_at, take-append-drop, take-append-le, take-take}
 use Rattle.std.proofs.lemmas.Bool.{eqb-true}
-use Rattle.ge_model_disk.specs.Disk.{overwritten}
+use Rattle.ge_model_journal.specs.Disk.{overwritten}
 use Rattle.ge_model_journal.specs.Area.{number4}
 use Rattle.ge_model_journal.specs.Journal.{State, with_record}
 use Rattle.ge_spool.specs.Moments.{Torn}

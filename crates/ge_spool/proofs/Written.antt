@@ -4,7 +4,7 @@ use Rattle.std.proofs.Common.{arith, ◌∙◌, sym, ap, ⊎_elim, append_assoc}
 use Rattle.std.proofs.lemmas.List.{take-append-drop, drop-drop}
 use Rattle.std.proofs.lemmas.Bool.{cases_lt}
 use Rattle.std.specs.Int.{bytes_high_first}
-use Rattle.ge_model_disk.specs.Disk.{Content, overwritten, read_bytes}
+use Rattle.ge_model_journal.specs.Disk.{Content, overwritten, read_bytes}
 use Rattle.ge_model_journal.specs.Journal.{picked}
 use Rattle.ge_model_journal.specs.Writing.{bytes_of_record, bytes_of_area, padded}
 use Rattle.ge_spool.specs.Moments.{IsQuiet, read_bytes-quiet}

@@ -4,7 +4,7 @@ use Rattle.std.proofs.Common.{arith, ◌∙◌, sym, ap, inl, inr, ⊎_elim, len
 use Rattle.std.proofs.lemmas.List.{get_or-take, get_or-drop, take_at, drop_at}
 use Rattle.std.proofs.lemmas.Grind.{same_number_lists}
 use Rattle.ge_outside.specs.Images.{length-overwritten, length-overwritten-le}
-use Rattle.ge_model_disk.specs.Disk.{Content, IsImage, IsImageNow, IsImageSince, settled_content, content_written, overwritten, told_written, told_synced, read_bytes, IsWithin}
+use Rattle.ge_model_journal.specs.Disk.{Content, IsImage, IsImageNow, IsImageSince, settled_content, content_written, overwritten, told_written, told_synced, read_bytes, IsWithin}
 
 -- A disk that tells holds these bytes, and nothing is pending.
 abbrev pub IsQuiet : List Content → List ℕ → Type 0

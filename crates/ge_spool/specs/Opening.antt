@@ -1,6 +1,6 @@
 -- What opening a journal reads and leaves.
 use Rattle.std.specs.Prelude.{◌≡◌, ◌⊎◌, ℕ, ◌+◌, ◌^◌, ◌<◌, ◌≤◌, List, [], ◌∷◌, length, take, drop, Result, Ok, Err}
-use Rattle.ge_model_disk.specs.Disk.{Content, read_bytes}
+use Rattle.ge_model_journal.specs.Disk.{Content, read_bytes}
 use Rattle.ge_model_journal.specs.Area.{head, records_from, records_of, end_from}
 use Rattle.ge_model_journal.specs.Journal.{State, first_state, header_of, choice, meaning, area_number, counted_area}
 use Rattle.ge_model_journal.specs.Writing.{first_opened, second_opened}

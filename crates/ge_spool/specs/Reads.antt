@@ -1,6 +1,6 @@
 -- What reading an area answers.
 use Rattle.std.specs.Prelude.{◌≡◌, ℕ, ◌-◌, ◌^◌, ◌<◌, ◌≤◌, true, List, [], ◌∷◌, ◌++◌, length, Result, Ok, Err}
-use Rattle.ge_model_disk.specs.Disk.{Content}
+use Rattle.ge_model_journal.specs.Disk.{Content}
 use Rattle.ge_model_journal.specs.Area.{head, is_format}
 use Rattle.ge_model_journal.specs.declared.Head.{Head}
 use Rattle.ge_model_journal.specs.declared.Head.TheVariants.{Closed, Faulty, Overlong, Sound}

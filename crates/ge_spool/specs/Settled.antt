@@ -1,6 +1,6 @@
 -- A journal that is at rest on its two areas.
 use Rattle.std.specs.Prelude.{◌≡◌, ◌⊎◌, ℕ, ◌+◌, ◌<◌, ◌≤◌, Bool, false, not, ◌==◌, List, length, take, drop, slice_index, Result, Ok, IsErr}
-use Rattle.ge_model_disk.specs.Disk.{Content, IsWithin, overwritten, read_bytes}
+use Rattle.ge_model_journal.specs.Disk.{Content, IsWithin, overwritten, read_bytes}
 use Rattle.ge_model_journal.specs.Area.{head, records_of, written_format}
 use Rattle.ge_model_journal.specs.Journal.{State, choice, header_of, picked}
 use Rattle.ge_model_journal.specs.declared.Choice.TheVariants.{Chosen}

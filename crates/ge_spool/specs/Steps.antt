@@ -1,6 +1,6 @@
 -- What the two ways of writing to an area may leave at any moment.
 use Rattle.std.specs.Prelude.{◌⊎◌, ℕ, ◌+◌, Bool, true, false, List, [], ◌∷◌, length}
-use Rattle.ge_model_disk.specs.Disk.{overwritten}
+use Rattle.ge_model_journal.specs.Disk.{overwritten}
 use Rattle.ge_spool.specs.Moments.{Torn}
 
 -- A piece is written behind a gate, and then the gate is opened.

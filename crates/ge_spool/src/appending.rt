@@ -1,6 +1,6 @@
 // Appending a record and compacting.
 ghost use Rattle.std.specs.Prelude.{◌≡◌, ◌⊎◌, ◌+◌, ◌-◌, ◌^◌, ◌<◌, ◌≤◌, ℕ, not, List, length, OnOk};
-ghost use Rattle.ge_model_disk.specs.Disk.{IsImageSince, read_bytes};
+ghost use Rattle.ge_model_journal.specs.Disk.{IsImageSince, read_bytes};
 ghost use Rattle.ge_model_journal.specs.Journal.{State, with_record, compacted, IsOneOf};
 ghost use Rattle.ge_model_journal.specs.Writing.{bytes_of_record, bytes_of_area};
 ghost use Rattle.ge_outside.specs.Faults.{Rose};

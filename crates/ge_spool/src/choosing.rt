@@ -1,7 +1,7 @@
 // Writing to the one of two areas that a flag picks.
 ghost use Rattle.ge_limits.specs.Limits.{area_bytes};
 ghost use Rattle.std.specs.Prelude.{◌≡◌, ◌+◌, ◌^◌, ◌≤◌, ℕ, List, length, OnOk};
-ghost use Rattle.ge_model_disk.specs.Disk.{IsWithin};
+ghost use Rattle.ge_model_journal.specs.Disk.{IsWithin};
 ghost use Rattle.ge_model_journal.specs.Journal.{picked};
 ghost use Rattle.ge_spool.specs.Moments.{IsQuiet, Since};
 ghost use Rattle.ge_spool.specs.Settled.{Grows, HasCauseOfTwo};

@@ -1,7 +1,7 @@
 // Writing to one area so that a stop at any moment is harmless.
 ghost use Rattle.ge_limits.specs.Limits.{area_bytes};
 ghost use Rattle.std.specs.Prelude.{◌≡◌, ◌+◌, ◌^◌, ◌≤◌, ◌∷◌, [], ℕ, List, length, OnOk};
-ghost use Rattle.ge_model_disk.specs.Disk.{IsWithin, overwritten};
+ghost use Rattle.ge_model_journal.specs.Disk.{IsWithin, overwritten};
 ghost use Rattle.ge_outside.specs.Faults.{HasCause};
 ghost use Rattle.ge_spool.specs.Steps.{IsBehindImage, IsRefillImage, opened_behind, refilled};
 ghost use Rattle.ge_spool.specs.Moments.{IsQuiet, Torn, Since};

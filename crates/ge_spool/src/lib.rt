@@ -24,6 +24,7 @@ mod spool;
 mod surveying;
 
 pub use faults::{AppendFault, OpenFault};
+pub use laying::{lay, write_behind};
 pub use pieces::{RecordBytes, SnapshotBytes};
 pub use raw::Raw;
 pub use spool::{Spool, WRITTEN_FORMAT};

@@ -1,6 +1,6 @@
 // Opening a journal.
 ghost use Rattle.std.specs.Prelude.{◌≡◌, ◌⊎◌, ◌+◌, ◌-◌, ◌^◌, ◌<◌, ◌≤◌, ℕ, false, List, [], length, IfOk, OnOk};
-ghost use Rattle.ge_model_disk.specs.Disk.{HasLength, IsWithin, IsImageSince, read_bytes, told_synced};
+ghost use Rattle.ge_model_journal.specs.Disk.{HasLength, IsWithin, IsImageSince, read_bytes, told_synced};
 ghost use Rattle.ge_model_journal.specs.Area.{is_format};
 ghost use Rattle.ge_model_journal.specs.Journal.{picked, area_number, meaning};
 ghost use Rattle.ge_model_journal.specs.Writing.{padded};

@@ -1,6 +1,6 @@
 // Giving a short area a closed gate.
 ghost use Rattle.std.specs.Prelude.{◌≡◌, ◌+◌, ◌≤◌, ℕ, List, length, OnOk};
-ghost use Rattle.ge_model_disk.specs.Disk.{HasLength, IsWithin};
+ghost use Rattle.ge_model_journal.specs.Disk.{HasLength, IsWithin};
 ghost use Rattle.ge_outside.specs.Faults.{HasCause};
 ghost use Rattle.ge_spool.specs.Moments.{IsQuiet, Since};
 ghost use Rattle.ge_model_journal.specs.Writing.{padded};

@@ -1,6 +1,6 @@
 // Reading the area that counts.
 ghost use Rattle.std.specs.Prelude.{◌≡◌, ◌+◌, ◌-◌, ◌^◌, ◌<◌, ◌≤◌, ℕ, length, drop, IfOk};
-ghost use Rattle.ge_model_disk.specs.Disk.{HasLength};
+ghost use Rattle.ge_model_journal.specs.Disk.{HasLength};
 ghost use Rattle.ge_outside.specs.Faults.{Rose};
 ghost use Rattle.ge_spool.specs.Opening.{FindsInRest, FindsIn, FitsFound, Blames, ReadsRest, IsNoFrame};
 

@@ -12,9 +12,9 @@ use Rattle.ge_model_core.specs.Answers.{changed}
 use Rattle.ge_model_core.specs.OptionValues.{option_word}
 use Rattle.ge_model_core.specs.HoldLists.{predecessors}
 use Rattle.ge_model_core.specs.Submitting.{job_from, submitted_tasks, submitted_job, submitted_line, submission_answer}
-use Rattle.ge_submitting.specs.Held.{patch_with}
-use Rattle.ge_submitting.specs.Holding.{holds_given}
-use Rattle.ge_submitting.proofs.Held.{known_lists}
+use Rattle.ge_job_options.specs.Held.{patch_with}
+use Rattle.ge_job_options.specs.Holding.{holds_given}
+use Rattle.ge_job_options.proofs.Held.{known_lists}
 
 module _ (c : Cluster) (e : Event) (options : Given) (words : List (List ℕ)) (script : List ℕ) where
   job_is : (span : TaskSpan) (request : Request) (after each : Option (List ℕ)) (job : Job) → span ≡ submitted_tasks options → request ≡ (request_of c options no_request).0

@@ -21,9 +21,9 @@ use Rattle.ge_model_core.specs.HoldLists.{predecessors}
 use Rattle.ge_model_core.specs.JobOptions.{Owned, patch_of}
 use Rattle.ge_model_core.specs.Reaching.{reaches_itself}
 use Rattle.ge_submitting.specs.Altered.{plan_behind}
-use Rattle.ge_submitting.specs.Held.{patch_with}
-use Rattle.ge_submitting.specs.Holding.{holds_given}
-use Rattle.ge_submitting.proofs.Held.{known_lists}
+use Rattle.ge_job_options.specs.Held.{patch_with}
+use Rattle.ge_job_options.specs.Holding.{holds_given}
+use Rattle.ge_job_options.proofs.Held.{known_lists}
 
 -- what is tried before a cycle stays
 pub kept : (t : Bool) (r : Refusal) → nat_lt (turn_of Cycle) (turn_of r) ≡ false → after_faults (Some r) (when t Cycle) ≡ Some r

@@ -1,11 +1,2 @@
 pub mod Accepted
 pub mod Altered
-pub mod Held
-pub mod Named
-pub mod Noted
-pub mod Once
-pub mod Owned
-pub mod Patched
-pub mod Quoted
-pub mod Sizes
-pub mod Walked

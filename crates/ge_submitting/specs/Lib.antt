@@ -1,5 +1,1 @@
 pub mod Altered
-pub mod Held
-pub mod Holding
-pub mod Listing
-pub mod Walking

@@ -9,21 +9,20 @@ ghost use Rattle.ge_model_core.specs.JobOptions.{patch_of};
 ghost use Rattle.ge_model_core.specs.JobAdvances.{stay_faults};
 ghost use Rattle.ge_model_core.specs.Altering as altering;
 ghost use Rattle.ge_model_core.specs.Altering.{owned, alter_faults, alter_faults_of, patch_at, alter_plan};
-ghost use Rattle.ge_submitting.specs.Held.{holder_shown};
+ghost use Rattle.ge_job_options.specs.Held.{holder_shown};
 ghost use Rattle.ge_submitting.specs.Altered.{plan_behind};
 
-use crate::advances::{no_request, note_advance};
-use crate::holders::Holder;
-use crate::job_options::{asks, both_known, patch_of_parts, read_options};
-use crate::numbers::numbers_once;
-use crate::reaching::{Waits, closes_any};
-use ge_access::is_operator;
 use ge_answers::{accept, refuse};
 use ge_base::Refusal;
-use ge_options::{WideRange, has_option};
+use ge_commands::{WideRange, has_option};
+use ge_job_options::{
+    Holder, Waits, asks, both_known, closes_any, no_request, note_advance, numbers_once,
+    patch_of_parts, read_options,
+};
 use ge_pieces::{is_same, note};
 use ge_request::request_over;
 use ge_rows::{Change, Cluster, Event, Job, List, Options, Patch, Planned, Text, job_at};
+use ge_site::is_operator;
 use std::alloc::{AllocError, Global};
 
 fn holder_of(job: &Job) -> Holder<'_>

@@ -6,20 +6,18 @@ ghost use Rattle.ge_model_config.specs.Requests.{request_of, no_request as nothi
 ghost use Rattle.ge_model_core.specs.JobOptions.{option_faults};
 ghost use Rattle.ge_model_core.specs.JobAdvances.{join_faults};
 ghost use Rattle.ge_model_core.specs.Submitting.{submitted_tasks, submitter, submitted_job, size_faults, submission_answer, submit_plan};
-ghost use Rattle.ge_options.specs.Real.{is_real};
-ghost use Rattle.ge_options.specs.Shown.{range_shown};
+ghost use Rattle.ge_commands.specs.Real.{is_real};
+ghost use Rattle.ge_commands.specs.Shown.{range_shown};
 ghost use Rattle.ge_pieces.specs.Gives.{Reads};
-ghost use Rattle.ge_submitting.specs.Holding.{holds_given};
+ghost use Rattle.ge_job_options.specs.Holding.{holds_given};
 
-use crate::advances::{no_request, note_join};
-use crate::holders::Holder;
-use crate::job_options::{Holds, both_known, read_options};
-use crate::jobs::{job_of_parts, submitted_line};
-use crate::limits::note_sizes;
-use crate::submitted_tasks::tasks_submitted;
 use ge_answers::{accept, refuse};
 use ge_base::Refusal;
-use ge_options::WideRange;
+use ge_commands::WideRange;
+use ge_job_options::{
+    Holder, Holds, both_known, job_of_parts, no_request, note_join, note_sizes, read_options,
+    submitted_line, tasks_submitted,
+};
 use ge_rows::{Change, Cluster, Event, JobRow, List, Options, Planned, Request, Text};
 use std::alloc::{AllocError, Global};
 

@@ -1,7 +1,7 @@
 -- Tickets where no user and no project has any, and jobs have none by their shares.
 use Rattle.std.specs.Prelude.{◌≡◌, ℕ, Bool, ◌&&◌, ◌==◌, List, [], Some, None}
 use Rattle.ge_collections.specs.Keyed.{at_number}
-use Rattle.ge_collections.specs.declared.short_row.ShortRow.{ShortRow}
+use Rattle.ge_job_index.specs.declared.short_row.ShortRow.{ShortRow}
 use Rattle.ge_rows.specs.declared.labels.JobFacts.{JobFacts}
 use Rattle.ge_model_rows.specs.ClusterRows.{Cluster}
 use Rattle.ge_model_rows.specs.Pieces.{is_empty}

@@ -1,11 +1,11 @@
 //! The tickets of jobs where they have none but their own.
 
 ghost use Rattle.std.specs.Prelude.{◌≡◌, IfOk, IsTrue, map};
-ghost use Rattle.ge_beside.specs.Met.{AreFound};
+ghost use Rattle.ge_collections.specs.Met.{AreFound};
 ghost use Rattle.ge_tickets.specs.Own.{OwnAlone, is_own_alone, own_tickets as own_of, told_tickets as told_of};
 
 use crate::dividing::{cut, functional};
-use ge_beside::{row_at, walk};
+use ge_collections::{row_at, walk};
 use ge_rows::{Cluster, JobFacts, List, ShortRow, job_at};
 use std::alloc::{AllocError, Global};
 use std::collections::BTreeMap;

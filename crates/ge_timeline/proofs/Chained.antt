@@ -6,7 +6,7 @@ use Rattle.std.proofs.lemmas.List.{take-append-le, length_push, length-set, get_
 use Rattle.std.proofs.lemmas.List.Sums.{fold_more}
 use Rattle.std.proofs.lemmas.Option.{slice_get_within, get_or_from_slice_get}
 use Rattle.ge_model_rows.specs.ScheduleRows.{LimitId}
-use Rattle.ge_model_bookings.specs.Bookings.{same_limit}
+use Rattle.ge_model_place.specs.Bookings.{same_limit}
 use Rattle.ge_model_place.proofs.Same.{limits_equal}
 use Rattle.ge_timeline.specs.declared.index.Entry.{Entry}
 use Rattle.ge_timeline.specs.Scattered.{bucket_of}

@@ -14,7 +14,7 @@ use Rattle.std.specs.declared.ops.Bound.TheVariants.{Included, Excluded}
 use Rattle.std.proofs.lemmas.Bool.{cases_Bool, cases_lt, and_from, cond-true, cond-false, eqb-true, true≢false, false_from_ne_true}
 use Rattle.std.proofs.lemmas.Map.Keys.{le_from_not_gt}
 use Rattle.ge_model_rows.specs.ScheduleRows.{Booking}
-use Rattle.ge_model_bookings.specs.Bookings.{forever}
+use Rattle.ge_model_place.specs.Bookings.{forever}
 use Rattle.ge_model_place.specs.Running.{next_end_after}
 use Rattle.ge_model_place.specs.Runs.{ends_at}
 use Rattle.ge_model_place.proofs.Earliest.{earliest_does, none_sooner, none_passes}

@@ -7,11 +7,11 @@ use Rattle.std.proofs.lemmas.List.{length-map}
 use Rattle.std.proofs.lemmas.List.Sums.{sum_by-cons}
 use Rattle.slab.specs.Slab.{Slab, get}
 use Rattle.ge_model_rows.specs.ScheduleRows.{LimitId, Booking}
-use Rattle.ge_model_bookings.specs.Bookings.{plain_sum, begins_inside, raised, peak}
-use Rattle.ge_model_bookings.proofs.Peaks.{within_peak}
-use Rattle.ge_points.specs.declared.points.Point.{Point}
-use Rattle.ge_points.specs.StepFunctions.{IsRising, level, greatest, moments, points_in}
-use Rattle.ge_points.proofs.Levels.{level_within, level_met}
+use Rattle.ge_model_place.specs.Bookings.{plain_sum, begins_inside, raised, peak}
+use Rattle.ge_model_place.proofs.Peaks.{within_peak}
+use Rattle.ge_timeline.specs.declared.points.Point.{Point}
+use Rattle.ge_timeline.specs.StepFunctions.{IsRising, level, greatest, moments, points_in}
+use Rattle.ge_timeline.proofs.Levels.{level_within, level_met}
 use Rattle.ge_timeline.specs.Looks.{changes, window_peak, LooksFew}
 use Rattle.ge_timeline.specs.Shown.{number_in, HasNoMore, Draws, ShowsPoints, ShowsLimit, Shows}
 

@@ -1,3 +1,5 @@
+pub mod Levels
+pub mod Halves
 pub mod Chained
 pub mod Ended
 pub mod Joined

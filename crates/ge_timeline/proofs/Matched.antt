@@ -7,7 +7,7 @@ use Rattle.std.proofs.lemmas.Bool.{and_parts, and_from, eqb-true, eq-eqb, trueâ‰
 use Rattle.std.proofs.lemmas.List.Quantifiers.{position-Some}
 use Rattle.std.proofs.lemmas.List.{length-take, get_or-take}
 use Rattle.std.proofs.lemmas.Option.{slice_get-get_or}
-use Rattle.ge_model_bookings.specs.Bookings.{same_limit}
+use Rattle.ge_model_place.specs.Bookings.{same_limit}
 use Rattle.ge_model_place.proofs.Same.{limits_equal, limit_same}
 use Rattle.ge_model_rows.specs.ScheduleRows.{Demand, Booking}
 use Rattle.ge_model_rows.specs.TaskRows.{TaskId}

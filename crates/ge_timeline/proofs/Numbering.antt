@@ -11,7 +11,7 @@ use Rattle.ge_collections.specs.Keyed.{text_cmp, text_eq}
 use Rattle.ge_rows.specs.contracts.scheduling.LimitIdOrd.TheImpl.{cmp-value}
 use Rattle.ge_model_rows.specs.ScheduleRows.{LimitId, Instance, Host, Global, Pe, Quota}
 use Rattle.ge_model_rows.specs.ScheduleRows.{Advance as Booked}
-use Rattle.ge_model_bookings.specs.Bookings.{same_limit}
+use Rattle.ge_model_place.specs.Bookings.{same_limit}
 use Rattle.ge_model_place.proofs.Same.{limits_equal}
 use Rattle.ge_timeline.specs.Shown.{number_in}
 

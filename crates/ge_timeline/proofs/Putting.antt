@@ -6,10 +6,10 @@ use Rattle.std.proofs.lemmas.Bool.{cases_Bool, cond-true, cond-false, true≢fal
 use Rattle.std.proofs.lemmas.List.Sums.{sum_by-append}
 use Rattle.slab.specs.Slab.{Slab, get}
 use Rattle.ge_model_rows.specs.ScheduleRows.{LimitId}
-use Rattle.ge_model_bookings.specs.Bookings.{same_limit}
+use Rattle.ge_model_place.specs.Bookings.{same_limit}
 use Rattle.ge_model_place.proofs.Same.{limits_equal, limit_same}
-use Rattle.ge_points.specs.declared.points.Point.{Point}
-use Rattle.ge_points.specs.StepFunctions.{IsRising, level, level_with, HasMoments}
+use Rattle.ge_timeline.specs.declared.points.Point.{Point}
+use Rattle.ge_timeline.specs.StepFunctions.{IsRising, level, level_with, HasMoments}
 use Rattle.ge_timeline.specs.Shown.{IsRaised, number_in, HasNoMore, Draws, ShowsPoints, ShowsLimit, Shows, IsWhole, sums_but, changes_but}
 
 -- a limit that has no step function gets one of no points

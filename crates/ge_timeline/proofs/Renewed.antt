@@ -10,9 +10,9 @@ use Rattle.std.proofs.lemmas.Grind.{flat_map-append}
 use Rattle.std.proofs.lemmas.List.Concat.{flat_map-cons}
 use Rattle.std.proofs.lemmas.List.Sums.{sum_by-append, sum_by-cons}
 use Rattle.slab.specs.Slab.{Slab}
-use Rattle.ge_points.specs.declared.points.Point.{Point}
+use Rattle.ge_timeline.specs.declared.points.Point.{Point}
 use Rattle.ge_model_rows.specs.ScheduleRows.{LimitId, Demand, Booking}
-use Rattle.ge_model_bookings.specs.Bookings.{same_limit, asked_of, is_within, taken_by, demand_on, plain_sum}
+use Rattle.ge_model_place.specs.Bookings.{same_limit, asked_of, is_within, taken_by, demand_on, plain_sum}
 use Rattle.ge_model_place.proofs.Same.{limits_equal}
 use Rattle.ge_timeline.specs.Looks.{changes_by, changes_in, changes}
 use Rattle.ge_timeline.specs.Shown.{HasNoMore, Shows, sums_but, changes_but, is_asked, sums_anew, changes_anew}

@@ -6,10 +6,10 @@ use Rattle.std.proofs.lemmas.Grind.{flat_map-append}
 use Rattle.std.proofs.lemmas.List.{append-nil, append_assoc}
 use Rattle.std.proofs.lemmas.List.Concat.{flat_map-cons}
 use Rattle.std.proofs.lemmas.List.Sums.{sum_by_push, sum_by-append}
-use Rattle.ge_points.specs.declared.points.Point.{Point}
-use Rattle.ge_points.specs.StepFunctions.{level_with}
+use Rattle.ge_timeline.specs.declared.points.Point.{Point}
+use Rattle.ge_timeline.specs.StepFunctions.{level_with}
 use Rattle.ge_model_rows.specs.ScheduleRows.{LimitId, Demand, Booking}
-use Rattle.ge_model_bookings.specs.Bookings.{same_limit, greatest_sum, asked_of, is_within, taken_by, demand_on, plain_sum}
+use Rattle.ge_model_place.specs.Bookings.{same_limit, greatest_sum, asked_of, is_within, taken_by, demand_on, plain_sum}
 use Rattle.ge_model_place.proofs.Same.{limits_equal}
 use Rattle.ge_timeline.specs.Looks.{changes_by, changes_in, changes}
 use Rattle.ge_timeline.specs.Shown.{HasNoMore, Draws, sums_but, changes_but, sums_with, changes_with, own_with}

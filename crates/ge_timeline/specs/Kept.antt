@@ -4,8 +4,8 @@ use Rattle.std.specs.BTreeSet.{BTreeSet}
 use Rattle.slab.specs.Slab.{Slab}
 use Rattle.std.specs.declared.alloc.Global.{Global}
 use Rattle.ge_model_rows.specs.ScheduleRows.{LimitId, Booking}
-use Rattle.ge_model_bookings.specs.Bookings.{plain_sum}
-use Rattle.ge_points.specs.declared.points.Point.{Point}
+use Rattle.ge_model_place.specs.Bookings.{plain_sum}
+use Rattle.ge_timeline.specs.declared.points.Point.{Point}
 use Rattle.ge_timeline.specs.Looks.{changes}
 use Rattle.ge_timeline.specs.Shown.{Shows}
 use Rattle.ge_timeline.specs.Taking.{HasEnds}

@@ -1,3 +1,4 @@
+pub mod StepFunctions
 pub mod Chains
 pub mod Kept
 pub mod Looks

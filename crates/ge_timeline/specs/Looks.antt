@@ -1,7 +1,7 @@
 -- How many points are looked at for the greatest sum of a window.
 use Rattle.std.specs.Prelude.{ℕ, ◌+◌, ◌*◌, ◌^◌, ◌≤◌, ◌&&◌, cond, nat_lt, List, [], ◌∷◌, flat_map, length, count_by}
 use Rattle.ge_model_rows.specs.ScheduleRows.{LimitId, Demand, Booking}
-use Rattle.ge_model_bookings.specs.Bookings.{same_limit, peak}
+use Rattle.ge_model_place.specs.Bookings.{same_limit, peak}
 
 -- the moments at which what a booking takes of a limit changes: its first one and its end, for each demand on the limit
 abbrev pub changes_by : LimitId → Booking → Demand → List ℕ

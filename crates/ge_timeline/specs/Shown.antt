@@ -5,9 +5,9 @@ use Rattle.std.specs.Map.{lookup}
 use Rattle.std.specs.List.{list_any}
 use Rattle.std.specs.declared.alloc.Global.{Global}
 use Rattle.ge_model_rows.specs.ScheduleRows.{LimitId, Demand, Booking}
-use Rattle.ge_model_bookings.specs.Bookings.{same_limit, greatest_sum, is_within, demand_on, plain_sum}
-use Rattle.ge_points.specs.declared.points.Point.{Point}
-use Rattle.ge_points.specs.StepFunctions.{IsRising, level, level_with, moments, HasMoments}
+use Rattle.ge_model_place.specs.Bookings.{same_limit, greatest_sum, is_within, demand_on, plain_sum}
+use Rattle.ge_timeline.specs.declared.points.Point.{Point}
+use Rattle.ge_timeline.specs.StepFunctions.{IsRising, level, level_with, moments, HasMoments}
 use Rattle.ge_timeline.specs.Looks.{changes, changes_by}
 
 -- the amount was added in the span, and nothing else changed

@@ -1,14 +1,14 @@
 // Amounts of limits are added.
 ghost use Rattle.std.specs.Prelude.{◌≡◌, ℕ, ◌<◌, Some, IfOk, OnOk, List as Items, [], ◌∷◌, ◌++◌};
-ghost use Rattle.ge_points.specs.StepFunctions.{level_with};
-ghost use Rattle.ge_model_bookings.specs.Bookings.{plain_sum};
+ghost use Rattle.ge_timeline.specs.StepFunctions.{level_with};
+ghost use Rattle.ge_model_place.specs.Bookings.{plain_sum};
 ghost use Rattle.ge_model_rows.specs.ScheduleRows.{LimitId as Limit};
 ghost use Rattle.ge_timeline.specs.Looks.{changes};
 ghost use Rattle.ge_timeline.specs.Shown.{number_in, Shows, IsWhole, sums_but, changes_but};
 
 use crate::functions::add_at;
 use crate::index::Index;
-use ge_points::Point;
+use crate::points::Point;
 use ge_rows::{Booking, LimitId, List, Twin};
 use slab::Slab;
 use std::alloc::{AllocError, Global};

@@ -1,10 +1,11 @@
 // Step functions in a slab.
 ghost use Rattle.std.specs.Prelude.{◌≡◌, ◌≢◌, ℕ, ◌<◌, Some, IsSome, OnOk, IsSomeAnd};
 ghost use Rattle.slab.specs.Slab.{get};
-ghost use Rattle.ge_points.specs.StepFunctions.{IsRising};
+ghost use Rattle.ge_timeline.specs.StepFunctions.{IsRising};
 ghost use Rattle.ge_timeline.specs.Shown.{IsRaised};
 
-use ge_points::{Point, add};
+use crate::counted::add;
+use crate::points::Point;
 use slab::Slab;
 use std::alloc::AllocError;
 

@@ -1,16 +1,17 @@
 // The sums of the limits of a booking that was taken out are taken anew from the bookings that are left.
 ghost use Rattle.std.specs.Prelude.{◌≡◌, ℕ, ◌<◌, ◌++◌, [], ◌∷◌, IfOk, OnOk, List as Items};
-ghost use Rattle.ge_points.specs.StepFunctions.{IsRising};
-ghost use Rattle.ge_model_bookings.specs.Bookings.{plain_sum};
+ghost use Rattle.ge_timeline.specs.StepFunctions.{IsRising};
+ghost use Rattle.ge_model_place.specs.Bookings.{plain_sum};
 ghost use Rattle.ge_model_rows.specs.ScheduleRows.{LimitId as Limit, Booking as Row};
 ghost use Rattle.ge_timeline.specs.Looks.{changes, changes_by};
 ghost use Rattle.ge_timeline.specs.Shown.{Shows, Draws, IsWhole, sums_but, changes_but, own_with, sums_anew, changes_anew};
 
 use crate::adding::key_of;
+use crate::counted::add;
 use crate::functions::put_at;
 use crate::index::Index;
+use crate::points::Point;
 use ge_bookings::is_same_limit;
-use ge_points::{Point, add};
 use ge_rows::{Booking, Demand, LimitId, List};
 use slab::Slab;
 use std::alloc::{AllocError, Global};

@@ -1,17 +1,19 @@
 // What is booked, by limits.
 ghost use Rattle.std.specs.Prelude.{◌≡◌, ℕ, ◌-◌, ◌<◌, nat_lt, length, remove, [], ◌∷◌, ◌++◌, IfOk, OnOk, OnErr};
-ghost use Rattle.ge_model_bookings.specs.Bookings.{plain_sum};
+ghost use Rattle.ge_model_place.specs.Bookings.{plain_sum};
 ghost use Rattle.ge_model_place.specs.Running.{next_end_after as next_end};
 ghost use Rattle.ge_timeline.specs.Looks.{changes, window_peak, LooksFew};
 ghost use Rattle.ge_timeline.specs.Kept.{IsKept};
 ghost use Rattle.ge_timeline.specs.Taking.{Takes};
 
 use crate::adding::add_booking;
+use crate::counting::Steps;
 use crate::ends::{first_after, put_end, take_end};
 use crate::index::Index;
+use crate::looking::{exceeds, peak};
 use crate::matching::place_of;
+use crate::points::Point;
 use crate::renewing::renew_all;
-use ge_points::{Point, Steps, exceeds, peak};
 use ge_rows::{Booking, LimitId, List};
 use slab::Slab;
 use std::alloc::{AllocError, Global};

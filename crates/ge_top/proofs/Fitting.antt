@@ -6,11 +6,11 @@ use Rattle.std.proofs.Math.Seq.{take-nil, drop-nil, take-append-add, take-append
 use Rattle.ge_limits.specs.Limits as limit
 use Rattle.ge_model_rows.specs.ClusterRows.{Cluster}
 use Rattle.ge_model_rows.specs.EventRows.{Event, Planned}
-use Rattle.ge_model_batch.specs.Traced.{Traced, ends_at, traced}
-use Rattle.ge_model_store.specs.StandsFor.{cluster_bytes}
-use Rattle.ge_model_replay.specs.Keeping.{Ledger, ledger_in, kept_ledger, FitsBatch, IsNextLedger, FitsThen, BatchesFit}
+use Rattle.ge_model_program.specs.Traced.{Traced, ends_at, traced}
+use Rattle.ge_model_program.specs.StandsFor.{cluster_bytes}
+use Rattle.ge_model_program.specs.Keeping.{Ledger, ledger_in, kept_ledger, FitsBatch, IsNextLedger, FitsThen, BatchesFit}
 use Rattle.ge_spool.specs.Settled.{IsSettled}
-use Rattle.ge_model_disk.specs.Disk.{Content, read_bytes}
+use Rattle.ge_model_journal.specs.Disk.{Content, read_bytes}
 use Rattle.ge_model_journal.specs.Journal.{State, picked}
 use Rattle.ge_spool.specs.declared.spool.Spool.{Spool}
 use Rattle.ge_spool.proofs.Places.{end-found}

@@ -1,7 +1,7 @@
 -- What a stop may leave at the end of a call, from what it may leave at each moment of the call.
 use Rattle.std.proofs.Common.{ℕ, ◌≤◌, List, [], ◌∷◌, length, inl, arith}
-use Rattle.ge_model_disk.specs.Disk.{Content, IsImageNow, IsImageSince}
-use Rattle.ge_model_replay.specs.Runs.{EachStandsFor}
+use Rattle.ge_model_journal.specs.Disk.{Content, IsImageNow, IsImageSince}
+use Rattle.ge_model_program.specs.Runs.{EachStandsFor}
 use Rattle.ge_spool.proofs.Settling.{still-moments}
 use Rattle.ge_serve.specs.Areas.{Areas}
 use Rattle.ge_serve.specs.Homes.{Parts, IsHome}

@@ -3,14 +3,14 @@ use Rattle.std.proofs.Common.{◌≡◌, ℕ, ◌+◌, ◌-◌, ◌^◌, ◌<◌
 use Rattle.ge_outside.specs.Faults.{Rose}
 use Rattle.ge_model_rows.specs.ClusterRows.{Cluster}
 use Rattle.ge_model_rows.specs.EventRows.{Event}
-use Rattle.ge_model_disk.specs.Disk.{Content, read_bytes}
-use Rattle.ge_model_script.specs.Events.{events_of}
-use Rattle.ge_model_script.specs.Sources.{IsReadToEnd}
+use Rattle.ge_model_journal.specs.Disk.{Content, read_bytes}
+use Rattle.ge_model_grammar.specs.Events.{events_of}
+use Rattle.ge_model_grammar.specs.Sources.{IsReadToEnd}
 use Rattle.ge_model_core.specs.Plan.{plan_of}
-use Rattle.ge_model_replay.specs.View.{View, said_of, IsStill}
-use Rattle.ge_model_replay.specs.Keeping.{Ledger}
-use Rattle.ge_model_replay.specs.Runs.{EachStandsFor, Syncs, RanTo, RanCut, RanAll, RanFull}
-use Rattle.ge_model_replay.specs.Replaying.{HasCauses, Replays, opened_view}
+use Rattle.ge_model_program.specs.View.{View, said_of, IsStill}
+use Rattle.ge_model_program.specs.Keeping.{Ledger}
+use Rattle.ge_model_program.specs.Runs.{EachStandsFor, Syncs, RanTo, RanCut, RanAll, RanFull}
+use Rattle.ge_model_program.specs.Replaying.{HasCauses, Replays, opened_view}
 use Rattle.ge_spool.specs.Moments.{IsQuiet}
 use Rattle.ge_spool.specs.Opening.{Tells}
 use Rattle.ge_serve.specs.Areas.{Areas}

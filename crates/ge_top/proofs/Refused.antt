@@ -1,15 +1,15 @@
 -- What areas are left as that stand for nothing.
 use Rattle.std.proofs.Common.{◌≡◌, ℕ, List, [], ◌∷◌, Result, Ok, Err, refl, ap, ◌∙◌, inl, inr}
 use Rattle.ge_model_rows.specs.ClusterRows.{Cluster, opening_cluster}
-use Rattle.ge_model_disk.specs.Disk.{Content, read_bytes, told_synced}
+use Rattle.ge_model_journal.specs.Disk.{Content, read_bytes, told_synced}
 use Rattle.ge_model_journal.specs.Area.{head}
 use Rattle.ge_model_journal.specs.Journal.{first_state, choice, meaning, meaning_by, counted_area}
 use Rattle.ge_model_journal.specs.Writing.{first_opened, second_opened}
 use Rattle.ge_model_journal.specs.declared.Choice.{Choice}
 use Rattle.ge_model_journal.specs.declared.Choice.TheVariants.{Neither, Chosen, Wrong as WrongHeader}
-use Rattle.ge_model_store.specs.StandsFor.{held, or_bad, or_frame, stands_for}
-use Rattle.ge_model_store.specs.declared.Wrong.{Wrong}
-use Rattle.ge_model_replay.specs.View.{View, IsKept, AreKept, both_bytes}
+use Rattle.ge_model_program.specs.StandsFor.{held, or_bad, or_frame, stands_for}
+use Rattle.ge_model_program.specs.declared.Wrong.{Wrong}
+use Rattle.ge_model_program.specs.View.{View, IsKept, AreKept, both_bytes}
 use Rattle.ge_spool.specs.declared.faults.OpenFault.TheVariants as fault
 use Rattle.ge_serve.specs.OpeningMasters.{OpensMaster}
 use Rattle.ge_top.proofs.Opened.{areas_in, if_said}

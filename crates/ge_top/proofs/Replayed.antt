@@ -3,14 +3,14 @@ use Rattle.std.proofs.Common.{◌≡◌, ◌⊎◌, ℕ, ◌+◌, ◌-◌, ◌^�
 use Rattle.ge_limits.specs.Limits as limit
 use Rattle.ge_outside.specs.Faults.{Rose}
 use Rattle.ge_model_rows.specs.ClusterRows.{Cluster}
-use Rattle.ge_model_script.specs.Events.{events_of}
-use Rattle.ge_model_script.specs.Sources.{IsReadToEnd}
+use Rattle.ge_model_grammar.specs.Events.{events_of}
+use Rattle.ge_model_grammar.specs.Sources.{IsReadToEnd}
 use Rattle.ge_model_core.specs.Plan.{plan_of}
-use Rattle.ge_model_top.specs.Simulating.{IfRead}
-use Rattle.ge_model_replay.specs.View.{View, DiskRose}
-use Rattle.ge_model_replay.specs.Keeping.{Ledger}
-use Rattle.ge_model_replay.specs.Runs.{EachStandsFor, RanTo, RanCut, RanAll, RanFull}
-use Rattle.ge_model_replay.specs.Replaying.{EndsOrStops, Replays}
+use Rattle.ge_model_program.specs.Simulating.{IfRead}
+use Rattle.ge_model_program.specs.View.{View, DiskRose}
+use Rattle.ge_model_program.specs.Keeping.{Ledger}
+use Rattle.ge_model_program.specs.Runs.{EachStandsFor, RanTo, RanCut, RanAll, RanFull}
+use Rattle.ge_model_program.specs.Replaying.{EndsOrStops, Replays}
 use Rattle.ge_serve.specs.Stop.{Stop}
 use Rattle.ge_serve.specs.Stop.TheVariants as stop
 use Rattle.ge_top.specs.Ends.{StopsAs, OnFull, Blames}

@@ -3,15 +3,15 @@ use Rattle.std.proofs.Common.{◌≡◌, ◌⊎◌, ℕ, ◌<◌, ◌≤◌, Lis
 use Rattle.std.specs.Prelude.{IsErr}
 use Rattle.std.proofs.lemmas.Bool.{false≢true}
 use Rattle.ge_model_rows.specs.ClusterRows.{Cluster}
-use Rattle.ge_model_disk.specs.Disk.{Content, read_bytes}
+use Rattle.ge_model_journal.specs.Disk.{Content, read_bytes}
 use Rattle.ge_model_journal.specs.Journal.{State, meaning}
-use Rattle.ge_model_store.specs.StandsFor.{stands_for}
-use Rattle.ge_model_store.specs.declared.Wrong.{Wrong}
-use Rattle.ge_model_top.specs.Statuses.{IsOneStatusOf}
-use Rattle.ge_model_replay.specs.View.{View, DiskRose, said_of, AreStill, AreKept}
-use Rattle.ge_model_replay.specs.Keeping.{ledger_in}
-use Rattle.ge_model_replay.specs.Runs.{EachStandsFor}
-use Rattle.ge_model_replay.specs.Replaying.{IsReplayStatus, Replays, ReplaysAreas, WereStill, opened_view}
+use Rattle.ge_model_program.specs.StandsFor.{stands_for}
+use Rattle.ge_model_program.specs.declared.Wrong.{Wrong}
+use Rattle.ge_model_program.specs.Statuses.{IsOneStatusOf}
+use Rattle.ge_model_program.specs.View.{View, DiskRose, said_of, AreStill, AreKept}
+use Rattle.ge_model_program.specs.Keeping.{ledger_in}
+use Rattle.ge_model_program.specs.Runs.{EachStandsFor}
+use Rattle.ge_model_program.specs.Replaying.{IsReplayStatus, Replays, ReplaysAreas, WereStill, opened_view}
 use Rattle.ge_spool.specs.Opening.{Tells}
 use Rattle.ge_spool.specs.declared.faults.OpenFault.{OpenFault}
 use Rattle.ge_spool.specs.declared.faults.OpenFault.TheVariants as fault

@@ -8,12 +8,12 @@ use Rattle.ge_outside.specs.Streams.{Gains, GainsPrefix, Gains-append}
 use Rattle.ge_model_rows.specs.ClusterRows.{Cluster}
 use Rattle.ge_model_rows.specs.EntryRows.{Entry}
 use Rattle.ge_model_rows.specs.EventRows.{Event, Reply, Planned}
-use Rattle.ge_model_disk.specs.Disk.{Content}
+use Rattle.ge_model_journal.specs.Disk.{Content}
 use Rattle.ge_model_core.specs.Render.{rendered}
-use Rattle.ge_model_batch.specs.Traced.{Traced, onto, ends_at, traced}
-use Rattle.ge_model_store.specs.StandsFor.{stands_for, StandsForOneOf}
-use Rattle.ge_model_replay.specs.Runs.{written_of, EachStandsFor, EachStandsForOneOf, IsTooLong, Syncs, RanTo, RanCut, RanAll, RanFull}
-use Rattle.ge_model_replay.specs.Keeping.{Ledger, FitsBatch, IsNextLedger, BatchesFit}
+use Rattle.ge_model_program.specs.Traced.{Traced, onto, ends_at, traced}
+use Rattle.ge_model_program.specs.StandsFor.{stands_for, StandsForOneOf}
+use Rattle.ge_model_program.specs.Runs.{written_of, EachStandsFor, EachStandsForOneOf, IsTooLong, Syncs, RanTo, RanCut, RanAll, RanFull}
+use Rattle.ge_model_program.specs.Keeping.{Ledger, FitsBatch, IsNextLedger, BatchesFit}
 use Rattle.ge_serve.proofs.Staged.{onto-onto, onto-end}
 use Rattle.ge_top.proofs.Fitting.{nothing-fits, last-fits, full-fits}
 use Rattle.ge_top.proofs.Held.{Gains-nothing}

@@ -4,13 +4,13 @@ use Rattle.std.specs.Prelude.{option_map}
 use Rattle.ge_outside.specs.Streams.{Gains, GainsPrefix}
 use Rattle.ge_model_rows.specs.ClusterRows.{Cluster}
 use Rattle.ge_model_rows.specs.EventRows.{Event, Reply, Planned}
-use Rattle.ge_model_disk.specs.Disk.{Content}
-use Rattle.ge_model_script.specs.Events.{events_of}
-use Rattle.ge_model_script.specs.Sources.{IsReadToEnd}
+use Rattle.ge_model_journal.specs.Disk.{Content}
+use Rattle.ge_model_grammar.specs.Events.{events_of}
+use Rattle.ge_model_grammar.specs.Sources.{IsReadToEnd}
 use Rattle.ge_model_core.specs.Render.{rendered}
-use Rattle.ge_model_batch.specs.Traced.{traced}
-use Rattle.ge_model_replay.specs.Runs.{EachStandsFor, EachStandsForOneOf, IsTooLong, RanTo, RanCut, RanAll, RanFull}
-use Rattle.ge_model_replay.specs.Keeping.{Ledger, FitsBatch, IsNextLedger}
+use Rattle.ge_model_program.specs.Traced.{traced}
+use Rattle.ge_model_program.specs.Runs.{EachStandsFor, EachStandsForOneOf, IsTooLong, RanTo, RanCut, RanAll, RanFull}
+use Rattle.ge_model_program.specs.Keeping.{Ledger, FitsBatch, IsNextLedger}
 use Rattle.ge_script.specs.Pieces.{total_of}
 use Rattle.ge_top.specs.NextEvents.{GivesSome, HasNoMore}
 use Rattle.ge_top.proofs.Runs.{HasRun, HasRun-none, nothing-in-hand, all-answered, in-hand, too-full, cut-short, stopped-here, last-here, goes-on}

@@ -6,18 +6,18 @@ use Rattle.std.proofs.lemmas.List.Sums.{sum_by-append, sum_by-cons}
 use Rattle.ge_outside.specs.Clocks.{Answers}
 use Rattle.ge_outside.specs.Doors.{ClosedLink}
 use Rattle.ge_model_rows.specs.ClusterRows.{Cluster}
-use Rattle.ge_model_disk.specs.Disk.{read_bytes}
+use Rattle.ge_model_journal.specs.Disk.{read_bytes}
 use Rattle.ge_model_core.specs.Plan.{plan_of}
 use Rattle.ge_model_journal.specs.Journal.{State, meaning}
-use Rattle.ge_model_store.specs.StandsFor.{stands_for}
-use Rattle.ge_model_store.specs.declared.Wrong.{Wrong}
-use Rattle.ge_model_replay.specs.View.{View, said_of, both_bytes, IsStill, IsKept}
-use Rattle.ge_model_top.specs.Statuses.{IsOneStatusOf}
-use Rattle.ge_model_top.proofs.Answered.{first-or-other, no-status}
+use Rattle.ge_model_program.specs.StandsFor.{stands_for}
+use Rattle.ge_model_program.specs.declared.Wrong.{Wrong}
+use Rattle.ge_model_program.specs.View.{View, said_of, both_bytes, IsStill, IsKept}
+use Rattle.ge_model_program.specs.Statuses.{IsOneStatusOf}
+use Rattle.ge_model_program.proofs.Answered.{first-or-other, no-status}
 use Rattle.ge_model_wire.specs.Frames.{frames_of}
-use Rattle.ge_model_serve.specs.Served.{frames_in}
-use Rattle.ge_model_serve.specs.Doors.{OnDoor, OneInHand, ServedTo}
-use Rattle.ge_model_serve.proofs.Mapped.{map-served}
+use Rattle.ge_model_program.specs.Served.{frames_in}
+use Rattle.ge_model_program.specs.Doors.{OnDoor, OneInHand, ServedTo}
+use Rattle.ge_model_program.proofs.Mapped.{map-served}
 use Rattle.ge_spool.specs.Opening.{Tells}
 use Rattle.ge_spool.specs.Settled.{generation_of}
 use Rattle.ge_spool.specs.declared.faults.OpenFault.{OpenFault}

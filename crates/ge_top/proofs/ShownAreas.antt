@@ -4,13 +4,13 @@ use Rattle.std.specs.Prelude.{IsErr}
 use Rattle.std.proofs.lemmas.Bool.{false≢true}
 use Rattle.ge_outside.specs.Streams.{Gains, GainsPrefix}
 use Rattle.ge_model_rows.specs.ClusterRows.{Cluster}
-use Rattle.ge_model_disk.specs.Disk.{read_bytes, IsImageSince}
+use Rattle.ge_model_journal.specs.Disk.{read_bytes, IsImageSince}
 use Rattle.ge_model_journal.specs.Journal.{State, meaning}
-use Rattle.ge_model_store.specs.StandsFor.{stands_for}
-use Rattle.ge_model_store.specs.declared.Wrong.{Wrong}
-use Rattle.ge_model_replay.specs.View.{View, DiskRose, said_of, AreStill, AreKept}
-use Rattle.ge_model_top.specs.Statuses.{IsOneStatusOf}
-use Rattle.ge_model_replay.specs.Showing.{status_line, ShowsAreas}
+use Rattle.ge_model_program.specs.StandsFor.{stands_for}
+use Rattle.ge_model_program.specs.declared.Wrong.{Wrong}
+use Rattle.ge_model_program.specs.View.{View, DiskRose, said_of, AreStill, AreKept}
+use Rattle.ge_model_program.specs.Statuses.{IsOneStatusOf}
+use Rattle.ge_model_program.specs.Showing.{status_line, ShowsAreas}
 use Rattle.ge_spool.specs.Opening.{Tells}
 use Rattle.ge_spool.specs.Settled.{generation_of, record_count}
 use Rattle.ge_spool.specs.declared.faults.OpenFault.{OpenFault}

@@ -4,11 +4,11 @@ use Rattle.std.specs.Prelude.{IfSome, option_map}
 use Rattle.ge_outside.specs.Streams.{Gains, GainsPrefix}
 use Rattle.ge_model_rows.specs.ClusterRows.{Cluster, opening_cluster}
 use Rattle.ge_model_rows.specs.EventRows.{Event}
-use Rattle.ge_model_script.specs.Events.{events_of}
-use Rattle.ge_model_script.specs.Sources.{IsReadToEnd}
+use Rattle.ge_model_grammar.specs.Events.{events_of}
+use Rattle.ge_model_grammar.specs.Sources.{IsReadToEnd}
 use Rattle.ge_model_core.specs.Plan.{plan_of}
 use Rattle.ge_model_core.specs.Trace.{WroteAll, WroteReplies, WroteFront}
-use Rattle.ge_model_top.specs.Simulating.{WroteToEnd, IfRead}
+use Rattle.ge_model_program.specs.Simulating.{WroteToEnd, IfRead}
 use Rattle.ge_script.specs.Pieces.{total_of, GivesNext}
 use Rattle.ge_top.specs.declared.answering.Answer.{Answer}
 use Rattle.ge_top.specs.Answering.{bytes_of, IsAnswer}

@@ -1,7 +1,7 @@
 -- One turn of a replay.
 use Rattle.std.proofs.Common.{◌≡◌, ℕ, ◌+◌, ◌-◌, ◌^◌, ◌<◌, ◌≤◌, ◌∙◌, [], ◌∷◌, length, Bool, true, false, List, IsTrue, refl, ap, sym, inl, inr, arith}
 use Rattle.std.specs.Prelude.{◌||◌, ◌↔◌}
-use Rattle.ge_model_batch.specs.Traced.{Traced}
+use Rattle.ge_model_program.specs.Traced.{Traced}
 use Rattle.ge_spool.specs.Settled.{generation_of}
 use Rattle.ge_spool.specs.declared.spool.Spool.{Spool}
 use Rattle.ge_serve.specs.Storing.{IsStored, stored_syncs}

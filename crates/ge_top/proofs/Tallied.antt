@@ -7,13 +7,13 @@ use Rattle.std.proofs.lemmas.List.Sums.{count_by-le-length, sum_by_push}
 use Rattle.ge_outside.specs.Streams.{Gains, GainsPrefix}
 use Rattle.ge_model_rows.specs.ClusterRows.{Cluster, opening_cluster}
 use Rattle.ge_model_rows.specs.EventRows.{Event, Reply}
-use Rattle.ge_model_script.specs.Events.{event_of, events_of}
+use Rattle.ge_model_grammar.specs.Events.{event_of, events_of}
 use Rattle.ge_model_core.specs.Plan.{plan_of}
 use Rattle.ge_model_core.specs.Trace.{answer_of, after_entries}
-use Rattle.ge_model_generator.specs.Generated.{generated_requests, generated_script}
-use Rattle.ge_model_top.specs.Trials.{replies_of, is_accepted, starts_in, trial_line, trial_of, HasMarks}
-use Rattle.ge_generator.specs.Left.{IsNext}
-use Rattle.ge_generator.proofs.WholeScript.{events_of-generated, requests-few}
+use Rattle.ge_model_grammar.specs.Generated.{generated_requests, generated_script}
+use Rattle.ge_model_program.specs.Trials.{replies_of, is_accepted, starts_in, trial_line, trial_of, HasMarks}
+use Rattle.ge_script.specs.Left.{IsNext}
+use Rattle.ge_script.proofs.WholeScript.{events_of-generated, requests-few}
 use Rattle.ge_top.specs.declared.tallying.Tally.{Tally}
 use Rattle.ge_top.specs.Tallies.{HasRoom, Adds, IsCounted, IsTallied, tally_line}
 use Rattle.ge_top.proofs.Held.{Gains-nothing}

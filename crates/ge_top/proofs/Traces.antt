@@ -3,14 +3,14 @@ use Rattle.std.proofs.Common.{◌≡◌, ℕ, ◌+◌, Bool, true, false, List, 
 use Rattle.std.proofs.lemmas.List.{length-append, length-replicate, append-nil}
 use Rattle.std.proofs.Math.Seq.{take-length}
 use Rattle.std.proofs.lemmas.Bool.{true≢false}
-use Rattle.ge_model_script.specs.Sources.{IsReadToEnd}
+use Rattle.ge_model_grammar.specs.Sources.{IsReadToEnd}
 use Rattle.ge_outside.specs.Streams.{Gains, GainsPrefix, Gains-append}
 use Rattle.ge_model_rows.specs.ClusterRows.{Cluster}
 use Rattle.ge_model_rows.specs.EventRows.{Event}
 use Rattle.ge_model_core.specs.Render.{rendered}
 use Rattle.ge_model_core.specs.Plan.{plan_of}
 use Rattle.ge_model_core.specs.Trace.{answer_of, after_entries, output, WroteAll, WroteReplies, WroteFront}
-use Rattle.ge_model_top.specs.Simulating.{is_stopped, WroteToEnd}
+use Rattle.ge_model_program.specs.Simulating.{is_stopped, WroteToEnd}
 use Rattle.ge_top.specs.declared.answering.Answer.{Answer}
 use Rattle.ge_top.specs.Answering.{bytes_of, IsAnswer}
 use Rattle.ge_top.specs.Holding.{with_held, HasGained}

@@ -1,8 +1,8 @@
 -- How much of the script that is made up from a number is written.
 use Rattle.std.proofs.Common.{◌≡◌, ℕ, List, [], ◌++◌, Option, Some, None, ap, ◌∙◌, sym, subst, append_assoc, append-nil, arith}
 use Rattle.ge_outside.specs.Streams.{Gains, GainsPrefix, Gains-append}
-use Rattle.ge_model_generator.specs.Generated.{generated_requests, script_of_requests, generated_script}
-use Rattle.ge_generator.specs.Left.{IsNext}
+use Rattle.ge_model_grammar.specs.Generated.{generated_requests, script_of_requests, generated_script}
+use Rattle.ge_script.specs.Left.{IsNext}
 use Rattle.ge_top.proofs.Held.{Gains-nothing, front-longer, front-behind}
 
 -- what is written, and the requests that are left, are the whole script

@@ -1,5 +1,5 @@
 -- What a journal keeps of how it keeps batches.
-use Rattle.ge_model_replay.specs.Keeping.{Ledger}
+use Rattle.ge_model_program.specs.Keeping.{Ledger}
 use Rattle.ge_spool.specs.Settled.{format_of, generation_of, record_count, end_of}
 use Rattle.ge_spool.specs.declared.spool.Spool.{Spool}
 

@@ -1,7 +1,7 @@
 -- The next events of a script, and when there are no more.
 use Rattle.std.specs.Prelude.{◌≡◌, ℕ, List, [], ◌++◌, Option, Some, None, IfSome}
 use Rattle.ge_model_rows.specs.EventRows.{Event}
-use Rattle.ge_model_script.specs.Sources.{IsReadToEnd}
+use Rattle.ge_model_grammar.specs.Sources.{IsReadToEnd}
 
 abbrev pub GivesSomeOf : Option (List Event) → Option (List Event) → List Event → Type 0
 GivesSomeOf None None events = Unit {0}

@@ -4,17 +4,17 @@ use Rattle.ge_outside.specs.Clocks.{Answers}
 use Rattle.ge_outside.specs.Doors.{ClosedLink}
 use Rattle.ge_outside.specs.Faults.{Rose}
 use Rattle.ge_model_rows.specs.ClusterRows.{Cluster}
-use Rattle.ge_model_disk.specs.Disk.{read_bytes}
+use Rattle.ge_model_journal.specs.Disk.{read_bytes}
 use Rattle.ge_model_core.specs.Plan.{plan_of}
 use Rattle.ge_model_journal.specs.Journal.{State, meaning}
-use Rattle.ge_model_store.specs.StandsFor.{stands_for}
-use Rattle.ge_model_replay.specs.View.{said_of, both_bytes, IsStill, IsKept}
-use Rattle.ge_model_replay.specs.Runs.{IsTooLong}
-use Rattle.ge_model_top.specs.Statuses.{IsOneStatusOf}
+use Rattle.ge_model_program.specs.StandsFor.{stands_for}
+use Rattle.ge_model_program.specs.View.{said_of, both_bytes, IsStill, IsKept}
+use Rattle.ge_model_program.specs.Runs.{IsTooLong}
+use Rattle.ge_model_program.specs.Statuses.{IsOneStatusOf}
 use Rattle.ge_model_wire.specs.Frames.{frames_of}
-use Rattle.ge_model_serve.specs.Answered.{FrameMarks, answered}
-use Rattle.ge_model_serve.specs.Served.{frames_in, Served}
-use Rattle.ge_model_serve.specs.Doors.{OnDoor, ServedTo}
+use Rattle.ge_model_program.specs.Answered.{FrameMarks, answered}
+use Rattle.ge_model_program.specs.Served.{frames_in, Served}
+use Rattle.ge_model_program.specs.Doors.{OnDoor, ServedTo}
 use Rattle.ge_serve.specs.Areas.{Areas, HasFailed}
 use Rattle.ge_serve.specs.Storing.{last_generation}
 use Rattle.ge_serve.specs.Serves.{LeavesWith, IsServeStatus}

@@ -2,7 +2,7 @@
 use Rattle.std.specs.Prelude.{◌≡◌, ◌≢◌, ℕ, List, [], ◌∷◌, Option}
 use Rattle.ge_outside.specs.Faults.{Rose}
 use Rattle.ge_outside.specs.Streams.{Gains, GainsPrefix}
-use Rattle.ge_model_top.specs.Statuses.{IsOneStatusOf}
+use Rattle.ge_model_program.specs.Statuses.{IsOneStatusOf}
 
 -- 0 the line is written, 7 a front of it and a write failed, 10 there was no memory for it
 pub record Shows (status : ℕ) (line : List ℕ) (old new : Option (List ℕ)) (before later : ℕ) : Type 0 where

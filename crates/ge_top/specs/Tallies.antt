@@ -4,7 +4,7 @@ use Rattle.ge_model_rows.specs.ClusterRows.{Cluster}
 use Rattle.ge_model_rows.specs.EventRows.{Event, Reply}
 use Rattle.ge_model_core.specs.Plan.{plan_of}
 use Rattle.ge_model_core.specs.Trace.{answer_of, after_entries}
-use Rattle.ge_model_top.specs.Trials.{is_accepted, starts_in, HasMarks, trial_of}
+use Rattle.ge_model_program.specs.Trials.{is_accepted, starts_in, HasMarks, trial_of}
 use Rattle.ge_top.specs.declared.tallying.Tally.{Tally}
 
 -- one request more can be counted

@@ -3,12 +3,12 @@ ghost use Rattle.std.specs.Prelude.{◌≡◌, [], ◌∷◌, IfOk, OnOk, IfSome
 ghost use Rattle.ge_limits.specs.Limits.{script_bytes};
 ghost use Rattle.ge_outside.specs.Faults.{Rose};
 ghost use Rattle.ge_rows.specs.Opening.{opening_cluster};
-ghost use Rattle.ge_model_script.specs.Events.{events_of};
-ghost use Rattle.ge_model_script.specs.Sources.{IsReadToEnd};
+ghost use Rattle.ge_model_grammar.specs.Events.{events_of};
+ghost use Rattle.ge_model_grammar.specs.Sources.{IsReadToEnd};
 ghost use Rattle.ge_script.specs.Pieces.{coming, given_count, read_count, total_count, IsOver, GivesNext};
 ghost use Rattle.ge_model_core.specs.Plan.{plan_of};
 ghost use Rattle.ge_model_core.specs.Trace.{WroteAll, WroteReplies, WroteFront};
-ghost use Rattle.ge_model_top.specs.Simulating.{WroteToEnd, IfRead};
+ghost use Rattle.ge_model_program.specs.Simulating.{WroteToEnd, IfRead};
 ghost use Rattle.ge_rows.specs.declared.cluster.Cluster.{Cluster};
 ghost use Rattle.ge_rows.specs.declared.events.Event.{Event};
 ghost use Rattle.ge_top.specs.Answering.{bytes_of, IsAnswer};

@@ -1,7 +1,7 @@
 // The program's status, from its words on.
 ghost use Rattle.std.specs.Prelude.{◌≡◌, ◌≢◌, ◌↔◌, map, string_bytes, None, IfOk, IfErr, IsErr};
 ghost use Rattle.std.specs.IoError.{error_kind};
-ghost use Rattle.ge_model_top.specs.Words.{word_of};
+ghost use Rattle.ge_model_program.specs.Words.{word_of};
 
 use crate::statuses::{NO_MEMORY, USAGE};
 use crate::top::gridmaster;

@@ -2,13 +2,13 @@
 ghost use Rattle.std.specs.Prelude.{◌≤◌, OnOk, IsErrOf};
 ghost use Rattle.ge_outside.specs.Faults.{Rose};
 ghost use Rattle.ge_outside.specs.Streams.{Gains, GainsPrefix};
-ghost use Rattle.ge_model_generator.specs.Generated.{generated_script};
-ghost use Rattle.ge_model_top.specs.Generating.{Generates};
+ghost use Rattle.ge_model_grammar.specs.Generated.{generated_script};
+ghost use Rattle.ge_model_program.specs.Generating.{Generates};
 
 use crate::statuses::{DONE, NO_MEMORY, WRITE_FAULT};
 use crate::writing::WriteFault;
-use ge_generator::Generator;
 use ge_outside::{Sink, write_all};
+use ge_script::Generator;
 use std::alloc::Global;
 
 fn write_script<K: Sink>(alloc: Global, number: u32, output: &mut K) -> Result<(), WriteFault>

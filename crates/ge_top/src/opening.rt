@@ -1,8 +1,8 @@
 // A run that opens the two areas.
 ghost use Rattle.std.specs.Prelude.{◌<◌};
-ghost use Rattle.ge_model_replay.specs.View.{view_of};
-ghost use Rattle.ge_model_replay.specs.Replaying.{ReplaysAreas};
-ghost use Rattle.ge_model_replay.specs.Showing.{ShowsAreas};
+ghost use Rattle.ge_model_program.specs.View.{view_of};
+ghost use Rattle.ge_model_program.specs.Replaying.{ReplaysAreas};
+ghost use Rattle.ge_model_program.specs.Showing.{ShowsAreas};
 ghost use Rattle.ge_serve.specs.Areas.{areas_of};
 ghost use Rattle.ge_top.specs.ServingAreas.{ServesAreas};
 

@@ -1,6 +1,6 @@
 // What the areas hold, in one line.
 ghost use Rattle.std.specs.Prelude.{◌≡◌, ◌++◌, ◌∷◌, [], codes, decimal, length, IfOk};
-ghost use Rattle.ge_model_replay.specs.Showing.{status_line};
+ghost use Rattle.ge_model_program.specs.Showing.{status_line};
 ghost use Rattle.ge_serve.specs.Masters.{cluster_of, spool_of};
 ghost use Rattle.ge_spool.specs.Settled.{generation_of, record_count};
 ghost use Rattle.ge_top.specs.Shows.{Shows};
@@ -11,7 +11,7 @@ use ge_rows::Text;
 use ge_serve::Master;
 use std::alloc::{AllocError, Global};
 
-#[tactic(auto, unfolding(ge_model_replay::specs::Showing::status_line))]
+#[tactic(auto, unfolding(ge_model_program::specs::Showing::status_line))]
 fn line_of(alloc: Global, generation: u64, records: u64, jobs: usize) -> Result<Text, AllocError>
     ensures { IfOk result (λ line. line ≡ status_line generation records jobs) }
 {

@@ -1,5 +1,5 @@
 // A script in one process.
-ghost use Rattle.ge_model_top.specs.Simulating.{Simulates};
+ghost use Rattle.ge_model_program.specs.Simulating.{Simulates};
 
 use crate::answering::{AnswerFault, answer_script};
 use crate::statuses::{DONE, LONG, NO_MEMORY, READ_FAULT, WRITE_FAULT};

@@ -1,7 +1,7 @@
 // What became of requests, counted.
 ghost use Rattle.std.specs.Prelude.{◌≡◌, if◌then◌else◌, ◌==◌, ◌+◌, ◌-◌, ◌*◌, ◌<◌, ◌≤◌, ◌^◌, ◌++◌, IfOk, codes, decimal, count_by, nat_eq};
 ghost use Rattle.std.specs.List.{starts_with};
-ghost use Rattle.ge_model_top.specs.Trials.{is_accepted, is_start, starts_in};
+ghost use Rattle.ge_model_program.specs.Trials.{is_accepted, is_start, starts_in};
 ghost use Rattle.ge_top.specs.Tallies.{HasRoom, Adds, tally_line};
 
 use ge_rows::{Reply, Text};

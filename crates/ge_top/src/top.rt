@@ -1,17 +1,17 @@
 // The top call.
 ghost use Rattle.std.specs.Prelude.{◌≡◌, ◌↔◌, ◌⊎◌, ℕ, map, string_bytes, Some, None};
 ghost use Rattle.ge_outside.specs.Faults.{Rose};
-ghost use Rattle.ge_model_replay.specs.View.{view_of};
-ghost use Rattle.ge_model_replay.specs.Replaying.{ReplaysAreas};
-ghost use Rattle.ge_model_replay.specs.Faultless.{AreFaultless, AreSound};
-ghost use Rattle.ge_model_replay.specs.Showing.{ShowsAreas};
+ghost use Rattle.ge_model_program.specs.View.{view_of};
+ghost use Rattle.ge_model_program.specs.Replaying.{ReplaysAreas};
+ghost use Rattle.ge_model_program.specs.Faultless.{AreFaultless, AreSound};
+ghost use Rattle.ge_model_program.specs.Showing.{ShowsAreas};
 ghost use Rattle.ge_serve.specs.Areas.{areas_of};
-ghost use Rattle.ge_model_top.specs.Words.{word_of};
+ghost use Rattle.ge_model_program.specs.Words.{word_of};
 ghost use Rattle.ge_top.specs.ServingAreas.{ServesAreas, AreServable};
-ghost use Rattle.ge_model_top.specs.Simulating.{Simulates, AreFaultlessStreams};
-ghost use Rattle.ge_model_top.specs.Generating.{Generates};
-ghost use Rattle.ge_model_top.specs.Trials.{Tries};
-ghost use Rattle.ge_model_top.specs.declared.Word.TheVariants.{Simulate, Replay, Serve, Status, Generate, Trial};
+ghost use Rattle.ge_model_program.specs.Simulating.{Simulates, AreFaultlessStreams};
+ghost use Rattle.ge_model_program.specs.Generating.{Generates};
+ghost use Rattle.ge_model_program.specs.Trials.{Tries};
+ghost use Rattle.ge_model_program.specs.declared.Word.TheVariants.{Simulate, Replay, Serve, Status, Generate, Trial};
 
 use crate::generating::generate;
 use crate::opening::{replay_areas, serve_areas, show_areas};
@@ -19,7 +19,7 @@ use crate::simulating::simulate;
 use crate::statuses::USAGE;
 use crate::trying::trial;
 use crate::words::read_words;
-use ge_model_top::Word;
+use ge_model_program::Word;
 use ge_outside::{Clock, Disk, Door, Sink, Source};
 use std::alloc::Global;
 

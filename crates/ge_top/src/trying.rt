@@ -4,17 +4,16 @@ ghost use Rattle.ge_outside.specs.Faults.{Rose};
 ghost use Rattle.ge_outside.specs.Streams.{Gains, GainsPrefix};
 ghost use Rattle.ge_rows.specs.declared.cluster.Cluster.{Cluster};
 ghost use Rattle.ge_rows.specs.declared.events.Event.{Event};
-ghost use Rattle.ge_model_top.specs.Trials.{HasMarks, trial_of, Tries};
+ghost use Rattle.ge_model_program.specs.Trials.{HasMarks, trial_of, Tries};
 ghost use Rattle.ge_top.specs.Tallies.{HasRoom, IsCounted, IsTallied};
 
 use crate::changing::follow;
 use crate::statuses::{DONE, NO_MEMORY, WRITE_FAULT};
 use crate::tallying::Tally;
 use crate::writing::WriteFault;
-use ge_generator::Generator;
 use ge_outside::{Sink, write_all};
 use ge_rows::{Cluster, Event, opening};
-use ge_script::read_event;
+use ge_script::{Generator, read_event};
 use ge_serve::plan;
 use std::alloc::{AllocError, Global};
 

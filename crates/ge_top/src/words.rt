@@ -1,8 +1,8 @@
 // What the words of a command line say.
 ghost use Rattle.std.specs.Prelude.{◌≡◌, not, ◌==◌, ◌≤◌, IfSome, map, slice_index, string_bytes, unwrap_or};
-ghost use Rattle.ge_model_top.specs.Words.{number_to, last_port, HasEvents, word_alone, word_at_port, word_with_number, port_served, port_in_words, word_with_jobs, word_of};
+ghost use Rattle.ge_model_program.specs.Words.{number_to, last_port, HasEvents, word_alone, word_at_port, word_with_number, port_served, port_in_words, word_with_jobs, word_of};
 
-use ge_model_top::Word;
+use ge_model_program::Word;
 use ge_pieces::{digits_worth, has_digits, is_word};
 
 // How many events a batch may have.

@@ -3,7 +3,7 @@
 use ge_jobs::find_running;
 use ge_rows::{Cluster, JobMark, Text};
 use ge_snapshot::put_cluster;
-use ge_trials_rows::checksum;
+use ge_trials_rows::{checksum, times_borne};
 use std::alloc::{AllocError, Global};
 
 // The two totals: live tasks, and bytes of scripts.
@@ -32,9 +32,10 @@ fn push_bearers(
     cluster: &Cluster,
     wanted: &JobMark,
 ) -> Result<(), AllocError> {
-    let tally = cluster.jobs.tally(alloc, wanted)?;
-    line.push_str(&format!(in alloc; "{tally}:")?)?;
-    for job in cluster.jobs.bearers(alloc, wanted)?.as_slice() {
+    let bearers = cluster.jobs.bearers(alloc, wanted)?;
+    let times = times_borne(alloc, &cluster.jobs, bearers.as_slice(), wanted)?;
+    line.push_str(&format!(in alloc; "{times}:")?)?;
+    for job in bearers.as_slice() {
         let number = *job;
         line.push_str(&format!(in alloc; " {number}")?)?;
     }

@@ -1,5 +1,5 @@
 //! A disk in memory.
-ghost use Rattle.ge_model_disk.specs.Disk.{IsWithin};
+ghost use Rattle.ge_model_journal.specs.Disk.{IsWithin};
 ghost use Rattle.ge_outside.specs.MemoryDisks.{disk_told};
 
 use ge_outside::{Disk, Failed, MemDisk};

@@ -8,12 +8,12 @@
 //!   is written to it. The call of this number fails.
 
 use crate::frames::{at_bar, failing, push_part};
-use ge_ask::{ask, port_of};
 use ge_master::Master;
 use ge_outside::{MemClock, MemDoor, MemLink, MemSink, MemSource};
 use ge_pieces::{before, behind, digits_worth, is_word, slices_at};
 use ge_serve::{LinkEnd, serve_link};
 use ge_trials_rows::{area, bytes, push_answer};
+use ge_wire::{ask, port_of};
 use std::alloc::{AllocError, Global};
 use std::io;
 use std::io::ErrorKind;

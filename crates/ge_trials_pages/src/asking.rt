@@ -1,6 +1,6 @@
 //! The client.
-use ge_ask::{ask, port_of};
 use ge_edge::{StdinSource, StdoutSink, TcpDialer, Waits};
+use ge_wire::{ask, port_of};
 use std::io;
 use std::time::Duration;
 

@@ -36,12 +36,10 @@ mod streaming;
 use crate::areas::Areas;
 use ge_edge::read_words;
 use ge_top::run;
+use ge_trials_rows::PAGE_END;
 use std::io;
 use std::io::{BufRead, BufReader, BufWriter, Eprint, Write};
 use std::process::ExitCode;
-
-/// What stands between two pages: a form feed.
-const PAGE_END: u8 = 0x0c;
 
 // Writes what is told of each page.
 fn tell_pages(rt: &HostRuntime) -> io::Result<()> {

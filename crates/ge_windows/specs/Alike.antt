@@ -1,6 +1,6 @@
 -- Tasks of a job that run alike one after the other.
 use Rattle.std.specs.Prelude.{◌≡◌, ◌-◌, ◌==◌, ◌&&◌, Bool, true, false, List, [], ◌∷◌, Some, length, slice_get}
-use Rattle.ge_model_bookings.specs.Bookings.{same_instance}
+use Rattle.ge_model_place.specs.Bookings.{same_instance}
 use Rattle.ge_model_rows.specs.ClusterRows.{Cluster}
 use Rattle.ge_model_rows.specs.HostRows.{Groups}
 use Rattle.ge_model_rows.specs.JobRows.{Job, Grant}

@@ -1,6 +1,6 @@
 -- The jobs of which a task runs, and what each books.
 use Rattle.std.specs.Prelude.{ℕ, List, [], Option, Some, None}
-use Rattle.ge_collections.specs.Asked.{bearers_of}
+use Rattle.ge_job_index.specs.Asked.{bearers_of}
 use Rattle.ge_collections.specs.Keyed.{at_number}
 use Rattle.ge_model_rows.specs.ClusterRows.{Cluster}
 use Rattle.ge_model_rows.specs.HostRows.{Groups}

@@ -16,8 +16,8 @@ use crate::standing::stand_in;
 use crate::windows::window_end_from;
 use ge_demands::demands;
 use ge_rows::{
-    Advance, Booking, Cluster, Demand, Grant, Groups, Job, JobMark, JobRow, List, MarkSort,
-    Running, Table, TaskId, job_at,
+    Advance, Booking, Cluster, Demand, Grant, Groups, Job, JobMark, JobTable, List, MarkSort,
+    Running, TaskId, job_at,
 };
 use std::alloc::{AllocError, Global};
 use std::collections::BTreeSet;
@@ -105,7 +105,7 @@ fn add_job(
 }
 
 // The numbers of the jobs of which a task runs, which the table keeps.
-fn running_jobs(alloc: Global, jobs: &Table<u32, JobRow>) -> Result<Vec<u32>, AllocError>
+fn running_jobs(alloc: Global, jobs: &JobTable) -> Result<Vec<u32>, AllocError>
     ensures { IfOk result (λ numbers. numbers.items ≡ running_in jobs.now) }
 {
     let runs = JobMark::new(alloc, MarkSort::Runs, b"", b"", 0)?;
@@ -180,7 +180,7 @@ fn note_job(numbers: &mut BTreeSet<u32>, key: u32, job: &Job) -> Result<(), Allo
 }
 
 // The numbers of the reservations in which a task runs, with 0 for the jobs that were sent into none.
-fn numbers_in_use(alloc: Global, jobs: &Table<u32, JobRow>) -> Result<BTreeSet<u32>, AllocError>
+fn numbers_in_use(alloc: Global, jobs: &JobTable) -> Result<BTreeSet<u32>, AllocError>
     ensures { IfOk result (λ numbers. AreInUse numbers jobs.now) }
 {
     let mut numbers = BTreeSet::new(alloc);

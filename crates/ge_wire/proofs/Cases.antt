@@ -4,7 +4,7 @@ use Rattle.std.specs.Int.{w32, w64, from_be_bytes}
 use Rattle.std.proofs.lemmas.List.{length-append, append-nil}
 use Rattle.std.proofs.Math.Seq.{take-length, take-append_seam, drop-append_seam}
 use Rattle.std.proofs.lemmas.Bool.Decides.{nat_tests}
-use Rattle.ge_model_script.specs.Sources.{Moved, IsReadToEnd}
+use Rattle.ge_model_grammar.specs.Sources.{Moved, IsReadToEnd}
 use Rattle.ge_model_wire.specs.Frames.{link_bytes, frame_size, is_no_frame, is_no_size, first_payload, behind_first, taken_of}
 use Rattle.ge_wire.specs.Answers.{Reads}
 use Rattle.ge_wire.specs.declared.faults.WireFault.{WireFault}

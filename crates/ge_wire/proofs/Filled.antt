@@ -3,7 +3,7 @@ use Rattle.std.proofs.Common.{◌≡◌, ℕ, ◌+◌, ◌≤◌, List, [], ◌�
 use Rattle.std.proofs.lemmas.List.{take-append-drop, take-append-le}
 use Rattle.std.proofs.Math.Seq.{take-append_seam, take-append-add}
 use Rattle.ge_outside.specs.Streams.{Takes}
-use Rattle.ge_model_script.specs.Sources.{Moved}
+use Rattle.ge_model_grammar.specs.Sources.{Moved}
 
 -- what was taken from the front of a source stands behind what was filled before
 pub moved-behind : (old new : Option (List ℕ)) (n : ℕ) (before after front : List ℕ) → Takes n old new before after → Moved old new front (front ++ take n after)

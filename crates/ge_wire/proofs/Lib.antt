@@ -3,3 +3,5 @@ pub mod Filled
 pub mod Cases
 pub mod ReplyCases
 pub mod Exactly
+pub mod Statuses
+pub mod Payloads

@@ -4,7 +4,7 @@ use Rattle.std.specs.Int.{w64, from_be_bytes}
 use Rattle.std.proofs.lemmas.List.{length-append, append-nil}
 use Rattle.std.proofs.Math.Seq.{take-append_seam, drop-append_seam}
 use Rattle.std.proofs.lemmas.Bool.Decides.{nat_tests}
-use Rattle.ge_model_script.specs.Sources.{Moved, IsReadToEnd}
+use Rattle.ge_model_grammar.specs.Sources.{Moved, IsReadToEnd}
 use Rattle.ge_model_wire.specs.Frames.{link_bytes, reply_size, is_no_reply, first_reply, taken_of_reply}
 use Rattle.ge_wire.specs.Answers.{ReadsReply}
 use Rattle.ge_wire.specs.declared.faults.WireFault.{WireFault}

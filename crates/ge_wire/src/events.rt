@@ -1,8 +1,8 @@
 // The event of a request's payload.
 ghost use Rattle.std.specs.Prelude.{◌≡◌, IfOk};
 ghost use Rattle.std.specs.List.{before_first, after_first};
-ghost use Rattle.ge_model_script.specs.Events.{unread};
-ghost use Rattle.ge_model_script.specs.Header.{header_field, after_field};
+ghost use Rattle.ge_model_grammar.specs.Events.{unread};
+ghost use Rattle.ge_model_grammar.specs.Header.{header_field, after_field};
 ghost use Rattle.ge_model_wire.specs.Payloads.{event_in_payload, event_within, with_first_line, with_names};
 
 use ge_pieces::{before, behind, behind_word, first_word, has, is_a_name, is_too_long_text};

@@ -1,6 +1,6 @@
 // As many bytes of a source as are wanted, or as many as there are.
 ghost use Rattle.std.specs.Prelude.{◌≡◌, ◌<◌, ◌≤◌, ◌+◌, [], length, take, vec_len, IfOk, OnOk};
-ghost use Rattle.ge_model_script.specs.Sources.{Moved, IsReadToEnd};
+ghost use Rattle.ge_model_grammar.specs.Sources.{Moved, IsReadToEnd};
 ghost use Rattle.ge_outside.specs.Faults.{Rose};
 ghost use Rattle.ge_wire.specs.Answers.{OnlyTakes};
 

@@ -3,10 +3,10 @@
 //! `gq PORT USER GROUP` sends the standard input as one request, and writes the reply.
 #![tactic(auto)]
 
-use ge_ask::{ask, port_of};
 use ge_edge::{
     About, StdinSource, StdoutSink, TcpDialer, Waits, hold_streams, is_said, read_words,
 };
+use ge_wire::{ask, port_of};
 use std::io;
 use std::io::ErrorKind;
 use std::process::ExitCode;

@@ -8,8 +8,8 @@ use crate::pairs::Fields;
 use crate::tables::take_table;
 use ge_model_codec::TakeFault;
 use ge_rows::{
-    Advance, Cluster, ComplexDef, HostRow, JobRow, Line, List, PeRow, ProjectRow, QueueRow,
-    QuotaRow, Sched, ShareNode, Table, Text, UserRow,
+    Advance, Cluster, ComplexDef, HostRow, JobRow, JobTable, Line, List, PeRow, ProjectRow,
+    QueueRow, QuotaRow, Sched, ShareNode, Table, Text, UserRow,
 };
 use std::alloc::{AllocError, Global};
 
@@ -33,11 +33,7 @@ type People = (
 
 type Usage = Table<(Text, Text, u64), u128>;
 
-type Work = (
-    (List<Text>, List<Text>),
-    Table<u32, JobRow>,
-    (Usage, List<Line>),
-);
+type Work = ((List<Text>, List<Text>), JobTable, (Usage, List<Line>));
 
 // The fields before `next_advance`.
 type ClusterFront = (Counters, Table<Text, ComplexDef>, Machines, People, Work);
@@ -56,7 +52,7 @@ fn take_work<J: Format<JobRow>>(
     ensures within { IfOk result (λ p. p.1 ≤ length bytes.now) }
 {
     let (lists, mid) = <(List<Text>, List<Text>)>::take(alloc, bytes, at)?;
-    let (jobs, mid) = take_table::<u32, JobRow, J>(alloc, bytes, mid)?;
+    let (jobs, mid) = take_table::<u32, JobRow, J, JobTable>(alloc, bytes, mid)?;
     let (accounts, past) = <(Usage, List<Line>)>::take(alloc, bytes, mid)?;
     Ok(((lists, jobs, accounts), past))
 }
@@ -73,7 +69,9 @@ fn take_front<C: Format<ComplexDef>, J: Format<JobRow>>(
     ensures within { IfOk result (λ p. p.1 ≤ length bytes.now) }
 {
     let (counters, mid) = Counters::take(alloc, bytes, at)?;
-    let (complexes, mid) = take_table::<Text, ComplexDef, C>(alloc, bytes, mid)?;
+    let (complexes, mid) = take_table::<Text, ComplexDef, C, Table<Text, ComplexDef>>(
+        alloc, bytes, mid,
+    )?;
     let (machines, mid) = Machines::take(alloc, bytes, mid)?;
     let (people, mid) = People::take(alloc, bytes, mid)?;
     let (work, past) = take_work::<J>(alloc, bytes, mid)?;

@@ -29,7 +29,9 @@ fn take_machine_item<C: Format<ComplexDef>>(
 {
     match tag {
         0 => {
-            let (value, end) = take_table::<Text, ComplexDef, C>(alloc, bytes, at)?;
+            let (value, end) = take_table::<Text, ComplexDef, C, Table<Text, ComplexDef>>(
+                alloc, bytes, at,
+            )?;
             Ok((Item::Complexes(value), end))
         }
         1 => {

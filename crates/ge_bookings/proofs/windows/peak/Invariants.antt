@@ -1,6 +1,6 @@
 use Rattle.std.proofs.Common.{◌≡◌, take}
 use Rattle.std.specs.Prelude.{fold}
-use Rattle.ge_model_bookings.specs.Bookings.{plain_sum, raised}
+use Rattle.ge_model_place.specs.Bookings.{plain_sum, raised}
 use Rattle.ge_bookings.proofs.windows.peak.Given as goal
 
 abbrev pub invariant-loop-booking : goal.invariant-loop-booking

@@ -1,6 +1,6 @@
 use Rattle.std.proofs.Common.{◌≡◌, drop}
 use Rattle.ge_model_grammar.specs.Lines.{read_after}
-use Rattle.ge_options.specs.Lent.{texts}
+use Rattle.ge_commands.specs.Lent.{texts}
 use Rattle.ge_commands.proofs.items.push_each.Given as goal
 
 abbrev pub invariant-loop-item : goal.invariant-loop-item

@@ -1,7 +1,7 @@
 use Rattle.std.proofs.Common.{◌≡◌, [], drop}
 use Rattle.ge_model_grammar.specs.Commands.{options_after}
-use Rattle.ge_options.specs.Lent.{texts}
-use Rattle.ge_options.specs.Shown.{all_shown}
+use Rattle.ge_commands.specs.Lent.{texts}
+use Rattle.ge_commands.specs.Shown.{all_shown}
 use Rattle.ge_commands.proofs.submitting.read_lines.Given as goal
 
 abbrev pub invariant-loop-line : goal.invariant-loop-line

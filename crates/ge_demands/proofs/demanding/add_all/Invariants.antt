@@ -1,7 +1,7 @@
 use Rattle.std.proofs.Common.{◌≡◌, fold}
 use Rattle.std.specs.Vec.Iter.{into_iter_items}
 use Rattle.ge_model_place.specs.Limits.{with_demand}
-use Rattle.ge_demands.specs.Counts.{all_counted}
+use Rattle.ge_capacities.specs.Counts.{all_counted}
 use Rattle.ge_demands.proofs.demanding.add_all.Given as goal
 
 abbrev pub invariant-loop-counted : goal.invariant-loop-counted

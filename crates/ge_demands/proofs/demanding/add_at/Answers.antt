@@ -1,6 +1,6 @@
 use Rattle.std.proofs.Common.{sym, ap, ◌∙◌, slice_set}
 use Rattle.ge_model_place.specs.Limits.{with_more}
-use Rattle.ge_demands.specs.Counts.{counted_as}
+use Rattle.ge_capacities.specs.Counts.{counted_as}
 use Rattle.ge_demands.proofs.Demanded.{found_there, pushed_there}
 use Rattle.ge_demands.proofs.demanding.add_at.Goals as goal
 

@@ -1,7 +1,7 @@
 use Rattle.std.proofs.Common.{◌≡◌, ◌++◌, map}
 use Rattle.std.specs.Vec.Iter.{into_iter_items}
 use Rattle.ge_model_place.specs.Limits.{demand_for}
-use Rattle.ge_demands.specs.Counts.{all_counted}
+use Rattle.ge_capacities.specs.Counts.{all_counted}
 use Rattle.ge_demands.proofs.demanding.demands_on_each.Given as goal
 
 abbrev pub invariant-loop-counted : goal.invariant-loop-counted

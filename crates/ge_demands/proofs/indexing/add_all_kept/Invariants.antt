@@ -1,8 +1,8 @@
 use Rattle.std.proofs.Common.{◌≡◌, fold}
 use Rattle.std.specs.Vec.Iter.{into_iter_items}
 use Rattle.ge_model_place.specs.Limits.{with_demand}
-use Rattle.ge_demands.specs.Counts.{all_counted}
-use Rattle.ge_demands.specs.Found.{AreKept}
+use Rattle.ge_capacities.specs.Counts.{all_counted}
+use Rattle.ge_capacities.specs.Found.{AreKept}
 use Rattle.ge_demands.proofs.indexing.add_all_kept.Given as goal
 
 abbrev pub invariant-loop-counted : goal.invariant-loop-counted

@@ -3,8 +3,8 @@ use Rattle.std.specs.BTreeMap.{insert_entry}
 use Rattle.ge_rows.specs.contracts.scheduling.LimitIdOrd.TheImpl.{cmp-value}
 use Rattle.ge_model_place.specs.Limits.{demand_for, with_demand}
 use Rattle.ge_timeline.proofs.Putting.{on_ok}
-use Rattle.ge_demands.specs.Counts.{counted_as}
-use Rattle.ge_demands.specs.Found.{AreKept}
+use Rattle.ge_capacities.specs.Counts.{counted_as}
+use Rattle.ge_capacities.specs.Found.{AreKept}
 use Rattle.ge_demands.proofs.Placed.{still_kept, kept_more}
 use Rattle.ge_demands.proofs.indexing.add_kept.Goals as goal
 

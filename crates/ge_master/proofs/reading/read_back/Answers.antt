@@ -1,6 +1,6 @@
 use Rattle.std.proofs.Common.{◌≡◌, ◌<◌, ◌+◌, refl, ◌∷◌, ◌∙◌, [], ℕ, List, drop, length, get_or, sym, subst, add-one, drop-cons}
 use Rattle.std.proofs.Math.ListN.{drop_of_length-le}
-use Rattle.ge_model_store.specs.StandsFor.{cluster_in_snapshot}
+use Rattle.ge_model_program.specs.StandsFor.{cluster_in_snapshot}
 use Rattle.ge_spool.specs.Opening.{raw_state}
 use Rattle.ge_master.proofs.ReadBack.{HasReadBack, HasReadBack-none, HasReadBack-more, HasReadBack-fault, HasReadBack-all, bad-snapshot, next-below, part-good, part-bad}
 use Rattle.ge_master.proofs.reading.read_back.Goals as goal

@@ -2,7 +2,7 @@ use Rattle.std.proofs.Common.{◌≡◌, inl, subst, Err}
 use Rattle.ge_model_journal.specs.Journal.{compacted, IsOneOf}
 use Rattle.ge_spool.specs.Settled.{IsSettled, is_dead}
 use Rattle.ge_spool.proofs.Settling.{still-moments}
-use Rattle.ge_model_store.specs.StandsFor.{cluster_bytes}
+use Rattle.ge_model_program.specs.StandsFor.{cluster_bytes}
 use Rattle.ge_spool.specs.Bytes.{snapshot_of}
 use Rattle.ge_master.proofs.Stops.{stores-snapshot, untouched-as, on-written}
 use Rattle.ge_master.proofs.storing.store_snapshot.Goals as goal

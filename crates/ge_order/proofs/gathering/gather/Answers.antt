@@ -1,6 +1,6 @@
 use Rattle.std.proofs.Common.{◌≡◌, ℕ, ◌++◌, [], ◌∙◌, sym, subst, ap, map, fold, max, List, None, unwrap_or}
-use Rattle.ge_beside.specs.Met.{AreFound}
-use Rattle.ge_beside.proofs.Walked.{all_found}
+use Rattle.ge_collections.specs.Met.{AreFound}
+use Rattle.ge_collections.proofs.Walked.{all_found}
 use Rattle.ge_model_order.specs.Amounts.{greatest}
 use Rattle.ge_tickets.specs.Own.{told_tickets}
 use Rattle.ge_order.specs.Alike.{gathered_in}

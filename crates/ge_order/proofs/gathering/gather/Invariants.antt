@@ -1,5 +1,5 @@
 use Rattle.std.proofs.Common.{◌≡◌, ◌++◌, map, fold, None}
-use Rattle.ge_beside.specs.Met.{AreFound}
+use Rattle.ge_collections.specs.Met.{AreFound}
 use Rattle.ge_model_order.specs.Amounts.{greatest}
 use Rattle.ge_tickets.specs.Own.{told_tickets}
 use Rattle.ge_order.specs.Alike.{gathered_in, urged_in}

@@ -1,5 +1,5 @@
 use Rattle.std.proofs.Common.{◌≡◌, flat_map, take}
-use Rattle.ge_beside.specs.Met.{AreFound}
+use Rattle.ge_collections.specs.Met.{AreFound}
 use Rattle.ge_order.specs.Ranked.{tasks_at_rank}
 use Rattle.ge_order.proofs.ordering.tasks_at.Given as goal
 

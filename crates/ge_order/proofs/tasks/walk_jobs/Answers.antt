@@ -1,4 +1,4 @@
-use Rattle.ge_beside.proofs.Walked.{rising_found}
+use Rattle.ge_collections.proofs.Walked.{rising_found}
 use Rattle.ge_order.proofs.tasks.walk_jobs.Goals as goal
 
 pub returns : goal.returns

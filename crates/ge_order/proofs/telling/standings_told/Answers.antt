@@ -1,6 +1,6 @@
 use Rattle.std.proofs.Common.{arith}
 use Rattle.ge_order.specs.Kinds.{told_standing}
-use Rattle.ge_beside.proofs.Turns.{listed_more}
+use Rattle.ge_collections.proofs.Turns.{listed_more}
 use Rattle.ge_order.proofs.telling.standings_told.Goals as goal
 
 pub loop-number-init : goal.loop-number-init

@@ -1,5 +1,5 @@
 use Rattle.std.proofs.Common.{◌≡◌, ◌≤◌, length, map, take}
-use Rattle.ge_beside.specs.Met.{AreFound}
+use Rattle.ge_collections.specs.Met.{AreFound}
 use Rattle.ge_order.specs.Kinds.{TellJobs, AreAsked, told_standing}
 use Rattle.ge_order.proofs.telling.standings_told.Given as goal
 

@@ -1,6 +1,6 @@
 use Rattle.std.proofs.Common.{◌≡◌, ◌++◌, ◌∷◌, [], ◌+◌, ◌-◌, ℕ, suc, List, arith, append_assoc, ◌∙◌}
 use Rattle.std.proofs.lemmas.Grind.{common_steps}
-use Rattle.ge_model_disk.specs.Disk.{Content}
+use Rattle.ge_model_journal.specs.Disk.{Content}
 use Rattle.ge_outside.specs.Draws.{drawn_byte, drawn_bytes}
 use Rattle.ge_outside.specs.Shown.{shown_content}
 use Rattle.ge_outside.proofs.draws.draw_image.Goals as goal

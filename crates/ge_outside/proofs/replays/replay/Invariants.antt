@@ -1,5 +1,5 @@
 use Rattle.std.proofs.Common.{◌≡◌, drop}
-use Rattle.ge_model_disk.specs.Disk.{settled_content}
+use Rattle.ge_model_journal.specs.Disk.{settled_content}
 use Rattle.ge_outside.specs.Steps.{after_steps}
 use Rattle.ge_outside.specs.Shown.{shown_content}
 use Rattle.ge_outside.proofs.replays.replay.Given as goal

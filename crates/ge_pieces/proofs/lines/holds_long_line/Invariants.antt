@@ -1,5 +1,5 @@
 use Rattle.std.proofs.Common.{◌≡◌, ◌-◌, ◌≤◌, drop, length}
-use Rattle.ge_model_script.specs.Lines.{lines_of, has_long_line}
+use Rattle.ge_model_grammar.specs.ScriptLines.{lines_of, has_long_line}
 use Rattle.ge_pieces.proofs.lines.holds_long_line.Given as goal
 
 -- no line so far was long

@@ -1,5 +1,5 @@
 use Rattle.std.proofs.Common.{ap, ◌∙◌, ◌+◌, ℕ, length, min}
-use Rattle.ge_model_script.proofs.FirstLine.{lines_of-first}
+use Rattle.ge_model_grammar.proofs.FirstLine.{lines_of-first}
 use Rattle.ge_pieces.proofs.lines.line_len.Goals as goal
 
 pub returns-clause-first : goal.returns-clause-first

@@ -2,8 +2,8 @@ use Rattle.std.proofs.Common.{◌≡◌, ◌<◌, List, map, sym, ap, ◌∙◌,
 use Rattle.std.specs.List.{list_all}
 use Rattle.std.proofs.lemmas.Bool.{cond-true, lt-ltb}
 use Rattle.std.proofs.lemmas.List.Folds.{list_all-map}
-use Rattle.ge_demands.specs.Counts.{counted_as}
-use Rattle.ge_demands.specs.declared.counting.Counted.{Counted}
+use Rattle.ge_capacities.specs.Counts.{counted_as}
+use Rattle.ge_capacities.specs.declared.counting.Counted.{Counted}
 use Rattle.ge_model_place.specs.Limits.{counted_at}
 use Rattle.ge_model_place.specs.Placement.{room_of, rooms_in}
 use Rattle.ge_place.specs.Singles.{has_room_alone}

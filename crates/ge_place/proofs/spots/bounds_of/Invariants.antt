@@ -1,7 +1,7 @@
 use Rattle.std.proofs.Common.{◌≡◌, ◌++◌, map}
 use Rattle.std.specs.Vec.Iter.{into_iter_items}
 use Rattle.ge_model_place.specs.Placement.{room_of}
-use Rattle.ge_demands.specs.Counts.{all_counted}
+use Rattle.ge_capacities.specs.Counts.{all_counted}
 use Rattle.ge_place.specs.Spots.{rooms_as}
 use Rattle.ge_place.proofs.spots.bounds_of.Given as goal
 

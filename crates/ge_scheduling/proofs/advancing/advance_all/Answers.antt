@@ -1,5 +1,5 @@
 use Rattle.ge_model_place.specs.Running.{decide}
-use Rattle.ge_beside.proofs.Turns.{folded_more}
+use Rattle.ge_collections.proofs.Turns.{folded_more}
 use Rattle.ge_scheduling.proofs.advancing.advance_all.Goals as goal
 
 pub loop-task-preserved : goal.loop-task-preserved

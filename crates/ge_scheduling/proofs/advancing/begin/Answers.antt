@@ -1,5 +1,5 @@
 use Rattle.std.proofs.Common.{sym, subst}
-use Rattle.ge_scheduling.specs.Counts.{IsTallied}
+use Rattle.ge_attempts.specs.Counts.{IsTallied}
 use Rattle.ge_scheduling.proofs.Shut.{none_shut}
 use Rattle.ge_scheduling.proofs.advancing.begin.Goals as goal
 

@@ -1,7 +1,7 @@
 use Rattle.std.proofs.Common.{sym, ◌∙◌}
 use Rattle.ge_scheduling.proofs.Kept.{each_waits, job_waits, none_may_start}
-use Rattle.ge_scheduling.proofs.LeftOut.{nothing_placed}
-use Rattle.ge_scheduling.proofs.Remaining.{none_open}
+use Rattle.ge_attempts.proofs.LeftOut.{nothing_placed}
+use Rattle.ge_attempts.proofs.Remaining.{none_open}
 use Rattle.ge_scheduling.proofs.advancing.is_shut.Goals as goal
 
 pub returns-then-no_slot_is_left : goal.returns-then-no_slot_is_left

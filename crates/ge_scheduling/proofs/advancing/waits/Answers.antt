@@ -1,8 +1,8 @@
 use Rattle.std.proofs.Common.{IfSome, subst}
 use Rattle.ge_scheduling.specs.Passing.{Waits}
 use Rattle.ge_scheduling.proofs.Kept.{all_must_wait}
-use Rattle.ge_scheduling.proofs.LeftOut.{nothing_placed}
-use Rattle.ge_scheduling.proofs.Remaining.{none_open}
+use Rattle.ge_attempts.proofs.LeftOut.{nothing_placed}
+use Rattle.ge_attempts.proofs.Remaining.{none_open}
 use Rattle.ge_scheduling.proofs.advancing.waits.Goals as goal
 
 pub returns-then-is_passed : goal.returns-then-is_passed

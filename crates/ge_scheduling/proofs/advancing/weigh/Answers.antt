@@ -1,9 +1,9 @@
 use Rattle.std.proofs.Common.{sym, subst, ◌∙◌}
 use Rattle.ge_model_place.specs.Running.{booked_by}
-use Rattle.ge_scheduling.specs.Rests.{AreLeft}
+use Rattle.ge_attempts.specs.Rests.{AreLeft}
 use Rattle.ge_scheduling.proofs.Bridged.{decision_tallied}
 use Rattle.ge_scheduling.proofs.Kept.{weighed_decides, weighed_follows}
-use Rattle.ge_scheduling.proofs.Remaining.{all_left_later}
+use Rattle.ge_attempts.proofs.Remaining.{all_left_later}
 use Rattle.ge_scheduling.proofs.advancing.weigh.Goals as goal
 
 pub returns-clause-decided : goal.returns-clause-decided

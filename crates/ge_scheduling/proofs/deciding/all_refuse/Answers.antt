@@ -1,7 +1,7 @@
 use Rattle.std.proofs.Common.{sym, ap, ◌∙◌}
 use Rattle.std.specs.List.{list_all}
-use Rattle.ge_scheduling.specs.Rests.{blocked_in}
-use Rattle.ge_scheduling.proofs.Remaining.{all_blocked_none}
+use Rattle.ge_attempts.specs.Rests.{blocked_in}
+use Rattle.ge_attempts.proofs.Remaining.{all_blocked_none}
 use Rattle.ge_scheduling.proofs.deciding.all_refuse.Goals as goal
 
 pub returns : goal.returns

@@ -1,5 +1,5 @@
 use Rattle.std.proofs.Common.{◌≡◌, IfOk, sym, ap, subst}
-use Rattle.ge_scheduling.specs.Verdicts.{decision_at}
+use Rattle.ge_attempts.specs.Verdicts.{decision_at}
 use Rattle.ge_scheduling.proofs.deciding.decision.Goals as goal
 
 pub decision_for-requires-clause-there : goal.decision_for-requires-clause-there

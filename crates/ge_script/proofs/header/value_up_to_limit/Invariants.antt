@@ -1,5 +1,5 @@
 use Rattle.std.proofs.Common.{◌≡◌, ◌^◌, min, take}
-use Rattle.ge_model_script.specs.Header.{decimal_value}
+use Rattle.ge_model_grammar.specs.Header.{decimal_value}
 use Rattle.ge_script.proofs.header.value_up_to_limit.Given as goal
 
 -- what the digits so far are worth, cut

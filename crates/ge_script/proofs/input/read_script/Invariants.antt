@@ -1,5 +1,5 @@
 use Rattle.std.proofs.Common.{[], ◌-◌, ◌^◌, ◌≤◌, ◌<◌, vec_len}
-use Rattle.ge_model_script.specs.Sources.{Moved}
+use Rattle.ge_model_grammar.specs.Sources.{Moved}
 use Rattle.ge_script.proofs.input.read_script.Given as goal
 
 -- what was read, and what is left, are the script

@@ -1,6 +1,6 @@
 use Rattle.std.proofs.Common.{length, drop, arith, ◌<◌, ◌≤◌, ◌≡◌, ◌∙◌, ap, sym, false}
 use Rattle.std.proofs.lemmas.List.{length-drop}
-use Rattle.ge_model_script.specs.Lines.{is_header}
+use Rattle.ge_model_grammar.specs.ScriptLines.{is_header}
 use Rattle.ge_script.proofs.FirstRequest.{next_text_line}
 use Rattle.ge_script.proofs.requests.request_len.Goals as goal
 

@@ -1,5 +1,5 @@
 use Rattle.std.proofs.Common.{◌≡◌, ◌-◌, ◌<◌, ◌≤◌, ◌++◌, ◌∷◌, take, drop, length}
-use Rattle.ge_model_script.specs.Lines.{lines_of, cut_requests, requests_of}
+use Rattle.ge_model_grammar.specs.ScriptLines.{lines_of, cut_requests, requests_of}
 use Rattle.ge_script.proofs.requests.request_len.Given as goal
 
 -- what was taken and the text before the next header are the first request

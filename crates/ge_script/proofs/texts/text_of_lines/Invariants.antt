@@ -1,6 +1,6 @@
 use Rattle.std.proofs.Common.{◌≡◌, ◌-◌, ◌≤◌, ◌++◌, drop, length}
 use Rattle.std.specs.Prelude.{flat_map}
-use Rattle.ge_model_script.specs.Lines.{lines_of, text_of, next_content}
+use Rattle.ge_model_grammar.specs.ScriptLines.{lines_of, text_of, next_content}
 use Rattle.ge_script.proofs.texts.text_of_lines.Given as goal
 
 -- the text so far, and the lines that are left, are the whole text

@@ -1,5 +1,5 @@
 use Rattle.std.proofs.Common.{[], ◌∷◌}
-use Rattle.ge_model_disk.specs.Disk.{overwritten}
+use Rattle.ge_model_journal.specs.Disk.{overwritten}
 use Rattle.ge_spool.specs.Moments.{Torn, since_both}
 use Rattle.ge_spool.specs.Steps.{IsBehindImage}
 use Rattle.ge_spool.proofs.laying.refill.Goals as goal

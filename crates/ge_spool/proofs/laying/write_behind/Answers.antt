@@ -1,5 +1,5 @@
 use Rattle.std.proofs.Common.{◌+◌, length}
-use Rattle.ge_model_disk.specs.Disk.{overwritten}
+use Rattle.ge_model_journal.specs.Disk.{overwritten}
 use Rattle.ge_spool.specs.Moments.{Torn, since_both}
 use Rattle.ge_spool.proofs.laying.write_behind.Goals as goal
 

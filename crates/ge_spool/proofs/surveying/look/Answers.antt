@@ -1,5 +1,5 @@
 use Rattle.std.proofs.Common.{sym, subst, refl, replicate}
-use Rattle.ge_model_disk.specs.Disk.{Reads}
+use Rattle.ge_model_journal.specs.Disk.{Reads}
 use Rattle.ge_spool.specs.Reads.{IsHeadOf}
 use Rattle.ge_spool.proofs.Looking.{look-closed, look-head}
 use Rattle.ge_spool.proofs.surveying.look.Goals as goal

@@ -1,6 +1,6 @@
 use Rattle.std.proofs.Common.{ap, ◌∙◌}
 use Rattle.ge_model_core.specs.JobOptions.{patch_of}
-use Rattle.ge_submitting.specs.Held.{holder_shown}
+use Rattle.ge_job_options.specs.Held.{holder_shown}
 use Rattle.ge_submitting.proofs.Altered.{patch_is}
 use Rattle.ge_submitting.proofs.altering.patch_of_job.Goals as goal
 

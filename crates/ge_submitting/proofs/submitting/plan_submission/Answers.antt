@@ -1,7 +1,7 @@
 use Rattle.std.proofs.Common.{◌≡◌, subst}
 use Rattle.std.specs.Prelude.{IfOk}
 use Rattle.ge_model_rows.specs.EventRows.{Planned}
-use Rattle.ge_submitting.proofs.Noted.{refused_plan, accepted_plan}
+use Rattle.ge_job_options.proofs.Noted.{refused_plan, accepted_plan}
 use Rattle.ge_submitting.proofs.submitting.plan_submission.Goals as goal
 
 pub returns-in-Some : goal.returns-in-Some

@@ -1,5 +1,5 @@
 use Rattle.ge_tickets.specs.Counted.{tickets_by_counts}
-use Rattle.ge_beside.proofs.Turns.{listed_more}
+use Rattle.ge_collections.proofs.Turns.{listed_more}
 use Rattle.ge_tickets.proofs.listing.list_tickets.Goals as goal
 
 pub loop-number-preserved : goal.loop-number-preserved

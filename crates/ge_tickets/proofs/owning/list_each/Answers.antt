@@ -1,5 +1,5 @@
 use Rattle.ge_tickets.specs.Own.{own_tickets}
-use Rattle.ge_beside.proofs.Turns.{listed_more}
+use Rattle.ge_collections.proofs.Turns.{listed_more}
 use Rattle.ge_tickets.proofs.owning.list_each.Goals as goal
 
 pub loop-number-preserved : goal.loop-number-preserved

@@ -1,5 +1,5 @@
 use Rattle.std.proofs.Common.{◌≡◌, take, map}
-use Rattle.ge_beside.specs.Met.{AreFound}
+use Rattle.ge_collections.specs.Met.{AreFound}
 use Rattle.ge_tickets.specs.Own.{told_tickets}
 use Rattle.ge_tickets.proofs.owning.list_told.Given as goal
 

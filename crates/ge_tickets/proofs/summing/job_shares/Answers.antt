@@ -1,5 +1,5 @@
 use Rattle.ge_tickets.specs.Counted.{with_job_share}
-use Rattle.ge_beside.proofs.Turns.{folded_more}
+use Rattle.ge_collections.proofs.Turns.{folded_more}
 use Rattle.ge_tickets.proofs.summing.job_shares.Goals as goal
 
 pub loop-number-preserved : goal.loop-number-preserved

@@ -1,7 +1,7 @@
 use Rattle.std.proofs.Common.{take, List}
 use Rattle.ge_model_rows.specs.ScheduleRows.{Booking}
-use Rattle.ge_model_bookings.specs.Bookings.{plain_sum}
-use Rattle.ge_points.specs.StepFunctions.{IsRising}
+use Rattle.ge_model_place.specs.Bookings.{plain_sum}
+use Rattle.ge_timeline.specs.StepFunctions.{IsRising}
 use Rattle.ge_timeline.specs.Looks.{changes}
 use Rattle.ge_timeline.specs.Shown.{Draws, sums_with, changes_with}
 use Rattle.ge_timeline.proofs.renewing.add_own.Given as goal

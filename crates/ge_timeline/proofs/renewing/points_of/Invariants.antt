@@ -1,5 +1,5 @@
 use Rattle.std.proofs.Common.{take}
-use Rattle.ge_model_bookings.specs.Bookings.{plain_sum}
+use Rattle.ge_model_place.specs.Bookings.{plain_sum}
 use Rattle.ge_timeline.specs.Looks.{changes}
 use Rattle.ge_timeline.specs.Shown.{Draws}
 use Rattle.ge_timeline.proofs.renewing.points_of.Given as goal

@@ -1,5 +1,5 @@
 use Rattle.std.proofs.Common.{sym, subst}
-use Rattle.ge_model_bookings.specs.Bookings.{plain_sum}
+use Rattle.ge_model_place.specs.Bookings.{plain_sum}
 use Rattle.ge_timeline.specs.Looks.{changes}
 use Rattle.ge_timeline.specs.Shown.{ShowsPoints}
 use Rattle.ge_timeline.proofs.Putting.{but_shows, whole_some}

@@ -1,4 +1,4 @@
-use Rattle.ge_model_bookings.specs.Bookings.{plain_sum}
+use Rattle.ge_model_place.specs.Bookings.{plain_sum}
 use Rattle.ge_timeline.specs.Looks.{changes}
 use Rattle.ge_timeline.proofs.Putting.{on_ok}
 use Rattle.ge_timeline.proofs.Renewed.{anew_shows, taken_out}

@@ -2,7 +2,7 @@ use Rattle.std.proofs.Common.{◌∙◌, ap, refl, arith}
 use Rattle.std.specs.Prelude.{option_map}
 use Rattle.ge_limits.specs.Limits as limit
 use Rattle.ge_model_rows.specs.ClusterRows.{opening_cluster}
-use Rattle.ge_model_script.specs.Events.{events_of}
+use Rattle.ge_model_grammar.specs.Events.{events_of}
 use Rattle.ge_script.specs.Pieces.{coming, read_count}
 use Rattle.ge_top.specs.Holding.{with_held}
 use Rattle.ge_top.proofs.Held.{nothing-held, gained-nothing, gained-more}

@@ -1,6 +1,6 @@
 -- What is written, and the requests that are left, are the whole script.
 use Rattle.std.proofs.Common.{◌≤◌, length}
-use Rattle.ge_generator.specs.Left.{left}
+use Rattle.ge_script.specs.Left.{left}
 use Rattle.ge_top.proofs.Written.{HasWritten}
 use Rattle.ge_top.proofs.generating.write_script.Given as goal
 

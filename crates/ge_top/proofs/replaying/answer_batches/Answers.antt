@@ -1,9 +1,9 @@
 use Rattle.std.proofs.Common.{◌≡◌, ◌+◌, ◌-◌, ◌∙◌, length, false, Err, ap, sym, refl, inl, inr, ⊎_elim, arith}
 use Rattle.std.specs.Prelude.{option_map}
 use Rattle.ge_limits.specs.Limits as limit
-use Rattle.ge_model_script.specs.Events.{events_of}
+use Rattle.ge_model_grammar.specs.Events.{events_of}
 use Rattle.ge_model_core.specs.Plan.{plan_of}
-use Rattle.ge_model_batch.specs.Traced.{traced}
+use Rattle.ge_model_program.specs.Traced.{traced}
 use Rattle.ge_script.specs.Pieces.{coming, given_count, read_count}
 use Rattle.ge_spool.specs.Settled.{generation_of}
 use Rattle.ge_top.specs.Ledgers.{ledger_of}

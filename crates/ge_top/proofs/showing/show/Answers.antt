@@ -1,5 +1,5 @@
 use Rattle.std.proofs.Common.{◌≡◌, length, refl, subst, ap, ◌∙◌, arith}
-use Rattle.ge_model_replay.specs.Showing.{status_line}
+use Rattle.ge_model_program.specs.Showing.{status_line}
 use Rattle.ge_outside.specs.Streams.{GainsPrefix}
 use Rattle.ge_top.specs.Shows.{Shows}
 use Rattle.ge_top.proofs.showing.show.Goals as goal

@@ -1,5 +1,5 @@
-use Rattle.ge_model_replay.proofs.Answered.{areas-answered}
-use Rattle.ge_model_top.proofs.Answered.{simulate-answered, writer-answered}
+use Rattle.ge_model_program.proofs.ReplayAnswered.{areas-answered}
+use Rattle.ge_model_program.proofs.Answered.{simulate-answered, writer-answered}
 use Rattle.ge_top.proofs.ServedAreas.{serve-answered}
 use Rattle.ge_top.proofs.top.gridmaster.Goals as goal
 

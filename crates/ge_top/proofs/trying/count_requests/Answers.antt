@@ -1,6 +1,6 @@
 use Rattle.std.proofs.Common.{ap}
 use Rattle.std.specs.Prelude.{map}
-use Rattle.ge_model_script.specs.Events.{event_of}
+use Rattle.ge_model_grammar.specs.Events.{event_of}
 use Rattle.ge_top.proofs.Tallied.{tallied-none, tallied-more, tallied-room, tallied-all, tallied-stopped, tallied-at, events-begin, events-few}
 use Rattle.ge_top.proofs.trying.count_requests.Goals as goal
 

@@ -2,9 +2,9 @@
 use Rattle.std.proofs.Common.{length}
 use Rattle.std.specs.Prelude.{map}
 use Rattle.ge_model_rows.specs.ClusterRows.{opening_cluster}
-use Rattle.ge_model_script.specs.Events.{event_of, events_of}
-use Rattle.ge_model_generator.specs.Generated.{generated_script}
-use Rattle.ge_generator.specs.Left.{left}
+use Rattle.ge_model_grammar.specs.Events.{event_of, events_of}
+use Rattle.ge_model_grammar.specs.Generated.{generated_script}
+use Rattle.ge_script.specs.Left.{left}
 use Rattle.ge_top.proofs.Tallied.{HasTallied}
 use Rattle.ge_top.proofs.trying.count_requests.Given as goal
 

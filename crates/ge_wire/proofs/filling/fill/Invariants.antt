@@ -1,6 +1,6 @@
 -- What was filled so far came from the front of the source.
 use Rattle.std.proofs.Common.{◌≡◌, ◌≤◌, ◌-◌, [], take, length}
-use Rattle.ge_model_script.specs.Sources.{Moved}
+use Rattle.ge_model_grammar.specs.Sources.{Moved}
 use Rattle.ge_wire.proofs.filling.fill.Given as goal
 
 abbrev pub invariant-filling : goal.invariant-filling

@@ -1,6 +1,6 @@
 -- What came so far stands behind what stood before.
 use Rattle.std.proofs.Common.{◌≡◌, ◌<◌, ◌≤◌, ◌-◌, take, vec_len}
-use Rattle.ge_model_script.specs.Sources.{Moved}
+use Rattle.ge_model_grammar.specs.Sources.{Moved}
 use Rattle.ge_wire.proofs.filling.read_up_to.Given as goal
 
 abbrev pub invariant-taking : goal.invariant-taking

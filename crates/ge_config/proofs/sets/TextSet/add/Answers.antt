@@ -1,6 +1,6 @@
 use Rattle.std.proofs.Common.{◌∙◌, ap, not}
 use Rattle.ge_model_rows.specs.Pieces.{is_one_of}
-use Rattle.ge_hosts.proofs.Kept.{among_lent, added_lent}
+use Rattle.ge_site.proofs.Kept.{among_lent, added_lent}
 use Rattle.ge_config.proofs.sets.TextSet.add.Goals as goal
 
 pub returns-clause-set : goal.returns-clause-set

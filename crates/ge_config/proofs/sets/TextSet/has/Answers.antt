@@ -1,6 +1,6 @@
 use Rattle.std.proofs.Common.{◌∙◌, ap}
 use Rattle.ge_model_rows.specs.Pieces.{is_one_of}
-use Rattle.ge_hosts.proofs.Kept.{among_lent}
+use Rattle.ge_site.proofs.Kept.{among_lent}
 use Rattle.ge_config.proofs.sets.TextSet.has.Goals as goal
 
 pub returns : goal.returns

@@ -1,4 +1,4 @@
-use Rattle.ge_model_disk.specs.Disk.{read_bytes}
+use Rattle.ge_model_journal.specs.Disk.{read_bytes}
 use Rattle.ge_spool.specs.Opening.{raw_state}
 use Rattle.ge_master.specs.Areas.{areas_of}
 use Rattle.ge_master.proofs.Standing.{stands-for}

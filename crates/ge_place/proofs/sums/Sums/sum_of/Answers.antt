@@ -1,7 +1,7 @@
 use Rattle.std.proofs.Common.{◌≡◌, Some, None, sym, ap, ◌∙◌}
 use Rattle.std.specs.Map.{lookup}
 use Rattle.std.specs.Prelude.{unwrap_or}
-use Rattle.ge_model_bookings.specs.Bookings.{same_limit}
+use Rattle.ge_model_place.specs.Bookings.{same_limit}
 use Rattle.ge_place.specs.Shared.{shown}
 use Rattle.ge_place.proofs.Summing.{shown_at}
 use Rattle.ge_place.proofs.sums.Sums.sum_of.Goals as goal

@@ -1,7 +1,7 @@
 -- The first request that is held is the next event.
 use Rattle.std.proofs.Common.{◌≡◌, ◌+◌, drop, ap, ◌∙◌, sym}
 use Rattle.std.proofs.lemmas.List.{drop-drop}
-use Rattle.ge_model_script.specs.Events.{event_of}
+use Rattle.ge_model_grammar.specs.Events.{event_of}
 use Rattle.ge_script.specs.Pieces.{coming_of}
 use Rattle.ge_script.proofs.PieceByPiece.{gives-next}
 use Rattle.ge_script.proofs.pieces.Script.next_held.Goals as goal

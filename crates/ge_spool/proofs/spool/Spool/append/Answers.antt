@@ -1,6 +1,6 @@
 use Rattle.std.proofs.Common.{◌≡◌, ◌+◌, ◌-◌, ◌∙◌, length, [], ◌∷◌, false, inl, subst, sym, ap, arith, length-append}
 use Rattle.std.specs.Result.{is_err}
-use Rattle.ge_model_disk.specs.Disk.{overwritten, read_bytes}
+use Rattle.ge_model_journal.specs.Disk.{overwritten, read_bytes}
 use Rattle.ge_model_journal.specs.Journal.{picked, with_record}
 use Rattle.ge_model_journal.specs.Writing.{bytes_of_record}
 use Rattle.ge_spool.specs.Bytes.{record_body}

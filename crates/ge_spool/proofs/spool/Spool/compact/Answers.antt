@@ -1,6 +1,6 @@
 use Rattle.std.proofs.Common.{◌≡◌, ◌+◌, ◌-◌, ◌∙◌, length, true, false, not, inl, subst, sym, ap, arith, refl}
 use Rattle.std.specs.Result.{is_err}
-use Rattle.ge_model_disk.specs.Disk.{overwritten, read_bytes}
+use Rattle.ge_model_journal.specs.Disk.{overwritten, read_bytes}
 use Rattle.ge_model_journal.specs.Area.{head}
 use Rattle.ge_model_journal.specs.Journal.{picked, compacted}
 use Rattle.ge_model_journal.specs.Writing.{bytes_of_area}

@@ -1,5 +1,5 @@
 use Rattle.std.proofs.Common.{◌≡◌, ◌∙◌, sym}
-use Rattle.ge_model_disk.specs.Disk.{read_bytes}
+use Rattle.ge_model_journal.specs.Disk.{read_bytes}
 use Rattle.ge_model_journal.specs.Area.{head}
 use Rattle.ge_model_journal.specs.declared.Head.TheVariants.{Closed}
 use Rattle.ge_spool.proofs.ShortAreas.{quiet-head}

@@ -1,7 +1,7 @@
 use Rattle.std.proofs.Common.{ap, sym, ◌∙◌, arith}
 use Rattle.std.specs.Prelude.{nat_lt}
 use Rattle.std.proofs.lemmas.Bool.{le-ltb}
-use Rattle.ge_points.specs.StepFunctions.{greatest}
+use Rattle.ge_timeline.specs.StepFunctions.{greatest}
 use Rattle.ge_timeline.specs.Looks.{window_peak}
 use Rattle.ge_timeline.proofs.Joined.{found_draws, drawn_peak, no_peak}
 use Rattle.ge_timeline.proofs.timeline.Timeline.exceeds.Goals as goal

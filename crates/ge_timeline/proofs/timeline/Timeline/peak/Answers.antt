@@ -1,5 +1,5 @@
 use Rattle.std.proofs.Common.{ap, sym, ◌∙◌}
-use Rattle.ge_points.specs.StepFunctions.{greatest}
+use Rattle.ge_timeline.specs.StepFunctions.{greatest}
 use Rattle.ge_timeline.specs.Looks.{changes, window_peak}
 use Rattle.ge_timeline.proofs.Joined.{found_draws, drawn_peak, no_peak, few_looks}
 use Rattle.ge_timeline.proofs.timeline.Timeline.peak.Goals as goal

@@ -1,6 +1,0 @@
-use Rattle.std.proofs.Common.{take}
-use Rattle.ge_accounting.specs.Sums.{AreSums}
-use Rattle.ge_accounting.proofs.summing.sums_of_all.Given as goal
-
-abbrev pub invariant-loop-line : goal.invariant-loop-line
-invariant-loop-line l = AreSums l.sums (take l.line-index l.lines)

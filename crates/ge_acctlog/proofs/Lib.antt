@@ -1,0 +1,9 @@
+pub mod Parts
+pub mod Finding
+pub mod Tearing
+pub mod Closing
+pub mod Items
+pub mod Lines
+pub mod Walking
+pub mod Reached
+pub mod Moments

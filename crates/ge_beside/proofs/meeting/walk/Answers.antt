@@ -1,5 +1,0 @@
-use Rattle.ge_beside.proofs.Walked.{all_found}
-use Rattle.ge_beside.proofs.meeting.walk.Goals as goal
-
-pub returns : goal.returns
-returns g c = all_found _ _ c.iter.ensures.rest c.iter.ensures.found

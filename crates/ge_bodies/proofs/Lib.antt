@@ -1,4 +1,0 @@
-pub mod FiveLines
-pub mod EightWords
-pub mod RuleLines
-pub mod RuleWords

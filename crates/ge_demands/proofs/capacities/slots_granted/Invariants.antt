@@ -1,8 +1,0 @@
-use Rattle.std.proofs.Common.{◌≡◌, ◌*◌, ◌≤◌, ◌^◌, take}
-use Rattle.std.specs.Prelude.{filter, sum_by}
-use Rattle.ge_model_bookings.specs.Bookings.{same_instance}
-use Rattle.ge_demands.proofs.capacities.slots_granted.Given as goal
-
-abbrev pub invariant-loop-grant : goal.invariant-loop-grant
-invariant-loop-grant l =
-    (l.slots ≡ sum_by (λ grant. grant.slots) (filter (λ grant. same_instance grant.at l.at) (take l.grant-index l.grants))) × (l.slots ≤ 2 ^ 32 * l.grant-index)

@@ -1,2 +1,0 @@
-pub mod GatheredOrders
-pub mod OnHost

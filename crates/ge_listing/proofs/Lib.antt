@@ -1,0 +1,3 @@
+pub mod GatheredOrders
+pub mod OnHost
+pub mod Lookups

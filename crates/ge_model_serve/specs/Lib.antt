@@ -1,5 +1,0 @@
-pub mod Moments
-pub mod Answered
-pub mod Links
-pub mod Served
-pub mod Doors

@@ -1,5 +1,0 @@
-pub mod Known
-pub mod Lacking
-pub mod OneText
-pub mod Passed
-pub mod Steps

@@ -1,6 +1,0 @@
-use Rattle.std.proofs.Common.{◌≡◌, ◌++◌, map, take, drop}
-use Rattle.ge_points.specs.StepFunctions.{raised}
-use Rattle.ge_points.proofs.adding.raise_all.Given as goal
-
-abbrev pub invariant-loop-point : goal.invariant-loop-point
-invariant-loop-point l = l.points ≡ map (raised l.amount) (take l.point-index l.fn.points) ++ drop l.point-index l.fn.points

@@ -1,6 +1,0 @@
-use Rattle.std.proofs.Common.{◌≡◌, map, take}
-use Rattle.ge_scheduling.specs.Rests.{left_first}
-use Rattle.ge_scheduling.proofs.rests.lefts_of_all.Given as goal
-
-abbrev pub invariant-loop-instance : goal.invariant-loop-instance
-invariant-loop-instance l = l.lefts ≡ map (left_first l.at.cluster.now l.at.groups.now l.at.moment l.booked l.amounts l.hosts l.names) (take l.instance-index l.at.order.now)

@@ -1,5 +1,0 @@
-pub mod Walked
-pub mod Linked
-pub mod Shared
-pub mod Treeless
-pub mod Summed

@@ -1,6 +1,0 @@
-use Rattle.std.proofs.Common.{◌≡◌, [], take, fold}
-use Rattle.ge_share.specs.Found.{with_child}
-use Rattle.ge_share.proofs.finding.count_children.Given as goal
-
-abbrev pub invariant-loop-node : goal.invariant-loop-node
-invariant-loop-node l = l.counts ≡ fold with_child [] (take l.node-index l.nodes)

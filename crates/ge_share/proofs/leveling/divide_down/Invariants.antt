@@ -1,6 +1,0 @@
-use Rattle.std.proofs.Common.{◌≡◌, take}
-use Rattle.ge_share.specs.Leveled.{tickets_down}
-use Rattle.ge_share.proofs.leveling.divide_down.Given as goal
-
-abbrev pub invariant-loop-node : goal.invariant-loop-node
-invariant-loop-node l = l.known ≡ tickets_down l.all l.weights l.sums (take l.node-index l.nodes)

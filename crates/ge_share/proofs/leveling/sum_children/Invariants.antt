@@ -1,6 +1,0 @@
-use Rattle.std.proofs.Common.{◌≡◌, take}
-use Rattle.ge_share.specs.Leveled.{sums_of}
-use Rattle.ge_share.proofs.leveling.sum_children.Given as goal
-
-abbrev pub invariant-loop-node : goal.invariant-loop-node
-invariant-loop-node l = l.sums ≡ sums_of l.parts (take l.node-index l.nodes)

@@ -1,6 +1,0 @@
-use Rattle.std.proofs.Common.{◌≡◌, take, map}
-use Rattle.ge_share.specs.Listed.{number_tickets}
-use Rattle.ge_share.proofs.listing.list_tickets.Given as goal
-
-abbrev pub invariant-loop-number : goal.invariant-loop-number
-invariant-loop-number l = l.list ≡ map (number_tickets l.c l.finder l.tickets l.jobs) (take l.number-index l.numbers)

@@ -1,4 +1,0 @@
-pub mod Nodes
-pub mod Found
-pub mod Leveled
-pub mod Listed

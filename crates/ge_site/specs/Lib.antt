@@ -1,0 +1,3 @@
+pub mod Walks
+pub mod Gathers
+pub mod Found

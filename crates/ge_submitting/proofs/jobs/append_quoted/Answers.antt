@@ -1,7 +1,0 @@
-use Rattle.ge_submitting.proofs.Quoted.{quoted_put}
-use Rattle.ge_submitting.proofs.jobs.append_quoted.Goals as goal
-
-pub returns : goal.returns
-returns c =
-    quoted_put c.args.line.now.items _ _ _ c.args.name.now c.in_ok-extend_from_slice.ensures.items c.in_ok-extend_from_slice-2.ensures.items
-    c.in_ok-extend_from_slice-3.ensures.items

@@ -1,7 +1,0 @@
-use Rattle.std.proofs.Common.{refl}
-use Rattle.ge_model_rows.specs.Complexes.{opening_complexes}
-use Rattle.ge_used.proofs.opening.names.Goals as goal
-
-pub returns : goal.returns
-unfolding opening_complexes
-returns c = refl

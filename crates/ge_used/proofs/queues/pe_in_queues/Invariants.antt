@@ -1,7 +1,0 @@
-use Rattle.std.proofs.Common.{◌≡◌}
-use Rattle.std.specs.List.{list_any}
-use Rattle.ge_model_config.specs.Used as used
-use Rattle.ge_used.proofs.queues.pe_in_queues.Given as goal
-
-abbrev pub invariant-loop-queue : goal.invariant-loop-queue
-invariant-loop-queue l = list_any (λ queue. used.lists_name l.name queue.1.pes) l.queue-iterator ≡ list_any (λ queue. used.lists_name l.name queue.1.pes) l.c.queues

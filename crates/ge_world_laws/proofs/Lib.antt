@@ -1,0 +1,13 @@
+mod PlainWords
+mod Texts
+mod Elements
+mod Stays
+mod Entries
+mod Lines
+mod OrderLines
+mod OrderRows
+mod Ended
+mod Reports
+mod Others
+mod ProductLaws
+mod WorkedWorlds
