@@ -13,13 +13,13 @@ use crate::pieces::piece_of;
 use crate::{Log, LogStop};
 use ge_limits::AREA_BYTES;
 use ge_outside::Disk;
-use ge_rows::{Line, List};
+use ge_rows::Line;
 use ge_spool::write_behind;
 
 impl Log {
     /// Writes lines behind the others, as one record. At `Ok` they are there for good. At each moment before, a stop leaves the
     /// lines that stood before, or those with the new ones.
-    pub fn append<D: Disk>(&mut self, log: &mut D, lines: &List<Line>) -> Result<(), LogStop>
+    pub fn append<D: Disk>(&mut self, log: &mut D, lines: &[Line]) -> Result<(), LogStop>
         requires some { 0 < length lines.now }
         requires room { HasRoom self.old (D.told log.old) }
 
@@ -32,6 +32,7 @@ impl Log {
 
         ensures answer { Answers result (is_dead self.old) (end_of self.old + 6 + length (bytes_of_lines lines.now))
             (Rose (D.disk_faults log.old) (D.disk_faults log.new)) }
+        ensures ends { OnOk result (end_of self.new ≡ end_of self.old + 5 + length (bytes_of_lines lines.now)) }
         ensures dead { is_dead self.new ≡ is_dead_after result (is_dead self.old) }
         ensures untouched { OnUnwritten result ((self.new ≡ self.old) × (log.new ≡ log.old)) }
         ensures room { HasRoom self.new (D.told log.new) }
@@ -43,7 +44,7 @@ impl Log {
         if self.dead {
             return Err(LogStop::Dead);
         }
-        let body = bytes_of(self.alloc, lines.items())?;
+        let body = bytes_of(self.alloc, lines)?;
         let end = self.end + 6 + body.len() as u64;
         if end > AREA_BYTES {
             return Err(LogStop::Full(end));

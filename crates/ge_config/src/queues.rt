@@ -265,7 +265,7 @@ fn read_last(
     Ok((amounts, slots, limits))
 }
 
-#[tactic(auto, unfolding(ge_model_config::specs::Queues::queue_read, ge_rows::specs::Opening::default_queue))]
+#[tactic(auto, unfolding(ge_model_config::specs::Queues::queue_read, ge_model_rows::specs::Opening::default_queue))]
 fn read_row(
     alloc: Global,
     c: &Cluster,

@@ -388,7 +388,7 @@ fn read_last(
 }
 
 /// The scheduler's settings.
-#[tactic(auto, unfolding(ge_model_config::specs::Settings::sched_item, ge_rows::specs::Opening::default_sched))]
+#[tactic(auto, unfolding(ge_model_config::specs::Settings::sched_item, ge_model_rows::specs::Opening::default_sched))]
 pub fn read_sched(
     alloc: Global,
     c: &Cluster,

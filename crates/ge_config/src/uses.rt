@@ -19,10 +19,11 @@ use crate::columns::are_same_kind;
 use crate::sets::TextSet;
 use ge_base::Refusal;
 use ge_complex::is_consumed;
+use ge_opening_cluster::opening;
 use ge_pieces::note;
 use ge_rows::{
     Advance, Attr, Cluster, ComplexDef, HostRow, JobTable, List, QueueRow, QuotaRow, Rule, Table,
-    Text, Value, opening,
+    Text, Value,
 };
 use std::alloc::{AllocError, Global};
 
@@ -113,7 +114,7 @@ fn names_some<V>(names: &TextSet<'_>, table: &Table<Text, V>) -> bool
 }
 
 // Each complex of the opening table is used.
-#[tactic(auto, unfolding(ge_rows::specs::Opening::opening_cluster))]
+#[tactic(auto, unfolding(ge_model_rows::specs::Opening::opening_cluster))]
 fn opening_names_some(alloc: Global, names: &TextSet<'_>) -> Result<bool, AllocError>
     ensures { IfOk result (λ named. named ≡ has_some names.now opening_complexes) }
 {

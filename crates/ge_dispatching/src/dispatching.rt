@@ -2,6 +2,7 @@
 ghost use Rattle.std.specs.Prelude.{◌≡◌, [], ◌∷◌, ◌++◌, IfOk, OnOk, codes, decimal, filter_map, flat_map};
 ghost use Rattle.ge_rows.specs.Parts.{start_of};
 ghost use Rattle.ge_model_core.specs.Scheduling as scheduling;
+ghost use Rattle.ge_dispatching.specs.Dispatching.{Dispatches};
 
 use crate::deciding::decisions_told;
 use ge_answers::refuse;
@@ -110,11 +111,9 @@ fn decided(alloc: Global, e: &Event, decisions: &[Decision]) -> Result<Planned, 
     })
 }
 
-/// The plan of a scheduling run at the event's moment: NotPermitted for whoever is no manager, else a line for each start and each
-/// reservation, and an entry with the starts, also where there is none. Priorities are made only where a task may start or have
-/// slots kept, and the order only as far as one may.
+// The plan, in the words of the model.
 #[tactic(auto, unfolding(ge_model_core::specs::Scheduling::sched_plan))]
-pub fn plan_run(alloc: Global, c: &Cluster, e: &Event) -> Result<Planned, AllocError>
+fn planned_run(alloc: Global, c: &Cluster, e: &Event) -> Result<Planned, AllocError>
     ensures { IfOk result (λ planned. planned ≡ scheduling.sched_plan c.now e.now) }
 {
     if !is_manager(c, &e.user) {
@@ -122,4 +121,19 @@ pub fn plan_run(alloc: Global, c: &Cluster, e: &Event) -> Result<Planned, AllocE
     }
     let decisions = decisions_told(alloc, c, e)?;
     decided(alloc, e, decisions.items())
+}
+
+/// The plan of a scheduling run at the event's moment: NotPermitted for whoever is no manager, else a line for each start and each
+/// reservation, and an entry with the starts, also where there is none. Priorities are made only where a task may start or have
+/// slots kept, and the order only as far as one may.
+///
+/// - `planned`: it is the model's plan.
+/// - `dispatches`: the decisions that it tells, one for each eligible task, go by falling priority (sge_priority); each task starts
+///   where it fits beside all that is decided before it, or is reserved, or waits; no limit is taken over its capacity at any
+///   moment; and a task without a parallel environment is reserved no later than it could start (sched_conf).
+pub fn plan_run(alloc: Global, c: &Cluster, e: &Event) -> Result<Planned, AllocError>
+    ensures planned { IfOk result (λ planned. planned ≡ scheduling.sched_plan c.now e.now) }
+    ensures dispatches { IfOk result (λ planned. Dispatches c.now e.now planned) }
+{
+    planned_run(alloc, c, e)
 }

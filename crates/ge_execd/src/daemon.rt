@@ -12,7 +12,7 @@ use crate::rows::{Stage, Work, WorkFault};
 use ge_collections::Edit;
 use ge_limits::AMOUNTS;
 use ge_printing::{Column, join_columns};
-use ge_rows::{Reply, Table, Text};
+use ge_rows::{Reply, Table, Text, Twin, twins2};
 use std::alloc::{AllocError, Global};
 
 /// An execution daemon.
@@ -24,6 +24,17 @@ pub struct Daemon {
     pub seen: u64,
     /// What it keeps of serials.
     pub tasks: Table<u64, Stage>,
+}
+
+impl Twin for Daemon {
+    fn twin(&self, alloc: Global) -> Result<Daemon, AllocError> {
+        let (host, tasks) = twins2(alloc, &self.host, &self.tasks)?;
+        Ok(Daemon {
+            host,
+            seen: self.seen,
+            tasks,
+        })
+    }
 }
 
 // A claimed task ends; one that ended stays so.
@@ -65,8 +76,8 @@ fn is_ended(stage: Option<&Stage>) -> bool
     }
 }
 
-// `end SERIAL EXIT CPU MEM IO`.
-fn end_line(
+/// The request `end SERIAL EXIT CPU MEM IO`, by which an end is reported.
+pub fn end_line(
     alloc: Global,
     serial: u64,
     exit: u32,

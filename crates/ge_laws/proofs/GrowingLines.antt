@@ -1,6 +1,6 @@
 -- Accounting lines only grow.
-use Rattle.std.proofs.Common.{ℕ, Bool, true, false, List, [], ◌∷◌, ◌++◌, fold, Option, Some, None, refl, sym, ap, ◌∙◌, append-nil}
-use Rattle.std.proofs.lemmas.List.{append_assoc}
+use Rattle.std.proofs.Common.{◌≡◌, ◌≤◌, ℕ, length, take, Bool, true, false, List, [], ◌∷◌, ◌++◌, fold, Option, Some, None, refl, sym, ap, ◌∙◌, append-nil}
+use Rattle.std.proofs.lemmas.List.{append_assoc, take-append-le}
 use Rattle.ge_collections.specs.Keyed.{at_number}
 use Rattle.ge_model_rows.specs.AccountRows.{Line}
 use Rattle.ge_model_rows.specs.ClusterRows.{Cluster}
@@ -100,3 +100,7 @@ trace_grows plan (mark ∷ marks) c (e ∷ events) = by (answer_of plan c e mark
         → IsFrontOf c.lines (elim stop as (λ x. Cluster) [ true ↦ after | false ↦ cluster_after plan after events marks ]).lines
     by true more = one
     by false more = further c.lines after.lines (cluster_after plan after events marks).lines one more
+
+-- the first of the lines stay the first
+pub first_stay : (n : ℕ) (lines more : List Line) → n ≤ length lines → IsFrontOf lines more → take n more ≡ take n lines
+first_stay n lines more within front = ap (take n) front.1 ∙ take-append-le n lines front.0 within

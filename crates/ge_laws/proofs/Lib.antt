@@ -15,12 +15,9 @@ mod WideNumbers
 mod PerJob
 mod AdvanceReservations
 mod Refusals
-mod EligibleTasks
-mod OrderOnce
-mod OrderSorted
 mod ReadAgain
-mod PlannedEntries
-mod GrowingLines
+pub mod PlannedEntries
+pub mod GrowingLines
 mod ToldFaults
 mod ToldCommands
 mod ToldPlans

@@ -48,7 +48,8 @@ pub record Keeps (moment : ℕ) (changes stops : Bool) (p : Planned) : Type 0 wh
   pub at : IfSome p.entry (λ entry. entry.moment ≡ moment)
   pub stop : p.stop ≡ (is_accepted p && stops)
 
-code_is : (r : Refusal) → (reply_code r == 0) ≡ false
+-- no refusal is answered 0
+pub code_is : (r : Refusal) → (reply_code r == 0) ≡ false
 code_is refusal.Syntax = refl
 code_is refusal.TooLong = refl
 code_is refusal.TimeBack = refl

@@ -1,11 +1,13 @@
 -- Printed objects are read again, and shown objects are taken again: from the laws of bodies.
-use Rattle.std.proofs.Common.{◌≡◌, ℕ, Bool, true, false, List, refl, sym, ap, subst, ◌∙◌, true≢false}
+use Rattle.std.proofs.Common.{◌≡◌, ℕ, Bool, true, false, List, Ok, refl, sym, ap, subst, ◌∙◌, true≢false}
 use Rattle.ge_model_rows.specs.ClusterRows.{Cluster}
 use Rattle.ge_model_rows.specs.EntryRows.{Item, ObjectKind}
 use Rattle.ge_model_rows.specs.EventRows.{Event}
 use Rattle.ge_model_rows.specs.SettingRows.{Sched}
 use Rattle.ge_model_rows.specs.ValueRows.{Value, ComplexDef}
 use Rattle.ge_model_config.specs.Printing.{printed as printed_lines}
+use Rattle.ge_model_config.specs.Reading.{body_read}
+use Rattle.ge_model_config.proofs.Answered.{printed_answered}
 use Rattle.ge_model_config.proofs.ReadBackBodies.{text_of_lines}
 use Rattle.ge_model_config.proofs.ReadBackComplexes.{complexes_read_back}
 use Rattle.ge_model_config.proofs.ReadBackHosts.{hosts_read, hosts_read_back}
@@ -41,6 +43,11 @@ pub listed_again : (c : Cluster) (kind : ObjectKind) → IsListed kind → IsNam
 listed_again c kind of named adding text thing read ended =
     let again = printed_reads_back c kind adding text read.0 thing (printed_kind kind of) (names_of c named) read.1 read.2 ended in
     subst (λ t. IsReadAs c kind adding t thing) (same_text ended c thing) (again.0, again.1, again.2)
+
+pub answered_again : (c : Cluster) (kind : ObjectKind) → IsListed kind → IsNamed c → (adding : Bool) (text : List ℕ) (thing : Item) → body_read c kind adding text ≡ Ok thing
+    → (ended : Bool) → body_read c kind adding (printed_text ended c thing) ≡ Ok thing
+answered_again c kind of named adding text thing read ended =
+    subst (λ t. body_read c kind adding t ≡ Ok thing) (same_text ended c thing) (printed_answered c kind adding text thing (printed_kind kind of) (names_of c named) read ended)
 
 pub settings_again : (c : Cluster) (adding : Bool) (text : List ℕ) (sched : Sched) → IsNamed c → IsReadAs c ObjectKind.Sched adding text (Item.Sched sched)
     → (ended : Bool) → IsReadAs c ObjectKind.Sched adding (printed_text ended c (Item.Sched sched)) (Item.Sched sched)

@@ -1,4 +1,3 @@
-pub mod Orders
 pub mod TaskSets
 pub mod PrintedObjects
 pub mod PlannedEvents

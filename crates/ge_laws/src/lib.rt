@@ -1,5 +1,5 @@
 //! Laws of the cluster by the definitions, one for each subject that a user of a batch system asks about, and worked examples: scripts with what is
-//! written for them, as theorems that hold by computation. Nothing stands on this crate.
+//! written for them, as theorems that hold by computation. No program stands on this crate.
 //!
 //! - `runs`: what a scheduling run decides, what it books, and where it places a task.
 //! - `order`: which tasks a run decides, and in which order.
@@ -29,10 +29,10 @@ pub use plans::{
 };
 pub use printed::{printed_objects_read_back, shown_objects_are_taken_again, tables_have_names};
 pub use rules::{
-    cycles_are_found_by_enough_steps, demands_are_those_of_the_rule,
-    held_tasks_are_held_one_by_one, joined_picks_are_those_written, orders_are_gathered_by_serial,
-    overrides_are_looked_up, refusals_of_parts_answer_together, serials_are_the_first_met,
-    share_tickets_are_those_of_the_rule, texts_are_commands_or_refused,
+    amounts_are_those_of_their_grammar, cycles_are_found_by_enough_steps,
+    demands_are_those_of_the_rule, held_tasks_are_held_one_by_one, joined_picks_are_those_written,
+    orders_are_gathered_by_serial, overrides_are_looked_up, refusals_of_parts_answer_together,
+    serials_are_the_first_met, share_tickets_are_those_of_the_rule, texts_are_commands_or_refused,
 };
 pub use runs::{
     advances_keep_limits, placements_follow_their_rule, reservations_are_at_the_first_moment,

@@ -7,8 +7,8 @@ ghost use Rattle.ge_model_jobs.specs.Holds.{eligible_tasks};
 ghost use Rattle.ge_model_jobs.specs.Orderly.{IsOrdered};
 ghost use Rattle.ge_model_order.specs.Candidates.{candidates};
 ghost use Rattle.ge_model_order.specs.Priority.{prios_at};
-ghost use Rattle.ge_laws.specs.Orders.{first_of, once_if_eligible, order_at, times_in};
-ghost use Rattle.ge_laws.specs.Orders.{turn_cmp, unheld_at};
+ghost use Rattle.ge_model_order.specs.Orders.{first_of, once_if_eligible, order_at, times_in};
+ghost use Rattle.ge_model_order.specs.Orders.{turn_cmp, unheld_at};
 
 /// The eligible tasks of a job are the first of its waiting tasks that no hold keeps, as many as a run considers
 /// (`sched_conf`, max_pending_tasks_per_job, 0 being no bound).

@@ -1,5 +1,5 @@
 //! Plans: what an event is answered with, and what it changes.
-ghost use Rattle.std.specs.Prelude.{◌≡◌, ◌≢◌, ℕ, ◌&&◌, Bool, true, IfSome, List, is_some, flat_map};
+ghost use Rattle.std.specs.Prelude.{◌≡◌, ◌≢◌, ℕ, ◌≤◌, ◌&&◌, Bool, true, IfSome, List, is_some, flat_map, length, take};
 ghost use Rattle.std.specs.List.{list_all};
 ghost use Rattle.ge_rows.specs.declared.cluster.Cluster.{Cluster};
 ghost use Rattle.ge_rows.specs.declared.entries.Entry.{Entry};
@@ -27,11 +27,14 @@ pub fn only_an_accepted_stop_stops()
 {}
 
 /// Accounting lines are never changed or taken away: after any entry, and after any events, the lines that there were
-/// are the first of those that there are (`accounting`).
+/// are the first of those that there are (`accounting`). So a log that holds the first of a cluster's lines holds the first
+/// of every later one's.
 pub fn accounting_lines_only_grow()
     ensures entry { (c : Cluster) (entry : Entry) → IsFrontOf c.lines (after_entry c entry).lines }
     ensures traces { (c : Cluster) (events : List Event) (marks : List Bool)
         → IsFrontOf c.lines (cluster_after plan_of c events marks).lines }
+    ensures fronts { (c : Cluster) (events : List Event) (marks : List Bool) (n : ℕ) → n ≤ length c.lines
+        → take n (cluster_after plan_of c events marks).lines ≡ take n c.lines }
 {}
 
 /// No plan answers an event with 99, the code that tells of want of memory: so a reply with it tells that its event

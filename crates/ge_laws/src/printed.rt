@@ -1,5 +1,5 @@
 //! Configured objects: what `qconf -s` prints is read again by `qconf -A` and `-M`.
-ghost use Rattle.std.specs.Prelude.{◌≡◌, ℕ, Bool, false, List};
+ghost use Rattle.std.specs.Prelude.{◌≡◌, ℕ, Bool, false, List, Ok};
 ghost use Rattle.ge_rows.specs.declared.cluster.Cluster.{Cluster};
 ghost use Rattle.ge_rows.specs.declared.entries.Item.{Item};
 ghost use Rattle.ge_rows.specs.declared.entries.Item.TheVariants as item;
@@ -9,6 +9,7 @@ ghost use Rattle.ge_rows.specs.declared.events.Event.{Event};
 ghost use Rattle.ge_rows.specs.declared.settings.Sched.{Sched};
 ghost use Rattle.ge_rows.specs.declared.values.ComplexDef.{ComplexDef};
 ghost use Rattle.ge_rows.specs.declared.values.Value.{Value};
+ghost use Rattle.ge_model_config.specs.Reading.{body_read};
 ghost use Rattle.ge_laws.specs.PrintedObjects.{EndsPlainly, IsListed, IsNamed, IsReadAs, IsShownAgain, printed_text, reached};
 
 /// Wherever events lead from the opening cluster, tables have names alone, and the default load formula is one.
@@ -19,8 +20,13 @@ pub fn tables_have_names()
 /// A group, user set, user, project or parallel environment that was read without a refusal is read again from its
 /// printed lines, with or without a line feed behind the last, and without a refusal. So are the settings of the
 /// scheduler, the table of complexes, which is given as a whole, and a host, but where a line feed follows a last value
-/// that ends with a backslash. The cluster's tables have names alone.
+/// that ends with a backslash. The cluster's tables have names alone. What the lines of a body are answered with, an object, is answered to its
+/// printed lines too.
 pub fn printed_objects_read_back()
+    ensures answered { (c : Cluster) (kind : ObjectKind) → IsListed kind → IsNamed c
+        → (adding : Bool) (text : List ℕ) (thing : Item)
+        → body_read c kind adding text ≡ Ok thing → (ended : Bool)
+        → body_read c kind adding (printed_text ended c thing) ≡ Ok thing }
     ensures listed { (c : Cluster) (kind : ObjectKind) → IsListed kind → IsNamed c
         → (adding : Bool) (text : List ℕ) (thing : Item) → IsReadAs c kind adding text thing
         → (ended : Bool) → IsReadAs c kind adding (printed_text ended c thing) thing }

@@ -33,6 +33,9 @@ ghost use Rattle.ge_model_order.specs.ShareRule.{share_tickets_by_rule};
 ghost use Rattle.ge_model_place.specs.Demands.{DemandsEach};
 ghost use Rattle.ge_model_grammar.specs.ScriptLines.{has_long_line, lines_of};
 ghost use Rattle.ge_model_rows.specs.Sets.{has_number};
+ghost use Rattle.ge_model_text.specs.declared.Form.{Form};
+ghost use Rattle.ge_model_text.specs.Reading.{Answers, bounded, reading};
+ghost use Rattle.ge_model_text.specs.Value.{IsWorth};
 
 /// Share tickets that are worked out by tables of the tree's nodes are those of the rule, in which each node asks the whole
 /// tree for its children, its leaves and its usage (`share_tree`). The jobs are as many as can be counted.
@@ -116,4 +119,12 @@ pub fn overrides_are_looked_up<T>()
         ≡ unwrap_or (option_or (lookup (text_eq host) attr.overrides)
         (lookup (λ name. is_group name && group_has groups name host) attr.overrides))
         attr.plain }
+{}
+
+/// Amounts are those of their grammar: what a text is read as is what the grammar says that it is worth, it is refused exactly where it has
+/// no such form or is worth too much, and each text that is worth an amount is read as that or as too large (`complex`, `sge_types`).
+pub fn amounts_are_those_of_their_grammar()
+    ensures answers { (form : Form) (text : List ℕ) → Answers form text (reading form text) }
+    ensures worth { (form : Form) (text : List ℕ) (amount : ℕ)
+        → IsWorth form text amount → reading form text ≡ bounded amount }
 {}

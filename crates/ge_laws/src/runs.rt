@@ -1,9 +1,11 @@
 //! Scheduling runs: a run decides each waiting task, in an order that is given, and books what it starts and reserves.
-ghost use Rattle.std.specs.Prelude.{◌≡◌, ◌≤◌, ◌++◌, ℕ, List, flat_map, max};
+ghost use Rattle.std.specs.Prelude.{◌≡◌, ◌↔◌, ◌≤◌, ◌++◌, ℕ, List, flat_map, max, true};
 ghost use Rattle.ge_rows.specs.declared.cluster.Cluster.{Cluster};
 ghost use Rattle.ge_rows.specs.declared.hosts.Groups.{Groups};
 ghost use Rattle.ge_rows.specs.declared.hosts.InstanceId.{InstanceId};
 ghost use Rattle.ge_rows.specs.declared.jobs.Advance.{Advance};
+ghost use Rattle.ge_rows.specs.declared.jobs.Grant.{Grant};
+ghost use Rattle.ge_rows.specs.declared.jobs.Job.{Job};
 ghost use Rattle.ge_rows.specs.declared.scheduling.Booking.{Booking};
 ghost use Rattle.ge_rows.specs.declared.scheduling.Decision.{Decision};
 ghost use Rattle.ge_rows.specs.declared.scheduling.LimitId.{LimitId};
@@ -11,8 +13,9 @@ ghost use Rattle.ge_rows.specs.declared.tasks.TaskId.{TaskId};
 ghost use Rattle.ge_model_place.specs.Bookings.{plain_sum};
 ghost use Rattle.ge_model_rows.specs.Groups.{expanded};
 ghost use Rattle.ge_model_place.specs.Advances.{KeepsWhatIsBooked};
-ghost use Rattle.ge_model_place.specs.Choosing.{PlacesTask};
+ghost use Rattle.ge_model_place.specs.Choosing.{AreAdmissible, PlacesTask};
 ghost use Rattle.ge_model_place.specs.Limits.{capacity_of};
+ghost use Rattle.ge_model_place.specs.Placement.{are_admissible};
 ghost use Rattle.ge_model_place.specs.Running.{booked_by, run_of};
 ghost use Rattle.ge_model_place.specs.Runs.{bookings_after, DecidesEach, IsEarliest, IsRun};
 ghost use Rattle.ge_model_place.specs.Windows.{base_bookings};
@@ -49,10 +52,16 @@ pub fn runs_keep_limits()
 /// range that the rule can give: `$fill_up` takes slots from the first instance on, `$pe_slots` all on the first host
 /// that has them, a fixed number that many on each host, and `$round_robin` one after the other on each host. A task
 /// without a parallel environment has one slot at the first instance that takes it. Where no number of the range can
-/// be given, and only there, it has no placement (`sge_pe`, allocation_rule).
+/// be given, and only there, it has no placement (`sge_pe`, allocation_rule). Grants are admissible exactly where the
+/// instances are open to the job and at each moment of the window there is room for all that they ask (`queue_conf`).
 pub fn placements_follow_their_rule()
-    ensures { (c : Cluster) (groups : Groups) (order : List InstanceId) (bookings : List Booking)
-        (from : ℕ) (task : TaskId) → PlacesTask c groups order bookings task from }
+    ensures rule { (c : Cluster) (groups : Groups) (order : List InstanceId)
+        (bookings : List Booking) (from : ℕ) (task : TaskId)
+        → PlacesTask c groups order bookings task from }
+    ensures admissible { (c : Cluster) (groups : Groups) (job : Job) (bookings : List Booking)
+        (from : ℕ) (grants : List Grant)
+        → ((are_admissible c groups job bookings from grants ≡ true)
+        ↔ AreAdmissible c groups job bookings from grants) }
 {}
 
 /// A task that can't start now, and that is reserved and has no parallel environment, is reserved no later than it

@@ -4,11 +4,13 @@
 //!
 //! - [`Master`]: it is opened on two areas, and handles events.
 //! - [`Stop`]: why it stopped.
+//! - [`masters_at_home_stand_for_their_cluster`]: what the contracts mean by at home.
 //! - [`plan`], [`apply`], [`render`]: the core's own calls, for crates above.
 #![tactic(auto)]
 
 mod faults;
 mod handling;
+mod laws;
 mod master;
 mod opening;
 mod reading;
@@ -17,4 +19,5 @@ mod storing;
 
 pub use faults::Stop;
 pub use ge_core::{apply, plan, render};
+pub use laws::masters_at_home_stand_for_their_cluster;
 pub use master::Master;

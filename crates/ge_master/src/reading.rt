@@ -9,7 +9,8 @@ ghost use Rattle.ge_master.specs.Reading.{AppliesEntry, EndsWithin, ReadsRecord,
 
 use ge_codec::{Canon, TakeFault};
 use ge_core::apply;
-use ge_rows::{Cluster, Entry, Text, opening};
+use ge_opening_cluster::opening;
+use ge_rows::{Cluster, Entry, Text};
 use ge_snapshot::{take_cluster, take_cluster_1, take_entry_1};
 use ge_spool::{OpenFault, Raw};
 use std::alloc::{AllocError, Global};

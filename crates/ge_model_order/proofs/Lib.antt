@@ -1,6 +1,9 @@
 pub mod Sorting
 pub mod Lists
 pub mod Walked
+pub mod EligibleTasks
+pub mod OrderOnce
+pub mod OrderSorted
 pub mod ShareTotals
 pub mod ShareLines
 pub mod ShareLeaves

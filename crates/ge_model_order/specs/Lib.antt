@@ -7,3 +7,4 @@ pub mod Share
 pub mod ShareRule
 pub mod Urgency
 pub mod Priority
+pub mod Orders

@@ -4,8 +4,8 @@ use Rattle.ge_collections.specs.Keyed.{text_eq, at_text}
 use Rattle.ge_model_rows.specs.ClusterRows.{Cluster, opening_cluster, default_queue, default_sched}
 use Rattle.ge_model_rows.specs.ValueRows.{Value, Kind, Consumable, ComplexDef}
 use Rattle.ge_model_rows.specs.Values.{value_text}
-pub use Rattle.ge_rows.specs.OpeningComplexes.{time_limits, memory_limits}
-unfoldable pub use Rattle.ge_rows.specs.OpeningComplexes.{opening_complexes}
+pub use Rattle.ge_model_rows.specs.OpeningComplexes.{time_limits, memory_limits}
+unfoldable pub use Rattle.ge_model_rows.specs.OpeningComplexes.{opening_complexes}
 
 -- the cluster before the first command, opened whole by this one name
 unfoldable pub opening : Cluster

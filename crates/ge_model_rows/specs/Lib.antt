@@ -8,6 +8,8 @@ pub mod SettingRows
 pub mod TaskRows
 pub mod JobRows
 pub mod AccountRows
+pub mod OpeningComplexes
+pub mod Opening
 pub mod ClusterRows
 pub mod ScheduleRows
 pub mod DecisionRows

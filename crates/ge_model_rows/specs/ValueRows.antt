@@ -9,4 +9,4 @@ pub use Rattle.ge_rows.specs.declared.values.Relop.TheVariants.{Eq, Ne, Lt, Le, 
 pub use Rattle.ge_rows.specs.declared.values.Requestable.{Requestable}
 pub use Rattle.ge_rows.specs.declared.values.Consumable.{Consumable}
 pub use Rattle.ge_rows.specs.declared.values.ComplexDef.{ComplexDef}
-pub use Rattle.ge_rows.specs.Opening.{infinity, million}
+pub use Rattle.ge_model_rows.specs.Opening.{infinity, million}

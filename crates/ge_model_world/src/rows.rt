@@ -1,6 +1,19 @@
 // What a world keeps, and what can happen in it.
+ghost use Rattle.std.specs.Prelude.{◌≡◌, IfOk};
+
 use ge_execd::Daemon;
-use ge_rows::{Cluster, Event, List, Reply};
+use ge_rows::{Cluster, Event, List, Reply, Twin};
+use std::alloc::{AllocError, Global};
+
+fn same_reply(alloc: Global, reply: &Reply) -> Result<Reply, AllocError>
+    ensures { IfOk result (λ twin. twin ≡ reply.now) }
+{
+    let lines = reply.lines.twin(alloc)?;
+    Ok(Reply {
+        code: reply.code,
+        lines,
+    })
+}
 
 /// What the master sends to a daemon.
 pub enum Message {
@@ -16,6 +29,21 @@ impl Drop for Message {
         match self {
             Message::Orders(reply) => drop(reply),
             Message::Answer(_, reply) => drop(reply),
+        }
+    }
+}
+
+impl Twin for Message {
+    fn twin(&self, alloc: Global) -> Result<Message, AllocError> {
+        match self {
+            Message::Orders(reply) => {
+                let reply = same_reply(alloc, reply)?;
+                Ok(Message::Orders(reply))
+            }
+            Message::Answer(serial, reply) => {
+                let reply = same_reply(alloc, reply)?;
+                Ok(Message::Answer(*serial, reply))
+            }
         }
     }
 }
@@ -37,6 +65,12 @@ pub struct Report {
     pub io: u64,
 }
 
+impl Twin for Report {
+    fn twin(&self, _alloc: Global) -> Result<Report, AllocError> {
+        Ok(*self)
+    }
+}
+
 /// How a serial was accounted.
 #[derive(Clone, Copy)]
 pub enum Finished {
@@ -44,6 +78,12 @@ pub enum Finished {
     Reported(u64, u64),
     /// By a deletion by force: the serial.
     Forced(u64),
+}
+
+impl Twin for Finished {
+    fn twin(&self, _alloc: Global) -> Result<Finished, AllocError> {
+        Ok(*self)
+    }
 }
 
 /// The master, its daemons, and what they sent, started and accounted. Places count from 0.

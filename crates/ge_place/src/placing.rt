@@ -33,8 +33,7 @@ fn grant_by(
         (cells_with spots.old.items (no_slots_at spots.old.items)))) }
 {
     let given = spread(alloc, spots, rule, request.high)?;
-    let grants = granted(alloc, spots.as_slice(), &given, request.low)?;
-    Ok(grants)
+    granted(alloc, spots.as_slice(), &given, request.low)
 }
 
 // The grants by a rule.
@@ -66,10 +65,7 @@ fn place_parallel(
 {
     match search.cluster.pes.get(&request.name) {
         None => Ok(None),
-        Some(pe) => {
-            let grants = place_by(alloc, search, order, request, pe.rule)?;
-            Ok(grants)
-        }
+        Some(pe) => place_by(alloc, search, order, request, pe.rule),
     }
 }
 

@@ -2,7 +2,7 @@
 ghost use Rattle.std.specs.Prelude.{◌≡◌, ◌≤◌, length, fold, IfOk, OnOk};
 ghost use Rattle.ge_model_place.specs.Placement as placed;
 ghost use Rattle.ge_place.specs.Giving.{IsGiven, IsBest};
-ghost use Rattle.ge_place.specs.Spots.{cells_with, no_slots_at, is_in, names_of, IsOn, AreOn, IsSited};
+ghost use Rattle.ge_place.specs.Spots.{cells_with, no_slots_at, names_of, IsOn, AreOn};
 
 use crate::giving::{Given, count_on, give_more, nothing_given, takes_block};
 use crate::hosts::hosts_of;
@@ -10,25 +10,6 @@ use crate::seeing::Spot;
 use crate::spots::{HostSpots, Site};
 use ge_rows::{Allocation, List};
 use std::alloc::{AllocError, Global};
-
-// So many slots at the instances of a site alone, or as many as they take.
-fn given_at(
-    alloc: Global,
-    spots: &mut Vec<Spot<'_>>,
-    site: Site<'_>,
-    most: u32,
-) -> Result<Given, AllocError>
-    requires { IsSited site spots.old.items }
-    ensures same_spots { OnOk result (spots.new.items ≡ spots.old.items) }
-    ensures cells { IfOk result (λ given. cells_with spots.old.items given.slots
-        ≡ placed.filled (is_in site.entry) most
-        (cells_with spots.old.items (no_slots_at spots.old.items))) }
-    ensures kept { IfOk result (λ given. IsGiven spots.old.items given) }
-{
-    let mut given = nothing_given(alloc, spots.as_slice())?;
-    give_more(alloc, spots, site, most, &mut given)?;
-    Ok(given)
-}
 
 // The first host that takes the most slots. Behind one that takes all of them, none is looked at.
 fn fullest<'a, 'b>(
@@ -66,24 +47,21 @@ fn on_one_host(
     spots: &mut Vec<Spot<'_>>,
     hosts: &[HostSpots<'_>],
     high: u32,
-) -> Result<Given, AllocError>
-    requires { AreOn spots.old.items hosts.now }
+    given: &mut Given,
+) -> Result<(), AllocError>
+    requires on { AreOn spots.old.items hosts.now }
+    requires kept { IsGiven spots.old.items given.old }
+    requires none { given.old.count ≡ 0 }
     ensures same_spots { OnOk result (spots.new.items ≡ spots.old.items) }
-    ensures cells { IfOk result (λ given. cells_with spots.old.items given.slots
+    ensures cells { OnOk result (cells_with spots.old.items given.new.slots
         ≡ fold (λ best host. placed.fuller best
-        (placed.filled (placed.is_on host) high
-        (cells_with spots.old.items (no_slots_at spots.old.items))))
-        (cells_with spots.old.items (no_slots_at spots.old.items)) (names_of hosts.now)) }
-    ensures kept { IfOk result (λ given. IsGiven spots.old.items given) }
+        (placed.filled (placed.is_on host) high (cells_with spots.old.items given.old.slots)))
+        (cells_with spots.old.items given.old.slots) (names_of hosts.now)) }
+    ensures kept { OnOk result (IsGiven spots.old.items given.new) }
 {
-    let mut given = nothing_given(alloc, spots.as_slice())?;
-    let best = fullest(alloc, spots, hosts, high, &given)?;
-    match best {
-        None => Ok(given),
-        Some(host) => {
-            give_more(alloc, spots, Site::Host(host), high, &mut given)?;
-            Ok(given)
-        }
+    match fullest(alloc, spots, hosts, high, given)? {
+        None => Ok(()),
+        Some(host) => give_more(alloc, spots, Site::Host(host), high, given),
     }
 }
 
@@ -217,6 +195,56 @@ fn in_rounds(
     Ok(())
 }
 
+// At most so many slots by a rule, where nothing is given and the hosts are known.
+fn spread_over(
+    alloc: Global,
+    spots: &mut Vec<Spot<'_>>,
+    hosts: &[HostSpots<'_>],
+    rule: Allocation,
+    high: u32,
+    given: &mut Given,
+) -> Result<(), AllocError>
+    requires on { AreOn spots.old.items hosts.now }
+    requires hosts { names_of hosts.now
+        ≡ placed.hosts_in (cells_with spots.old.items given.old.slots) }
+    requires kept { IsGiven spots.old.items given.old }
+    requires none { given.old.count ≡ 0 }
+    ensures same_spots { OnOk result (spots.new.items ≡ spots.old.items) }
+    ensures cells { OnOk result (cells_with spots.old.items given.new.slots
+        ≡ placed.spread rule high (cells_with spots.old.items given.old.slots)) }
+    ensures kept { OnOk result (IsGiven spots.old.items given.new) }
+{
+    match rule {
+        Allocation::FillUp => give_more(alloc, spots, Site::Everywhere, high, given),
+        Allocation::PeSlots => on_one_host(alloc, spots, hosts, high, given),
+        Allocation::Fixed(size) => in_blocks(alloc, spots, hosts, size, high, given),
+        Allocation::RoundRobin => in_rounds(alloc, spots, hosts, high, given),
+    }
+}
+
+// The same where the hosts aren't known. `$fill_up` asks for none, so none are gathered for it.
+fn spread_from(
+    alloc: Global,
+    spots: &mut Vec<Spot<'_>>,
+    rule: Allocation,
+    high: u32,
+    given: &mut Given,
+) -> Result<(), AllocError>
+    requires slots { given.old.slots ≡ no_slots_at spots.old.items }
+    requires kept { IsGiven spots.old.items given.old }
+    requires none { given.old.count ≡ 0 }
+    ensures same_spots { OnOk result (spots.new.items ≡ spots.old.items) }
+    ensures cells { OnOk result (cells_with spots.old.items given.new.slots
+        ≡ placed.spread rule high (cells_with spots.old.items given.old.slots)) }
+    ensures kept { OnOk result (IsGiven spots.old.items given.new) }
+{
+    if let Allocation::FillUp = rule {
+        return give_more(alloc, spots, Site::Everywhere, high, given);
+    }
+    let hosts = hosts_of(alloc, spots.as_slice())?;
+    spread_over(alloc, spots, hosts.as_slice(), rule, high, given)
+}
+
 /// At most so many slots by a rule.
 pub(crate) fn spread(
     alloc: Global,
@@ -229,27 +257,7 @@ pub(crate) fn spread(
         ≡ placed.spread rule high (cells_with spots.old.items (no_slots_at spots.old.items))) }
     ensures kept { IfOk result (λ given. IsGiven spots.old.items given) }
 {
-    match rule {
-        Allocation::FillUp => {
-            let given = given_at(alloc, spots, Site::Everywhere, high)?;
-            Ok(given)
-        }
-        Allocation::PeSlots => {
-            let hosts = hosts_of(alloc, spots.as_slice())?;
-            let given = on_one_host(alloc, spots, hosts.as_slice(), high)?;
-            Ok(given)
-        }
-        Allocation::Fixed(size) => {
-            let hosts = hosts_of(alloc, spots.as_slice())?;
-            let mut given = nothing_given(alloc, spots.as_slice())?;
-            in_blocks(alloc, spots, hosts.as_slice(), size, high, &mut given)?;
-            Ok(given)
-        }
-        Allocation::RoundRobin => {
-            let hosts = hosts_of(alloc, spots.as_slice())?;
-            let mut given = nothing_given(alloc, spots.as_slice())?;
-            in_rounds(alloc, spots, hosts.as_slice(), high, &mut given)?;
-            Ok(given)
-        }
-    }
+    let mut given = nothing_given(alloc, spots.as_slice())?;
+    spread_from(alloc, spots, rule, high, &mut given)?;
+    Ok(given)
 }

@@ -6,7 +6,7 @@
 //! - `tasks`, `jobs`, `accounts`: jobs, their tasks and sets of tasks, accounting lines.
 //! - `job_row`: a job as the table of jobs keeps it, and that table.
 //! - `marks`, `labels`, `asked`, `job_rows`: what the table of jobs keeps of them beside them.
-//! - `cluster`: all of these together; `opening_rows`: the cluster before the first command.
+//! - `cluster`: all of these together.
 //! - `scheduling`: limits, bookings and the decisions of a run.
 //! - `entries`: what an accepted command changes; `own`: a value in memory of its own.
 //! - `events`, `commands`: what comes in, as it is read, and the replies.
@@ -28,8 +28,6 @@ mod job_rows;
 mod jobs;
 mod labels;
 mod marks;
-mod opening_complexes;
-mod opening_rows;
 mod own;
 mod people;
 mod planned;
@@ -54,7 +52,6 @@ pub use job_rows::task_marks;
 pub use jobs::{Advance, Grant, Job, PeRequest, Request, Running};
 pub use labels::{JobFacts, JobKind, JobLabel};
 pub use marks::{JobMark, MarkSort};
-pub use opening_rows::{default_queue, default_sched, opening};
 pub use own::Own;
 pub use people::{ProjectRow, ShareNode, UserRow};
 pub use planned::Planned;

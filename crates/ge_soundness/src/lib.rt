@@ -9,7 +9,7 @@
 
 ghost use Rattle.std.specs.Prelude.{◌≡◌, ◌≢◌, ◌∷◌, ◌⊎◌, Bool, IfSome, List, Some};
 ghost use Rattle.ge_base.specs.declared.refusal.Refusal.{Refusal};
-ghost use Rattle.ge_rows.specs.Opening.{opening_cluster};
+ghost use Rattle.ge_model_rows.specs.Opening.{opening_cluster};
 ghost use Rattle.ge_rows.specs.declared.cluster.Cluster.{Cluster};
 ghost use Rattle.ge_rows.specs.declared.events.Event.{Event};
 ghost use Rattle.ge_rows.specs.declared.entries.Change.TheVariants.{Book};

@@ -2,7 +2,7 @@
 ghost use Rattle.std.specs.Prelude.{◌≡◌, [], ◌∷◌, IfOk, OnOk, IfSome, IsErrOf, IsErr, MatchOption, Option, codes, false, ◌≤◌, ◌<◌};
 ghost use Rattle.ge_limits.specs.Limits.{script_bytes};
 ghost use Rattle.ge_outside.specs.Faults.{Rose};
-ghost use Rattle.ge_rows.specs.Opening.{opening_cluster};
+ghost use Rattle.ge_model_rows.specs.Opening.{opening_cluster};
 ghost use Rattle.ge_model_grammar.specs.Events.{events_of};
 ghost use Rattle.ge_model_grammar.specs.Sources.{IsReadToEnd};
 ghost use Rattle.ge_script.specs.Pieces.{coming, given_count, read_count, total_count, IsOver, GivesNext};
@@ -16,8 +16,9 @@ ghost use Rattle.ge_top.specs.Holding.{HasGained, KeepsHeld};
 
 use crate::changing::follow;
 use crate::holding::{hold, write_held};
+use ge_opening_cluster::opening;
 use ge_outside::{Failed, Sink, Source};
-use ge_rows::{Cluster, Event, Text, opening};
+use ge_rows::{Cluster, Event, Text};
 use ge_script::{Script, ScriptFault};
 use ge_serve::{plan, render};
 use std::alloc::{AllocError, Global};

@@ -1,7 +1,8 @@
 //! Who may, in the cluster of the page.
 
-use crate::answers::{is_named, no_call, yes_or_no};
+use crate::answers::{is_named, no_call, word_of, yes_or_no};
 use ge_pieces::{before, behind, pieces};
+use ge_printing::join_words;
 use ge_rows::{Cluster, List, Text};
 use ge_site::{in_set, in_sets, is_manager, is_operator, may_use};
 use std::alloc::{AllocError, Global};
@@ -17,10 +18,7 @@ fn names(alloc: Global, text: &[u8]) -> Result<List<Text>, AllocError> {
 
 // Two answers, with a comma between.
 fn both(alloc: Global, first: bool, second: bool) -> Result<Text, AllocError> {
-    let mut line = yes_or_no(alloc, first)?;
-    line.append(b", ")?;
-    line.append(yes_or_no(alloc, second)?.bytes())?;
-    Ok(line)
+    join_words(alloc, b", ", &[word_of(first), word_of(second)])
 }
 
 // Whether a user of a group is in a set, asked both ways.

@@ -1,6 +1,7 @@
 //! What texts are worth.
 
 use crate::answers::{is_named, no_call, number};
+use ge_printing::join_words;
 use ge_rows::Text;
 use ge_text::{Form, ValueFault, amount, read_fixed, read_int, read_memory, read_time};
 use std::alloc::{AllocError, Global};
@@ -31,10 +32,9 @@ fn told(alloc: Global, worth: Result<u64, ValueFault>) -> Result<String, AllocEr
 
 // What a text of a form is worth, and whether it has an amount.
 fn amounts(alloc: Global, form: Form, text: &[u8]) -> Result<Text, AllocError> {
-    let mut line = Text::from_bytes(alloc, told(alloc, worth(form, text))?.as_bytes())?;
-    line.append(b", ")?;
-    line.append(number(alloc, amount(form, text))?.bytes())?;
-    Ok(line)
+    let worth = told(alloc, worth(form, text))?;
+    let amount = number(alloc, amount(form, text))?;
+    join_words(alloc, b", ", &[worth.as_bytes(), amount.bytes()])
 }
 
 /// What a text of a form is worth, and its amount.

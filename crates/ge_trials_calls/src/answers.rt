@@ -9,12 +9,10 @@ use crate::sites::{Site, site_of};
 use crate::{
     access, amounts, cutting, groups, naming, queues, refusals, requests, values, writing,
 };
-use ge_pieces::{before, behind, slices_at};
+use ge_pieces::{before, behind};
 use ge_rows::Text;
-use ge_trials_rows::{bytes, push_answer};
+use ge_trials_rows::{Rows, bytes, tell_rows};
 use std::alloc::{AllocError, Global};
-use std::io;
-use std::io::ErrorKind;
 
 /// Whether a word is this one. Its caller need not know what that says of each byte, as it would of a pattern.
 pub(crate) fn is_named(word: &[u8], other: &[u8]) -> bool {
@@ -22,8 +20,13 @@ pub(crate) fn is_named(word: &[u8], other: &[u8]) -> bool {
 }
 
 /// A word of whether something holds.
+pub(crate) fn word_of(holds: bool) -> &'static [u8] {
+    if holds { b"yes" } else { b"no" }
+}
+
+/// The same as a text.
 pub(crate) fn yes_or_no(alloc: Global, holds: bool) -> Result<Text, AllocError> {
-    Text::from_bytes(alloc, if holds { b"yes" } else { b"no" })
+    Text::from_bytes(alloc, word_of(holds))
 }
 
 /// A number, or a word where there is none.
@@ -40,42 +43,48 @@ pub(crate) fn no_call(alloc: Global) -> Result<Text, AllocError> {
 }
 
 // What a call answers, by the kind of its page.
-fn answer(alloc: Global, kind: &[u8], site: &Site, name: &[u8], given: &[u8]) -> io::Result<Text> {
-    let text = if is_named(kind, b"amounts") {
-        amounts::answer(alloc, name, given)?
+fn answer(
+    alloc: Global,
+    kind: &[u8],
+    site: &Site,
+    name: &[u8],
+    given: &[u8],
+) -> Result<Text, AllocError> {
+    if is_named(kind, b"amounts") {
+        amounts::answer(alloc, name, given)
     } else if is_named(kind, b"cuts") {
-        cutting::answer(alloc, name, given)?
+        cutting::answer(alloc, name, given)
     } else if is_named(kind, b"names") {
-        naming::answer(alloc, name, given)?
+        naming::answer(alloc, name, given)
     } else if is_named(kind, b"numbers") {
-        writing::answer(alloc, name, given)?
+        writing::answer(alloc, name, given)
     } else if is_named(kind, b"refusals") {
-        refusals::answer(alloc, name, given)?
+        refusals::answer(alloc, name, given)
     } else if is_named(kind, b"values") {
-        values::answer(alloc, name, given)?
+        values::answer(alloc, name, given)
     } else if is_named(kind, b"groups") {
-        groups::answer(alloc, name, given)?
+        groups::answer(alloc, name, given)
     } else if is_named(kind, b"access") {
-        access::answer(alloc, &site.cluster, name, given)?
+        access::answer(alloc, &site.cluster, name, given)
     } else if is_named(kind, b"requests") {
-        requests::answer(alloc, &site.cluster, name, given)?
-    } else if is_named(kind, b"instances") {
-        queues::answer(alloc, site, name, given)?
+        requests::answer(alloc, &site.cluster, name, given)
     } else {
-        return Err(io::Error::from(ErrorKind::InvalidInput));
-    };
-    Ok(text)
+        queues::answer(alloc, site, name, given)
+    }
 }
 
-// What is told of each row, asked of a site.
-fn told(alloc: Global, kind: &[u8], site: &Site, rows: &[u8]) -> io::Result<Vec<u8>> {
-    let mut text = Vec::new(alloc);
-    for row in slices_at(alloc, b'\n', rows)?.as_slice() {
-        let given = bytes(alloc, behind(b' ', row))?;
-        let answer = answer(alloc, kind, site, before(b' ', row), given.as_slice())?;
-        push_answer(alloc, &mut text, row, answer.bytes())?;
+// The kind of a page, and the site that its rows ask.
+#[derive(Drop)]
+struct Asked<'a> {
+    kind: &'a [u8],
+    site: Site,
+}
+
+impl Rows for Asked<'_> {
+    fn answer(&self, alloc: Global, name: &[u8], given: &[u8]) -> Result<Text, AllocError> {
+        let given = bytes(alloc, given)?;
+        answer(alloc, self.kind, &self.site, name, given.as_slice())
     }
-    Ok(text)
 }
 
 // Whether the pages of a kind begin with a script.
@@ -85,11 +94,13 @@ fn has_script(kind: &[u8]) -> bool {
 
 /// A page of rows: `amounts`, `cuts`, `names`, `numbers`, `refusals`, `values`, `groups`, `access`, `requests` or `instances`. One of
 /// the last three begins with a script that makes the site, and with a line `~` behind that.
-pub(crate) fn rows_page(alloc: Global, kind: &[u8], body: &[u8]) -> io::Result<Vec<u8>> {
+pub(crate) fn rows_page(alloc: Global, kind: &[u8], body: &[u8]) -> Result<Vec<u8>, AllocError> {
     if has_script(kind) {
         let site = site_of(alloc, before(b'~', body))?;
-        told(alloc, kind, &site, behind(b'\n', behind(b'~', body)))
+        let rows = behind(b'\n', behind(b'~', body));
+        tell_rows(alloc, &Asked { kind, site }, rows)
     } else {
-        told(alloc, kind, &site_of(alloc, b"")?, body)
+        let site = site_of(alloc, b"")?;
+        tell_rows(alloc, &Asked { kind, site }, body)
     }
 }

@@ -3,14 +3,14 @@
 
 use ge_base::{product_of, sum_of};
 use ge_bookings::{end_of_window, peak, sum_at};
-use ge_pieces::{before, behind, digits_worth, has, is_word, slices_at};
+use ge_pieces::{
+    before, behind, behind_word, digits_worth, first_word, has, is_in, is_word, slices_at,
+};
 use ge_printing::append_decimal;
 use ge_rows::{Booking, Demand, InstanceId, LimitId, List, TaskId, Text};
 use ge_timeline::Timeline;
 use ge_trials_rows::{checksum, made};
 use std::alloc::{AllocError, Global};
-use std::io;
-use std::io::ErrorKind;
 
 /// What is booked, twice.
 #[derive(Drop)]
@@ -19,8 +19,10 @@ struct Booked {
     timeline: Timeline,
 }
 
-fn no_such_row() -> io::Error {
-    io::Error::from(ErrorKind::InvalidInput)
+// The first two words of a text, and what stands behind them.
+fn first_two(text: &[u8]) -> (&[u8], &[u8], &[u8]) {
+    let rest = behind_word(text);
+    (first_word(text), first_word(rest), behind_word(rest))
 }
 
 // What digits are worth, cut at 2^128 - 1.
@@ -50,10 +52,9 @@ fn limit_of(alloc: Global, word: &[u8]) -> Result<LimitId, AllocError> {
 }
 
 // The booking of a job's first task: LIMIT JOB AMOUNT FROM UNTIL.
-fn booking(alloc: Global, given: &[&[u8]]) -> io::Result<Booking> {
-    let [limit, job, amount, from, until] = given else {
-        return Err(no_such_row());
-    };
+fn booking(alloc: Global, given: &[u8]) -> Result<Booking, AllocError> {
+    let (limit, job, rest) = first_two(given);
+    let (amount, from, until) = first_two(rest);
     let job = digits_worth(job).min(u64::from(u32::MAX)) as u32;
     let mut demands = List::new(alloc);
     demands.push(Demand {
@@ -94,23 +95,16 @@ impl Booked {
         })
     }
 
-    fn add(&mut self, alloc: Global, given: &[&[u8]]) -> io::Result<()> {
+    fn add(&mut self, alloc: Global, given: &[u8]) -> Result<(), AllocError> {
         self.list.push(booking(alloc, given)?)?;
-        self.timeline.add(booking(alloc, given)?)?;
-        Ok(())
+        self.timeline.add(booking(alloc, given)?)
     }
 
-    fn remove(&mut self, alloc: Global, given: &[&[u8]]) -> io::Result<bool> {
+    fn remove(&mut self, alloc: Global, given: &[u8]) -> Result<bool, AllocError> {
         let gone = booking(alloc, given)?;
         drop_from(&mut self.list, &gone);
-        let found = self.timeline.remove(&gone)?;
-        Ok(found)
+        self.timeline.remove(&gone)
     }
-}
-
-fn push_number(text: &mut Vec<u8>, number: u128) -> Result<(), AllocError> {
-    append_decimal(text, number)?;
-    text.extend_from_slice(b"\n")
 }
 
 // The greatest sum of a window, whether one exceeds it, and whether one exceeds what is one less.
@@ -118,43 +112,38 @@ fn push_most(
     alloc: Global,
     text: &mut Vec<u8>,
     timeline: &Timeline,
-    given: &[&[u8]],
-) -> io::Result<()> {
-    let [limit, from, until] = given else {
-        return Err(no_such_row());
-    };
+    given: &[u8],
+) -> Result<(), AllocError> {
+    let (limit, from, until) = first_two(given);
     let limit = limit_of(alloc, limit)?;
     let (from, until) = (digits_worth(from), digits_worth(until));
     let most = timeline.greatest(&limit, from, until);
     let above = timeline.exceeds(&limit, from, until, most);
     let above_less = timeline.exceeds(&limit, from, until, most.saturating_sub(1));
     append_decimal(text, most)?;
-    text.extend_from_slice(format!(in alloc; " {above} {above_less}\n")?.as_bytes())?;
-    Ok(())
+    text.extend_from_slice(format!(in alloc; " {above} {above_less}\n")?.as_bytes())
 }
 
-// The number that a row asks for.
-fn number_of(alloc: Global, booked: &Booked, word: &[u8], given: &[&[u8]]) -> io::Result<u128> {
-    match given {
-        [limit, moment] if is_word(word, b"sum") => {
-            let limit = limit_of(alloc, limit)?;
-            Ok(sum_at(&booked.list, &limit, digits_worth(moment)))
-        }
-        [limit, from, until] if is_word(word, b"peak") => {
-            let limit = limit_of(alloc, limit)?;
-            let (from, until) = (digits_worth(from), digits_worth(until));
-            Ok(peak(&booked.list, &limit, from, until))
-        }
-        [moment] if is_word(word, b"next") => {
-            let end = booked.timeline.next_end_after(digits_worth(moment));
-            Ok(u128::from(end.unwrap_or(0)))
-        }
-        [from, duration] if is_word(word, b"end") => {
-            let end = end_of_window(digits_worth(from), digits_worth(duration));
-            Ok(u128::from(end))
-        }
-        _ => Err(no_such_row()),
+// The sum of a limit at a moment or its greatest of a window, by the list.
+fn sum_of_limit(
+    alloc: Global,
+    list: &List<Booking>,
+    word: &[u8],
+    given: &[u8],
+) -> Result<u128, AllocError> {
+    let (limit, from, until) = first_two(given);
+    let limit = limit_of(alloc, limit)?;
+    let (from, until) = (digits_worth(from), digits_worth(until));
+    if is_word(word, b"sum") {
+        Ok(sum_at(list, &limit, from))
+    } else {
+        Ok(peak(list, &limit, from, until))
     }
+}
+
+// The next end behind a moment, or 0.
+fn next_end(timeline: &Timeline, moment: &[u8]) -> u64 {
+    timeline.next_end_after(digits_worth(moment)).unwrap_or(0)
 }
 
 // What a row answers, behind the answers before it.
@@ -163,32 +152,40 @@ fn answer(
     text: &mut Vec<u8>,
     booked: &mut Booked,
     word: &[u8],
-    given: &[&[u8]],
-) -> io::Result<()> {
+    given: &[u8],
+) -> Result<(), AllocError> {
     if is_word(word, b"book") {
-        booked.add(alloc, given)
-    } else if is_word(word, b"take") {
-        let found = booked.remove(alloc, given)?;
-        text.extend_from_slice(format!(in alloc; "{found}\n")?.as_bytes())?;
-        Ok(())
-    } else if is_word(word, b"most") {
-        push_most(alloc, text, &booked.timeline, given)
-    } else {
-        push_number(text, number_of(alloc, booked, word, given)?)?;
-        Ok(())
+        return booked.add(alloc, given);
     }
+    if is_word(word, b"take") {
+        let found = booked.remove(alloc, given)?;
+        return text.extend_from_slice(format!(in alloc; "{found}\n")?.as_bytes());
+    }
+    if is_word(word, b"most") {
+        return push_most(alloc, text, &booked.timeline, given);
+    }
+    let number = if is_word(word, b"next") {
+        u128::from(next_end(&booked.timeline, given))
+    } else if is_word(word, b"end") {
+        let (from, duration) = (first_word(given), behind_word(given));
+        u128::from(end_of_window(digits_worth(from), digits_worth(duration)))
+    } else if is_in(word, &[b"sum", b"peak"]) {
+        sum_of_limit(alloc, &booked.list, word, given)?
+    } else {
+        return text.extend_from_slice(b"no such row\n");
+    };
+    append_decimal(text, number)?;
+    text.extend_from_slice(b"\n")
 }
 
 // The answers to all rows.
-fn answers(alloc: Global, rows: &[u8]) -> io::Result<Vec<u8>> {
+fn answers(alloc: Global, rows: &[u8]) -> Result<Vec<u8>, AllocError> {
     let mut text = Vec::new(alloc);
     let mut booked = Booked::new(alloc)?;
     for row in slices_at(alloc, b'\n', rows)?.as_slice() {
         if !row.is_empty() {
-            let words = slices_at(alloc, b' ', row)?;
-            if let Some((word, given)) = words.as_slice().split_first() {
-                answer(alloc, &mut text, &mut booked, word, given)?;
-            }
+            let (word, given) = (first_word(row), behind_word(row));
+            answer(alloc, &mut text, &mut booked, word, given)?;
         }
     }
     Ok(text)
@@ -202,7 +199,7 @@ fn answers(alloc: Global, rows: &[u8]) -> io::Result<Vec<u8>> {
 /// the timeline, whether one exceeds it and whether one exceeds one less; `next MOMENT` the next
 /// end, or 0; `end FROM DURATION` where a window ends. A checksum stands behind the size of all
 /// answers.
-pub(crate) fn bookings_page(alloc: Global, body: &[u8]) -> io::Result<Vec<u8>> {
+pub(crate) fn bookings_page(alloc: Global, body: &[u8]) -> Result<Vec<u8>, AllocError> {
     let (line, lines) = (before(b'\n', body), behind(b'\n', body));
     let rows = made(alloc, lines)?;
     let text = answers(alloc, rows.as_slice())?;
@@ -211,6 +208,5 @@ pub(crate) fn bookings_page(alloc: Global, body: &[u8]) -> io::Result<Vec<u8>> {
     }
     let (size, sum) = (text.len(), checksum(text.as_slice()));
     let told = format!(in alloc; "{size} bytes, {sum}\n")?;
-    let text = Vec::from_slice(alloc, told.as_bytes())?;
-    Ok(text)
+    Vec::from_slice(alloc, told.as_bytes())
 }

@@ -2,34 +2,12 @@
 //! changed.
 
 use ge_codec::{Canon, TakeFault};
+use ge_opening_cluster::opening;
 use ge_pieces::{behind_word, first_word, is_word, slices_at};
-use ge_rows::{Cluster, Entry, Table, Text, Value, opening};
+use ge_rows::{Cluster, Entry, Table, Text, Value};
 use ge_snapshot::{put_cluster, take_cluster, take_cluster_1, take_entry_1};
-use ge_trials_rows::bytes_of;
+use ge_trials_rows::{append_hex, bytes_of};
 use std::alloc::{AllocError, Global};
-use std::io;
-use std::io::ErrorKind;
-
-/// What some bytes are read as.
-#[derive(Clone, Copy)]
-enum Sort {
-    /// An entry of format 1.
-    Entry1,
-    /// An entry of format 2.
-    Entry2,
-    /// A whole cluster of format 1.
-    Cluster1,
-    /// A whole cluster of format 2.
-    Cluster2,
-    /// A bool.
-    Flag,
-    /// An option of a bool.
-    Choice,
-    /// A value of a resource.
-    Amount,
-    /// A table from small numbers to bools.
-    Pairs,
-}
 
 /// What reading some bytes gives.
 #[derive(Drop)]
@@ -78,28 +56,6 @@ impl Tally {
     }
 }
 
-fn sort_of(word: &[u8]) -> io::Result<Sort> {
-    if is_word(word, b"entry1") {
-        Ok(Sort::Entry1)
-    } else if is_word(word, b"entry2") {
-        Ok(Sort::Entry2)
-    } else if is_word(word, b"cluster1") {
-        Ok(Sort::Cluster1)
-    } else if is_word(word, b"cluster2") {
-        Ok(Sort::Cluster2)
-    } else if is_word(word, b"bool") {
-        Ok(Sort::Flag)
-    } else if is_word(word, b"option") {
-        Ok(Sort::Choice)
-    } else if is_word(word, b"value") {
-        Ok(Sort::Amount)
-    } else if is_word(word, b"table") {
-        Ok(Sort::Pairs)
-    } else {
-        Err(io::Error::from(ErrorKind::InvalidInput))
-    }
-}
-
 // The answer of a value that was read up to an end.
 fn written<V: Canon>(
     alloc: Global,
@@ -143,22 +99,29 @@ fn answer_of_whole(
     }
 }
 
-// Reads some bytes, and writes the value again.
-fn answered(alloc: Global, sort: Sort, bytes: &[u8]) -> Result<Answer, AllocError> {
-    match sort {
-        Sort::Entry1 => answer_of(alloc, bytes, take_entry_1(alloc, bytes, 0)),
-        Sort::Entry2 => answer_of(alloc, bytes, Entry::take(alloc, bytes, 0)),
-        Sort::Cluster1 => answer_of_whole(alloc, bytes, take_cluster_1(alloc, bytes)),
-        Sort::Cluster2 => answer_of_whole(alloc, bytes, take_cluster(alloc, bytes)),
-        Sort::Flag => answer_of(alloc, bytes, bool::take(alloc, bytes, 0)),
-        Sort::Choice => answer_of(alloc, bytes, <Option<bool> as Canon>::take(alloc, bytes, 0)),
-        Sort::Amount => answer_of(alloc, bytes, Value::take(alloc, bytes, 0)),
-        Sort::Pairs => answer_of(alloc, bytes, <Table<u8, bool>>::take(alloc, bytes, 0)),
+// Reads some bytes as what a word says, a table from small numbers to bools where it is no other, and writes the value again.
+fn answered(alloc: Global, sort: &[u8], bytes: &[u8]) -> Result<Answer, AllocError> {
+    if is_word(sort, b"entry1") {
+        answer_of(alloc, bytes, take_entry_1(alloc, bytes, 0))
+    } else if is_word(sort, b"entry2") {
+        answer_of(alloc, bytes, Entry::take(alloc, bytes, 0))
+    } else if is_word(sort, b"cluster1") {
+        answer_of_whole(alloc, bytes, take_cluster_1(alloc, bytes))
+    } else if is_word(sort, b"cluster2") {
+        answer_of_whole(alloc, bytes, take_cluster(alloc, bytes))
+    } else if is_word(sort, b"bool") {
+        answer_of(alloc, bytes, bool::take(alloc, bytes, 0))
+    } else if is_word(sort, b"option") {
+        answer_of(alloc, bytes, <Option<bool> as Canon>::take(alloc, bytes, 0))
+    } else if is_word(sort, b"value") {
+        answer_of(alloc, bytes, Value::take(alloc, bytes, 0))
+    } else {
+        answer_of(alloc, bytes, <Table<u8, bool>>::take(alloc, bytes, 0))
     }
 }
 
 // How often each answer is given to the fronts of some bytes.
-fn fronts(alloc: Global, sort: Sort, bytes: &[u8]) -> Result<Tally, AllocError> {
+fn fronts(alloc: Global, sort: &[u8], bytes: &[u8]) -> Result<Tally, AllocError> {
     let mut tally = Tally::new();
     for end in 0..bytes.len() {
         let front = bytes.get(..end).unwrap_or(&[]);
@@ -170,7 +133,7 @@ fn fronts(alloc: Global, sort: Sort, bytes: &[u8]) -> Result<Tally, AllocError> 
 // Adds the answers to some bytes of which one is changed in three ways.
 fn add_changed(
     alloc: Global,
-    sort: Sort,
+    sort: &[u8],
     bytes: &[u8],
     at: usize,
     tally: &mut Tally,
@@ -186,7 +149,7 @@ fn add_changed(
 }
 
 // How often each answer is given to some bytes of which one is changed.
-fn changes(alloc: Global, sort: Sort, bytes: &[u8]) -> Result<Tally, AllocError> {
+fn changes(alloc: Global, sort: &[u8], bytes: &[u8]) -> Result<Tally, AllocError> {
     let mut tally = Tally::new();
     for at in 0..bytes.len() {
         add_changed(alloc, sort, bytes, at, &mut tally)?;
@@ -209,7 +172,7 @@ fn push_answer(alloc: Global, text: &mut Text, answer: &Answer) -> Result<(), Al
 
 /// Some bytes in hex, which end a line.
 pub(crate) fn push_hex(alloc: Global, text: &mut Text, bytes: &Text) -> Result<(), AllocError> {
-    text.append(hex::encode(alloc, bytes.bytes())?.as_bytes())?;
+    append_hex(alloc, text, bytes.bytes())?;
     text.append(b"\n")
 }
 
@@ -248,7 +211,7 @@ fn push_tried(
     alloc: Global,
     text: &mut Text,
     word: &[u8],
-    sort: Sort,
+    sort: &[u8],
     bytes: &[u8],
 ) -> Result<(), AllocError> {
     push_answer(alloc, text, &answered(alloc, sort, bytes)?)?;
@@ -262,19 +225,16 @@ fn push_tried(
     Ok(())
 }
 
-fn push_row(alloc: Global, text: &mut Text, row: &[u8]) -> io::Result<()> {
+fn push_row(alloc: Global, text: &mut Text, row: &[u8]) -> Result<(), AllocError> {
     let (word, rest) = (first_word(row), behind_word(row));
     if word.is_empty() {
         return Ok(());
     }
     if is_word(word, b"opening") {
-        push_opening(alloc, text)?;
-        return Ok(());
+        return push_opening(alloc, text);
     }
-    let sort = sort_of(first_word(rest))?;
-    let bytes = bytes_of(alloc, behind_word(rest), &Vec::new(alloc))?;
-    push_tried(alloc, text, word, sort, bytes.as_slice())?;
-    Ok(())
+    let bytes = bytes_of(alloc, behind_word(rest))?;
+    push_tried(alloc, text, word, first_word(rest), bytes.as_slice())
 }
 
 /// A page `bytes`: rows of a word, what some bytes are, and the bytes. It tells of each row what
@@ -283,11 +243,10 @@ fn push_row(alloc: Global, text: &mut Text, row: &[u8]) -> io::Result<()> {
 /// no further; `cut` tells how often each answer is given to the fronts of the bytes, and
 /// `changed` also to the bytes with each of them changed by 1, 128 and 255. A row `opening` tells
 /// the bytes of the opening cluster.
-pub(crate) fn bytes_page(alloc: Global, body: &[u8]) -> io::Result<Vec<u8>> {
+pub(crate) fn bytes_page(alloc: Global, body: &[u8]) -> Result<Vec<u8>, AllocError> {
     let mut text = Text::new(alloc);
     for row in slices_at(alloc, b'\n', body)?.as_slice() {
         push_row(alloc, &mut text, row)?;
     }
-    let told = Vec::from_slice(alloc, text.bytes())?;
-    Ok(told)
+    Vec::from_slice(alloc, text.bytes())
 }

@@ -4,50 +4,54 @@
 use crate::canonical::push_hex;
 use ge_codec::Canon;
 use ge_core::{apply, plan, render};
+use ge_opening_cluster::opening;
 use ge_pieces::{before, behind, behind_word, first_word, is_word};
 use ge_rows::{
     Advance, Cluster, Entry, Event, Grant, Job, Request, Running, Table, TaskSpan, Text, Value,
-    opening,
 };
 use ge_snapshot::{take_cluster, take_cluster_1, take_entry_1};
-use ge_trials_rows::{bytes_of, read_events};
+use ge_trials_rows::{append_all, bytes_of, read_events};
 use std::alloc::{AllocError, Global};
-use std::io;
-use std::io::ErrorKind;
 
 fn is_of_format_1(line: &[u8]) -> bool {
     is_word(first_word(line), b"1")
 }
 
-// The cluster that a line gives: its format and its bytes, or the word for the opening cluster.
-fn cluster_on(alloc: Global, line: &[u8]) -> io::Result<Cluster> {
+// The cluster that a line gives: its format and its bytes, or the word for the opening cluster. Wrong bytes end a run as want of
+// memory does.
+fn cluster_on(alloc: Global, line: &[u8]) -> Result<Cluster, AllocError> {
     if is_word(line, b"opening") {
-        let cluster = opening(alloc)?;
-        return Ok(cluster);
+        return opening(alloc);
     }
-    let bytes = bytes_of(alloc, behind_word(line), &Vec::new(alloc))?;
+    let bytes = bytes_of(alloc, behind_word(line))?;
     let taken = if is_of_format_1(line) {
         take_cluster_1(alloc, bytes.as_slice())
     } else {
         take_cluster(alloc, bytes.as_slice())
     };
-    taken.map_err(|_| io::Error::from(ErrorKind::InvalidData))
+    match taken {
+        Ok(cluster) => Ok(cluster),
+        Err(_) => Err(AllocError),
+    }
 }
 
-// The entry that some bytes begin with, and where it ends.
-fn first_entry(alloc: Global, is_old: bool, bytes: &[u8]) -> io::Result<(Entry, usize)> {
+// The entry that some bytes begin with, and where it ends. Wrong bytes end a run as want of memory does.
+fn first_entry(alloc: Global, is_old: bool, bytes: &[u8]) -> Result<(Entry, usize), AllocError> {
     let taken = if is_old {
         take_entry_1(alloc, bytes, 0)
     } else {
         Entry::take(alloc, bytes, 0)
     };
-    taken.map_err(|_| io::Error::from(ErrorKind::InvalidData))
+    match taken {
+        Ok(found) => Ok(found),
+        Err(_) => Err(AllocError),
+    }
 }
 
 // Applies the entries of a line, which gives their format and their bytes, one behind the other.
-fn apply_all(alloc: Global, cluster: &mut Cluster, line: &[u8]) -> io::Result<()> {
+fn apply_all(alloc: Global, cluster: &mut Cluster, line: &[u8]) -> Result<(), AllocError> {
     let is_old = is_of_format_1(line);
-    let bytes = bytes_of(alloc, behind_word(line), &Vec::new(alloc))?;
+    let bytes = bytes_of(alloc, behind_word(line))?;
     let mut rest = bytes.as_slice();
     for _ in 0..bytes.len() {
         if rest.is_empty() {
@@ -77,35 +81,13 @@ fn push_numbers(
     Ok(())
 }
 
-// The same of how many rows tables and lists have.
-fn push_counts(
-    alloc: Global,
-    text: &mut Text,
-    fields: &[(&'static str, usize)],
-) -> Result<(), AllocError> {
-    for (name, count) in fields {
-        push_number(alloc, text, name, *count as u64)?;
-    }
-    Ok(())
-}
-
-// A blank, a field's name, a blank and its text.
-fn push_text(text: &mut Text, name: &[u8], field: &Text) -> Result<(), AllocError> {
-    text.append(b" ")?;
-    text.append(name)?;
-    text.append(b" ")?;
-    text.append(field.bytes())
-}
-
 fn flag_word(flag: bool) -> &'static [u8] {
     if flag { b"TRUE" } else { b"FALSE" }
 }
 
 // A blank, a field's name, a blank and whether it holds.
 fn push_flag(text: &mut Text, name: &[u8], flag: bool) -> Result<(), AllocError> {
-    text.append(b" ")?;
-    text.append(name)?;
-    text.append(b" ")?;
+    append_all(text, &[b" ", name, b" "])?;
     text.append(flag_word(flag))
 }
 
@@ -127,9 +109,7 @@ fn push_values(
     values: &Table<Text, Value>,
 ) -> Result<(), AllocError> {
     for (name, value) in values.iter() {
-        text.append(b" ")?;
-        text.append(name.bytes())?;
-        text.append(b"=")?;
+        append_all(text, &[b" ", name.bytes(), b"="])?;
         push_value(alloc, text, value)?;
     }
     Ok(())
@@ -138,12 +118,19 @@ fn push_values(
 // Places with their slots, each behind a blank.
 fn push_grants(alloc: Global, text: &mut Text, grants: &[Grant]) -> Result<(), AllocError> {
     for grant in grants {
-        let slots = grant.slots;
-        text.append(b" ")?;
-        text.append(grant.at.queue.bytes())?;
-        text.append(b"@")?;
-        text.append(grant.at.host.bytes())?;
-        text.append(format!(in alloc; "={slots}")?.as_bytes())?;
+        let at = &grant.at;
+        let slots = grant.slots.to_string(alloc)?;
+        append_all(
+            text,
+            &[
+                b" ",
+                at.queue.bytes(),
+                b"@",
+                at.host.bytes(),
+                b"=",
+                slots.as_bytes(),
+            ],
+        )?;
     }
     Ok(())
 }
@@ -155,8 +142,7 @@ fn push_spans(
     name: &[u8],
     spans: &[TaskSpan],
 ) -> Result<(), AllocError> {
-    text.append(b" ")?;
-    text.append(name)?;
+    append_all(text, &[b" ", name])?;
     for span in spans {
         let (first, last, step) = (span.first, span.last, span.step);
         text.append(format!(in alloc; " {first}-{last}:{step}")?.as_bytes())?;
@@ -167,8 +153,7 @@ fn push_spans(
 fn push_queues(text: &mut Text, queues: &[Text]) -> Result<(), AllocError> {
     text.append(b"queues")?;
     for queue in queues {
-        text.append(b" ")?;
-        text.append(queue.bytes())?;
+        append_all(text, &[b" ", queue.bytes()])?;
     }
     text.append(b"\n")
 }
@@ -181,11 +166,8 @@ fn push_request(alloc: Global, text: &mut Text, request: &Request) -> Result<(),
     text.append(b"\n")?;
     push_queues(text, request.queues.items())?;
     if let Some(pe) = &request.pe {
-        text.append(b"pe ")?;
-        text.append(pe.name.bytes())?;
-        push_number(alloc, text, "low", u64::from(pe.low))?;
-        push_number(alloc, text, "high", u64::from(pe.high))?;
-        text.append(b"\n")?;
+        let range = format!(in alloc; " low {} high {}\n", pe.low, pe.high)?;
+        append_all(text, &[b"pe ", pe.name.bytes(), range.as_bytes()])?;
     }
     Ok(())
 }
@@ -248,8 +230,7 @@ fn push_advance(
     advance: &Advance,
 ) -> Result<(), AllocError> {
     text.append(format!(in alloc; "advance key {key}")?.as_bytes())?;
-    push_text(text, b"group", &advance.group)?;
-    text.append(b"\n")?;
+    append_all(text, &[b" group ", advance.group.bytes(), b"\n"])?;
     push_request(alloc, text, &advance.request)
 }
 
@@ -263,8 +244,7 @@ fn push_advances(alloc: Global, text: &mut Text, cluster: &Cluster) -> Result<()
 // What each host has reported.
 fn push_loads(alloc: Global, text: &mut Text, cluster: &Cluster) -> Result<(), AllocError> {
     for (name, host) in cluster.hosts.iter() {
-        text.append(b"load ")?;
-        text.append(name.bytes())?;
+        append_all(text, &[b"load ", name.bytes()])?;
         push_values(alloc, text, &host.load)?;
         text.append(b"\n")?;
     }
@@ -275,10 +255,12 @@ fn push_loads(alloc: Global, text: &mut Text, cluster: &Cluster) -> Result<(), A
 fn push_usage(alloc: Global, text: &mut Text, cluster: &Cluster) -> Result<(), AllocError> {
     for (key, sum) in cluster.usage.iter() {
         let (epoch, sum) = (key.2, *sum);
-        text.append(b"usage")?;
-        push_text(text, b"user", &key.0)?;
-        push_text(text, b"project", &key.1)?;
-        text.append(format!(in alloc; " epoch {epoch} sum {sum}\n")?.as_bytes())?;
+        let line = format!(in alloc; " epoch {epoch} sum {sum}\n")?;
+        let (user, project) = (key.0.bytes(), key.1.bytes());
+        append_all(
+            text,
+            &[b"usage user ", user, b" project ", project, line.as_bytes()],
+        )?;
     }
     Ok(())
 }
@@ -299,22 +281,22 @@ fn push_cluster(alloc: Global, text: &mut Text, cluster: &Cluster) -> Result<(),
 fn push_tables(alloc: Global, text: &mut Text, cluster: &Cluster) -> Result<(), AllocError> {
     text.append(b"tables")?;
     let fields = [
-        ("complexes", cluster.complexes.len()),
-        ("hosts", cluster.hosts.len()),
-        ("groups", cluster.groups.len()),
-        ("queues", cluster.queues.len()),
-        ("pes", cluster.pes.len()),
-        ("quotas", cluster.quotas.len()),
-        ("sets", cluster.sets.len()),
-        ("users", cluster.users.len()),
-        ("projects", cluster.projects.len()),
-        ("shares", cluster.shares.len()),
-        ("jobs", cluster.jobs.len()),
-        ("usage", cluster.usage.len()),
-        ("lines", cluster.lines.len()),
-        ("advances", cluster.advances.len()),
+        ("complexes", cluster.complexes.len() as u64),
+        ("hosts", cluster.hosts.len() as u64),
+        ("groups", cluster.groups.len() as u64),
+        ("queues", cluster.queues.len() as u64),
+        ("pes", cluster.pes.len() as u64),
+        ("quotas", cluster.quotas.len() as u64),
+        ("sets", cluster.sets.len() as u64),
+        ("users", cluster.users.len() as u64),
+        ("projects", cluster.projects.len() as u64),
+        ("shares", cluster.shares.len() as u64),
+        ("jobs", cluster.jobs.len() as u64),
+        ("usage", cluster.usage.len() as u64),
+        ("lines", cluster.lines.len() as u64),
+        ("advances", cluster.advances.len() as u64),
     ];
-    push_counts(alloc, text, fields.as_slice())?;
+    push_numbers(alloc, text, fields.as_slice())?;
     text.append(b"\n")
 }
 
@@ -350,7 +332,7 @@ fn push_reply(
 /// line the format and the bytes of entries that are applied to it; and then a script. It tells
 /// by the names of the fields what no command shows of the cluster, and then the reply to each
 /// request over this same cluster, with the bytes of the entry that the request makes.
-pub(crate) fn cluster_page(alloc: Global, body: &[u8]) -> io::Result<Vec<u8>> {
+pub(crate) fn cluster_page(alloc: Global, body: &[u8]) -> Result<Vec<u8>, AllocError> {
     let rest = behind(b'\n', body);
     let mut cluster = cluster_on(alloc, before(b'\n', body))?;
     apply_all(alloc, &mut cluster, before(b'\n', rest))?;
@@ -359,6 +341,5 @@ pub(crate) fn cluster_page(alloc: Global, body: &[u8]) -> io::Result<Vec<u8>> {
     for event in read_events(alloc, behind(b'\n', rest))?.items() {
         push_reply(alloc, &mut text, &cluster, event)?;
     }
-    let told = Vec::from_slice(alloc, text.bytes())?;
-    Ok(told)
+    Vec::from_slice(alloc, text.bytes())
 }

@@ -4,6 +4,7 @@ use crate::answers::{is_named, no_call};
 use ge_pieces::*;
 use ge_rows::{List, Text};
 use ge_text::{TextFault, words};
+use ge_trials_rows::append_all;
 use std::alloc::{AllocError, Global};
 
 /// Longer lines are not tried as words.
@@ -13,9 +14,7 @@ const MOST: usize = 1000;
 fn bracketed(alloc: Global, texts: &List<Text>) -> Result<Text, AllocError> {
     let mut line = Text::new(alloc);
     for text in texts.items() {
-        line.append(b"[")?;
-        line.append(text.bytes())?;
-        line.append(b"]")?;
+        append_all(&mut line, &[b"[", text.bytes(), b"]"])?;
     }
     Ok(line)
 }
@@ -24,9 +23,7 @@ fn bracketed(alloc: Global, texts: &List<Text>) -> Result<Text, AllocError> {
 fn lent_bracketed(alloc: Global, texts: &[&[u8]]) -> Result<Text, AllocError> {
     let mut line = Text::new(alloc);
     for text in texts {
-        line.append(b"[")?;
-        line.append(text)?;
-        line.append(b"]")?;
+        append_all(&mut line, &[b"[", text, b"]"])?;
     }
     Ok(line)
 }

@@ -11,9 +11,9 @@ use ge_scheduling::{all_wait, basis_of, begin_run, decide_tasks, decisions_of, o
 use ge_tickets::{share_tickets, tickets, usage_at};
 use ge_trials_rows::made;
 use std::alloc::{AllocError, Global};
-use std::io;
 
-fn push_line(text: &mut Vec<u8>, line: &String) -> Result<(), AllocError> {
+/// Adds a line.
+pub(crate) fn push_line(text: &mut Vec<u8>, line: &String) -> Result<(), AllocError> {
     text.extend_from_slice(line.as_bytes())?;
     text.extend_from_slice(b"\n")
 }
@@ -251,7 +251,7 @@ fn tell_parted_run(
 /// without the share tree, where jobs have no tickets but their own; the order of the tasks; which
 /// jobs come before the bound, and which behind; the decisions of a run; and those of a run in two
 /// parts, behind whether tasks wait.
-pub(crate) fn figures_page(alloc: Global, body: &[u8]) -> io::Result<Vec<u8>> {
+pub(crate) fn figures_page(alloc: Global, body: &[u8]) -> Result<Vec<u8>, AllocError> {
     let (line, lines) = (before(b'\n', body), behind(b'\n', body));
     let (now, few) = (
         digits_worth(first_word(line)),

@@ -2,9 +2,12 @@
 
 use crate::answers::{is_named, no_call, yes_or_no};
 use ge_model_rows::GroupFault;
+use ge_opening_cluster::opening;
 use ge_pieces::{before, behind, join, slices_at, words_between};
-use ge_rows::{Groups, List, Table, Text, opening};
+use ge_printing::join_words;
+use ge_rows::{Groups, List, Table, Text};
 use ge_site::{MembersFault, expand, group_has, has_loop, hosts_of, is_a_group, members};
+use ge_trials_rows::append_all;
 use std::alloc::{AllocError, Global};
 
 fn groups_of(alloc: Global, text: &[u8]) -> Result<Table<Text, List<Text>>, AllocError> {
@@ -19,10 +22,7 @@ fn groups_of(alloc: Global, text: &[u8]) -> Result<Table<Text, List<Text>>, Allo
 
 // A word and a name, with a blank between.
 fn with_word(alloc: Global, word: &[u8], name: &Text) -> Result<Text, AllocError> {
-    let mut text = Text::from_bytes(alloc, word)?;
-    text.append(b" ")?;
-    text.append(name.bytes())?;
-    Ok(text)
+    join_words(alloc, b" ", &[word, name.bytes()])
 }
 
 // The hosts of the group `@a`, or why it has none.
@@ -48,10 +48,8 @@ fn spelled(alloc: Global, given: &[u8]) -> Result<Groups, AllocError> {
 fn written(alloc: Global, groups: &Groups) -> Result<Text, AllocError> {
     let mut line = Text::new(alloc);
     for (name, hosts) in groups.hosts.iter() {
-        line.append(name.bytes())?;
-        line.append(b"=")?;
-        line.append(join(alloc, b" ", hosts.items())?.bytes())?;
-        line.append(b";")?;
+        let hosts = join(alloc, b" ", hosts.items())?;
+        append_all(&mut line, &[name.bytes(), b"=", hosts.bytes(), b";"])?;
     }
     Ok(line)
 }

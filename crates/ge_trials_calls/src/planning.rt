@@ -1,7 +1,8 @@
 //! A cluster that a script makes.
 
 use ge_core::{apply, plan};
-use ge_rows::{Cluster, opening};
+use ge_opening_cluster::opening;
+use ge_rows::Cluster;
 use ge_trials_rows::read_events;
 use std::alloc::{AllocError, Global};
 

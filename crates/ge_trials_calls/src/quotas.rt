@@ -2,18 +2,16 @@
 
 use crate::answers::{is_named, number};
 use crate::sites::Site;
+use ge_printing::join_words;
 use ge_quota::{Who, keys, limit_key};
 use ge_rows::{QuotaKey, Text};
 use std::alloc::{AllocError, Global};
 
 // A key's rule, its user in brackets and its host.
 fn shown(alloc: Global, key: &QuotaKey) -> Result<Text, AllocError> {
-    let mut line = Text::from_bytes(alloc, key.rule.to_string(alloc)?.as_bytes())?;
-    line.append(b" [")?;
-    line.append(key.user.bytes())?;
-    line.append(b"] ")?;
-    line.append(key.host.bytes())?;
-    Ok(line)
+    let rule = key.rule.to_string(alloc)?;
+    let (user, host) = (key.user.bytes(), key.host.bytes());
+    join_words(alloc, b"", &[rule.as_bytes(), b" [", user, b"] ", host])
 }
 
 fn found(alloc: Global, site: &Site, who: &Who<'_>) -> Result<Text, AllocError> {

@@ -1,17 +1,12 @@
 //! The table of jobs behind a script: its sums, its marks, and its short rows.
 
+use crate::figures::push_line;
 use crate::planning::cluster_behind;
 use ge_pieces::{before, behind, behind_word, digits_worth, first_word, or_none_text};
 use ge_rows::{JobFacts, JobMark, JobTable, MarkSort, ShortRow};
 use ge_trials_rows::{made, times_borne};
 use std::alloc::{AllocError, Global};
 use std::collections::BTreeMap;
-use std::io;
-
-fn push_line(text: &mut Vec<u8>, line: &String) -> Result<(), AllocError> {
-    text.extend_from_slice(line.as_bytes())?;
-    text.extend_from_slice(b"\n")
-}
 
 fn sort_word(sort: MarkSort) -> &'static str {
     match sort {
@@ -196,7 +191,7 @@ fn push_shorts(alloc: Global, text: &mut Vec<u8>, jobs: &JobTable) -> Result<(),
 /// named as the owner is; each mark with each job that bears it, in order, with the first of them
 /// how often and by how many it is borne; and of each job's short row the places of its labels
 /// among all labels, each where it stands first, and the facts.
-pub(crate) fn table_page(alloc: Global, body: &[u8]) -> io::Result<Vec<u8>> {
+pub(crate) fn table_page(alloc: Global, body: &[u8]) -> Result<Vec<u8>, AllocError> {
     let (head, lines) = (before(b'\n', body), behind(b'\n', body));
     let script = made(alloc, lines)?;
     let cluster = cluster_behind(alloc, script.as_slice())?;

@@ -4,8 +4,6 @@ use ge_pieces::{join, slices_at};
 use ge_rows::{List, Text, Twin};
 use std::alloc::{AllocError, Global};
 use std::cmp::Ordering;
-use std::io;
-use std::io::ErrorKind;
 
 fn order_word(order: Ordering) -> &'static [u8] {
     match order {
@@ -92,13 +90,12 @@ fn push_list(
     push_line(text, &[size.as_bytes(), items.bytes(), copied])
 }
 
-fn push_row(alloc: Global, text: &mut Vec<u8>, line: &[u8]) -> io::Result<()> {
+fn push_row(alloc: Global, text: &mut Vec<u8>, line: &[u8]) -> Result<(), AllocError> {
     match slices_at(alloc, b' ', line)?.as_slice() {
-        [own, other] => push_texts(alloc, text, own, other)?,
-        [first, between, last] => push_list(alloc, text, first, between, last)?,
-        _ => return Err(io::Error::from(ErrorKind::InvalidInput)),
+        [own, other] => push_texts(alloc, text, own, other),
+        [first, between, last] => push_list(alloc, text, first, between, last),
+        _ => push_line(text, &[b"no such row"]),
     }
-    Ok(())
 }
 
 /// A page `texts`: on each line two texts or three, with blanks between them. Of two it tells how
@@ -107,7 +104,7 @@ fn push_row(alloc: Global, text: &mut Vec<u8>, line: &[u8]) -> io::Result<()> {
 /// cut behind the byte that came first, what the last byte is, and whether without that byte they
 /// are the same as the first. Of three it tells how long the list of the first and the last is,
 /// the list once the second stands between them, and whether a copy is the same.
-pub(crate) fn texts_page(alloc: Global, body: &[u8]) -> io::Result<Vec<u8>> {
+pub(crate) fn texts_page(alloc: Global, body: &[u8]) -> Result<Vec<u8>, AllocError> {
     let mut text = Vec::new(alloc);
     for line in slices_at(alloc, b'\n', body)?.as_slice() {
         push_row(alloc, &mut text, line)?;

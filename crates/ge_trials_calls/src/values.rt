@@ -4,8 +4,10 @@ use crate::answers::{is_named, no_call, yes_or_no};
 use ge_complex::{
     ComplexFinder, ValueError, admits, complex_named, pair_text, read_value, value_text,
 };
+use ge_opening_cluster::opening;
 use ge_pieces::{before, behind, digits_worth};
-use ge_rows::{Cluster, ComplexDef, Consumable, Kind, Relop, Requestable, Text, Value, opening};
+use ge_printing::join_words;
+use ge_rows::{Cluster, ComplexDef, Consumable, Kind, Relop, Requestable, Text, Value};
 use std::alloc::{AllocError, Global};
 
 fn kind_by(letter: u8) -> Kind {
@@ -131,10 +133,9 @@ fn found(alloc: Global, c: &Cluster, word: Text) -> Result<Text, AllocError> {
 fn named(alloc: Global, given: &[u8]) -> Result<Text, AllocError> {
     let c = with_second(alloc)?;
     let word = Text::from_bytes(alloc, given)?;
-    let mut line = walked(alloc, &c, &word)?;
-    line.append(b", ")?;
-    line.append(found(alloc, &c, word)?.bytes())?;
-    Ok(line)
+    let walked = walked(alloc, &c, &word)?;
+    let found = found(alloc, &c, word)?;
+    join_words(alloc, b", ", &[walked.bytes(), found.bytes()])
 }
 
 fn pair(alloc: Global, name: &[u8], value: &Value) -> Result<Text, AllocError> {

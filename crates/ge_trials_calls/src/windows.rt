@@ -4,7 +4,6 @@ use ge_pieces::{behind_word, digits_worth, first_word};
 use ge_rows::{Booking, Demand, InstanceId, LimitId, List, TaskId, Text};
 use ge_timeline::Timeline;
 use std::alloc::{AllocError, Global};
-use std::io;
 
 // The slots of an instance.
 fn slots(alloc: Global) -> Result<LimitId, AllocError> {
@@ -58,7 +57,7 @@ fn count_wrong(timeline: &Timeline, limit: &LimitId, jobs: u32) -> u32 {
 
 /// A page `windows`: how many jobs book a slot limit one after the other, and how often a window at each is looked at. It tells
 /// each time how many windows have another greatest sum than they should.
-pub(crate) fn windows_page(alloc: Global, body: &[u8]) -> io::Result<Vec<u8>> {
+pub(crate) fn windows_page(alloc: Global, body: &[u8]) -> Result<Vec<u8>, AllocError> {
     let jobs = digits_worth(first_word(body)).min(100_000) as u32;
     let limit = slots(alloc)?;
     let timeline = booked(alloc, jobs)?;

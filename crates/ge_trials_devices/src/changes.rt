@@ -1,52 +1,49 @@
 //! Entries that are applied to the opening cluster one after the other, and what the table of
 //! jobs tells behind each.
 
-use crate::changes_told;
+use crate::changes_told::{push_checksum, push_told};
 use ge_applying::apply;
 use ge_codec::Canon;
-use ge_pieces::{before, behind, behind_word, digits_worth, first_word, is_word, slices_at};
-use ge_rows::{Cluster, Entry, JobMark, MarkSort, opening};
-use ge_trials_rows::bytes_of;
+use ge_opening_cluster::opening;
+use ge_pieces::{behind_word, digits_worth, first_word, is_word, slices_at};
+use ge_rows::{Cluster, Entry, JobMark, MarkSort};
+use ge_trials_rows::{at_bar, bytes_of};
 use std::alloc::{AllocError, Global};
-use std::io;
-use std::io::ErrorKind;
-
-fn invalid() -> io::Error {
-    io::Error::from(ErrorKind::InvalidData)
-}
 
 // The entry that the bytes of a text are.
-fn entry_of(alloc: Global, text: &[u8]) -> io::Result<Entry> {
-    let none = Vec::new(alloc);
-    let bytes = bytes_of(alloc, text, &none)?;
-    let (entry, end) = Entry::take(alloc, bytes.as_slice(), 0).map_err(|_| invalid())?;
-    if end < bytes.len() {
-        return Err(invalid());
+fn entry_of(alloc: Global, text: &[u8]) -> Result<Option<Entry>, AllocError> {
+    let bytes = bytes_of(alloc, text)?;
+    match Entry::take(alloc, bytes.as_slice(), 0) {
+        Ok((entry, end)) => {
+            if end < bytes.len() {
+                return Ok(None);
+            }
+            Ok(Some(entry))
+        }
+        Err(_) => Ok(None),
     }
-    Ok(entry)
 }
 
-fn sort_of(word: &[u8]) -> Option<MarkSort> {
+// The sort of a mark that a word names, an attribute where it names no other.
+fn sort_of(word: &[u8]) -> MarkSort {
     if is_word(word, b"runs") {
-        Some(MarkSort::Runs)
+        MarkSort::Runs
     } else if is_word(word, b"serial") {
-        Some(MarkSort::Serial)
+        MarkSort::Serial
     } else if is_word(word, b"queue") {
-        Some(MarkSort::Queue)
+        MarkSort::Queue
     } else if is_word(word, b"host") {
-        Some(MarkSort::Host)
+        MarkSort::Host
     } else if is_word(word, b"owner") {
-        Some(MarkSort::Owner)
+        MarkSort::Owner
     } else if is_word(word, b"project") {
-        Some(MarkSort::Project)
+        MarkSort::Project
     } else if is_word(word, b"advance") {
-        Some(MarkSort::Advance)
+        MarkSort::Advance
     } else if is_word(word, b"pe") {
-        Some(MarkSort::Pe)
-    } else if is_word(word, b"attribute") {
-        Some(MarkSort::Attribute)
+        MarkSort::Pe
     } else {
-        None
+        MarkSort::Attribute
     }
 }
 
@@ -68,17 +65,34 @@ fn mark_of(
 }
 
 // What is told of what a row asks.
-fn told(alloc: Global, cluster: &Cluster, asked: &[u8]) -> io::Result<String> {
+fn push_asked(
+    alloc: Global,
+    text: &mut Vec<u8>,
+    cluster: &Cluster,
+    asked: &[u8],
+) -> Result<(), AllocError> {
     let serial = cluster
         .next_serial
         .saturating_sub(digits_worth(first_word(asked)));
     let words = behind_word(asked);
-    let Some(sort) = sort_of(first_word(words)) else {
-        return Err(invalid());
-    };
+    let sort = sort_of(first_word(words));
     let wanted = mark_of(alloc, sort, serial, behind_word(words))?;
-    let line = changes_told::line(alloc, cluster, serial, &wanted)?;
-    Ok(line)
+    push_told(alloc, text, cluster, serial, &wanted)
+}
+
+// Applies the entry of a row, and tells what the row asks.
+fn push_row(
+    alloc: Global,
+    text: &mut Vec<u8>,
+    cluster: &mut Cluster,
+    row: &[u8],
+) -> Result<(), AllocError> {
+    let (asked, entry) = at_bar(row);
+    match entry_of(alloc, entry)? {
+        Some(entry) => apply(alloc, cluster, entry)?,
+        None => return text.extend_from_slice(b"no entry"),
+    }
+    push_asked(alloc, text, cluster, asked)
 }
 
 /// A page `changes`: an entry on each line, as `BACK SORT NAMES|BYTES`. What the table of jobs
@@ -86,16 +100,15 @@ fn told(alloc: Global, cluster: &Cluster, asked: &[u8]) -> io::Result<String> {
 /// one, and the jobs that bear a mark with how often they bear it. The mark's sort has no name,
 /// up to two, or a number. Behind each hundredth entry the checksum of the cluster's bytes is
 /// told too.
-pub(crate) fn changes_page(alloc: Global, body: &[u8]) -> io::Result<Vec<u8>> {
+pub(crate) fn changes_page(alloc: Global, body: &[u8]) -> Result<Vec<u8>, AllocError> {
     let mut cluster = opening(alloc)?;
     let mut text = Vec::new(alloc);
     let mut count: u64 = 0;
     for row in slices_at(alloc, b'\n', body)?.as_slice() {
-        apply(alloc, &mut cluster, entry_of(alloc, behind(b'|', row))?)?;
-        text.extend_from_slice(told(alloc, &cluster, before(b'|', row))?.as_bytes())?;
+        push_row(alloc, &mut text, &mut cluster, row)?;
         count = count.saturating_add(1);
         if count % 100 == 0 {
-            changes_told::push_checksum(alloc, &mut text, &cluster)?;
+            push_checksum(alloc, &mut text, &cluster)?;
         }
         text.extend_from_slice(b"\n")?;
     }

@@ -6,38 +6,19 @@ use ge_snapshot::put_cluster;
 use ge_trials_rows::{checksum, times_borne};
 use std::alloc::{AllocError, Global};
 
-// The two totals: live tasks, and bytes of scripts.
-fn push_totals(alloc: Global, line: &mut String, cluster: &Cluster) -> Result<(), AllocError> {
-    let (tasks, scripts) = cluster.jobs.totals();
-    line.push_str(&format!(in alloc; "{tasks} {scripts}, ")?)
-}
-
 // The task of a serial, or a dash.
-fn push_running(
-    alloc: Global,
-    line: &mut String,
-    cluster: &Cluster,
-    of: u64,
-) -> Result<(), AllocError> {
+fn running_words(alloc: Global, cluster: &Cluster, of: u64) -> Result<String, AllocError> {
     match find_running(alloc, &cluster.jobs, of) {
-        Some((job, _, task, _)) => line.push_str(&format!(in alloc; "{job}.{task}, ")?),
-        None => line.push_str("-, "),
+        Some((job, _, task, _)) => format!(in alloc; "{job}.{task}"),
+        None => String::from_str(alloc, "-"),
     }
 }
 
-// How often a mark is borne, and the jobs that bear it.
-fn push_bearers(
-    alloc: Global,
-    line: &mut String,
-    cluster: &Cluster,
-    wanted: &JobMark,
-) -> Result<(), AllocError> {
-    let bearers = cluster.jobs.bearers(alloc, wanted)?;
-    let times = times_borne(alloc, &cluster.jobs, bearers.as_slice(), wanted)?;
-    line.push_str(&format!(in alloc; "{times}:")?)?;
-    for job in bearers.as_slice() {
+// Numbers of jobs, each behind a blank.
+fn push_numbers(alloc: Global, text: &mut Vec<u8>, numbers: &[u32]) -> Result<(), AllocError> {
+    for job in numbers {
         let number = *job;
-        line.push_str(&format!(in alloc; " {number}")?)?;
+        text.extend_from_slice(format!(in alloc; " {number}")?.as_bytes())?;
     }
     Ok(())
 }
@@ -54,16 +35,20 @@ pub(crate) fn push_checksum(
     text.extend_from_slice(format!(in alloc; ", {sum}")?.as_bytes())
 }
 
-/// The totals, the task of a serial, and how often a mark is borne and by which jobs.
-pub(crate) fn line(
+/// The totals, live tasks and bytes of scripts; the task of a serial; and how often a mark is
+/// borne and by which jobs.
+pub(crate) fn push_told(
     alloc: Global,
+    text: &mut Vec<u8>,
     cluster: &Cluster,
     serial: u64,
     wanted: &JobMark,
-) -> Result<String, AllocError> {
-    let mut line = String::new(alloc);
-    push_totals(alloc, &mut line, cluster)?;
-    push_running(alloc, &mut line, cluster, serial)?;
-    push_bearers(alloc, &mut line, cluster, wanted)?;
-    Ok(line)
+) -> Result<(), AllocError> {
+    let (tasks, scripts) = cluster.jobs.totals();
+    let running = running_words(alloc, cluster, serial)?;
+    let bearers = cluster.jobs.bearers(alloc, wanted)?;
+    let times = times_borne(alloc, &cluster.jobs, bearers.as_slice(), wanted)?;
+    let told = format!(in alloc; "{tasks} {scripts}, {running}, {times}:")?;
+    text.extend_from_slice(told.as_bytes())?;
+    push_numbers(alloc, text, bearers.as_slice())
 }

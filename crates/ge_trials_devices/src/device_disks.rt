@@ -3,8 +3,8 @@ ghost use Rattle.ge_model_journal.specs.Disk.{IsWithin};
 ghost use Rattle.ge_outside.specs.MemoryDisks.{disk_told};
 
 use ge_outside::{Disk, Failed, MemDisk};
-use ge_pieces::digits_worth;
 use ge_rows::Text;
+use ge_trials_rows::{append_hex, failing};
 use std::alloc::{AllocError, Global};
 
 // How an answer without a value is told.
@@ -34,11 +34,7 @@ fn append_read(alloc: Global, line: &mut Text, disk: &mut MemDisk) -> Result<(),
 /// A row `disk CALL`: `abcd`, over which `xyz` is written from place 2 on, read, and then `!` is
 /// written at its front, where a call fails.
 pub(crate) fn told(alloc: Global, given: &[u8]) -> Result<Text, AllocError> {
-    let mut disk = MemDisk::new(
-        alloc,
-        b"abcd".to_vec(alloc)?,
-        [digits_worth(given)].to_vec(alloc)?,
-    );
+    let mut disk = MemDisk::new(alloc, b"abcd".to_vec(alloc)?, failing(alloc, given)?);
     let mut line = Text::new(alloc);
     if disk.write_at(2, b"xyz").is_ok() {
         append_read(alloc, &mut line, &mut disk)?;
@@ -63,7 +59,7 @@ fn append_image(
     disk: &MemDisk,
     pick: u64,
 ) -> Result<(), AllocError> {
-    line.append(hex::encode(alloc, disk.image(pick)?.bytes())?.as_bytes())?;
+    append_hex(alloc, line, disk.image(pick)?.bytes())?;
     line.append(b" ")
 }
 

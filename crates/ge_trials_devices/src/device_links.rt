@@ -2,8 +2,8 @@
 ghost use Rattle.std.specs.Prelude.{◌≡◌, ◌+◌, OnOk};
 
 use ge_outside::{Door, Failed, Link, MemDoor, MemLink, Sink, Source};
-use ge_pieces::{before, behind, digits_worth};
 use ge_rows::Text;
+use ge_trials_rows::{append_closed, at_bar, failing};
 use std::alloc::{AllocError, Global};
 
 // A read of a link that answers leaves the sum of its counts of faults, since it leaves the side
@@ -25,9 +25,9 @@ fn write_link<L: Link>(link: &mut L, piece: &[u8]) -> Result<usize, Failed>
 fn let_go<L: Link>(_link: L) {}
 
 // A door with one link that holds these bytes and fails at one call.
-fn door_of(alloc: Global, fails: u64, bytes: &[u8]) -> Result<MemDoor, AllocError> {
+fn door_of(alloc: Global, call: &[u8], bytes: &[u8]) -> Result<MemDoor, AllocError> {
     let mut links = Vec::new(alloc);
-    links.push(MemLink::new(alloc, bytes.to_vec(alloc)?, [fails].to_vec(alloc)?))?;
+    links.push(MemLink::new(alloc, bytes.to_vec(alloc)?, failing(alloc, call)?))?;
     Ok(MemDoor::new(alloc, links, Vec::new(alloc)))
 }
 
@@ -58,16 +58,6 @@ fn used(alloc: Global, link: &mut MemLink, piece: &[u8]) -> Result<Text, AllocEr
     Ok(line)
 }
 
-// What was written to the links that were closed, each in brackets.
-fn append_closed(line: &mut Text, door: &MemDoor) -> Result<(), AllocError> {
-    for link in door.closed_links() {
-        line.append(b"[")?;
-        line.append(link.written())?;
-        line.append(b"]")?;
-    }
-    Ok(())
-}
-
 // Whether another link comes.
 fn append_next(line: &mut Text, door: &mut MemDoor) -> Result<(), AllocError> {
     match door.accept() {
@@ -79,10 +69,10 @@ fn append_next(line: &mut Text, door: &mut MemDoor) -> Result<(), AllocError> {
 /// A row `link CALL|BYTES|BYTES`: a link comes, is used and is closed. The call fails, the first
 /// bytes are there, and the others are written.
 pub(crate) fn told(alloc: Global, given: &[u8]) -> Result<Text, AllocError> {
-    let (fails, rest) = (digits_worth(before(b'|', given)), behind(b'|', given));
-    let (bytes, piece) = (before(b'|', rest), behind(b'|', rest));
+    let (call, rest) = at_bar(given);
+    let (bytes, piece) = at_bar(rest);
     let_go(MemLink::new(alloc, Vec::new(alloc), Vec::new(alloc)));
-    let mut door = door_of(alloc, fails, bytes)?;
+    let mut door = door_of(alloc, call, bytes)?;
     let Ok(mut link) = door.accept() else {
         return Text::from_bytes(alloc, b"no link");
     };

@@ -4,12 +4,10 @@ use crate::{device_disks, device_links};
 use ge_outside::{
     Clock, Failed, MemClock, MemSink, MemSource, PlainSource, Sink, Source, write_all,
 };
-use ge_pieces::{before, behind, behind_word, digits_worth, first_word, is_word, slices_at};
+use ge_pieces::is_word;
 use ge_rows::Text;
-use ge_trials_rows::push_answer;
+use ge_trials_rows::{Rows, at_bar, failing, moments, no_such_row};
 use std::alloc::{AllocError, Global};
-use std::io;
-use std::io::ErrorKind;
 
 // A sink that takes one byte at a time.
 #[derive(Drop)]
@@ -32,8 +30,8 @@ impl Sink for Slow {
 // A row `write CALL|BYTES`: whether a piece is written byte by byte, where a call fails, and
 // what has been written then.
 fn slowly(alloc: Global, given: &[u8]) -> Result<Text, AllocError> {
-    let (fails, piece) = (digits_worth(before(b'|', given)), behind(b'|', given));
-    let mut sink = Slow(MemSink::new(alloc, [fails].to_vec(alloc)?));
+    let (call, piece) = at_bar(given);
+    let mut sink = Slow(MemSink::new(alloc, failing(alloc, call)?));
     let word: &[u8] = match write_all(&mut sink, piece) {
         Ok(()) => b"written ",
         Err(Failed) => b"failed ",
@@ -58,8 +56,8 @@ fn append_read<S: Source>(line: &mut Text, source: &mut S) -> Result<(), AllocEr
 
 // A row `read CALL|BYTES`: three reads, of which one fails.
 fn read_thrice(alloc: Global, given: &[u8]) -> Result<Text, AllocError> {
-    let (fails, bytes) = (digits_worth(before(b'|', given)), behind(b'|', given));
-    let mut source = MemSource::new(bytes.to_vec(alloc)?, [fails].to_vec(alloc)?);
+    let (call, bytes) = at_bar(given);
+    let mut source = MemSource::new(bytes.to_vec(alloc)?, failing(alloc, call)?);
     let mut line = Text::new(alloc);
     append_read(&mut line, &mut source)?;
     append_read(&mut line, &mut source)?;
@@ -75,16 +73,6 @@ fn read_once(alloc: Global, bytes: &[u8]) -> Result<Text, AllocError> {
     Ok(line)
 }
 
-fn moments(alloc: Global, given: &[u8]) -> Result<Vec<u64>, AllocError> {
-    let mut moments = Vec::new(alloc);
-    for word in slices_at(alloc, b',', given)?.as_slice() {
-        if !word.is_empty() {
-            moments.push(digits_worth(word))?;
-        }
-    }
-    Ok(moments)
-}
-
 // A row `clock MOMENTS`, with commas between: what a clock shows three times.
 fn shown(alloc: Global, given: &[u8]) -> Result<Text, AllocError> {
     let mut clock = MemClock::new(moments(alloc, given)?);
@@ -93,35 +81,27 @@ fn shown(alloc: Global, given: &[u8]) -> Result<Text, AllocError> {
     Text::from_bytes(alloc, line.as_bytes())
 }
 
-// What is found of a row: what is tried, and what it is given.
-fn answer(alloc: Global, name: &[u8], given: &[u8]) -> io::Result<Text> {
-    let text = if is_word(name, b"write") {
-        slowly(alloc, given)?
-    } else if is_word(name, b"read") {
-        read_thrice(alloc, given)?
-    } else if is_word(name, b"plain") {
-        read_once(alloc, given)?
-    } else if is_word(name, b"clock") {
-        shown(alloc, given)?
-    } else if is_word(name, b"link") {
-        device_links::told(alloc, given)?
-    } else if is_word(name, b"disk") {
-        device_disks::told(alloc, given)?
-    } else if is_word(name, b"image") {
-        device_disks::images(alloc)?
-    } else {
-        return Err(io::Error::from(ErrorKind::InvalidInput));
-    };
-    Ok(text)
-}
+/// The rows of a page `devices`: what is tried, a blank, and what it is given, with bars between.
+pub(crate) struct Devices;
 
-/// A page `devices`: rows of what is tried, a blank, and what it is given, with bars between.
-/// Each row is told with what is found of it.
-pub(crate) fn devices_page(alloc: Global, body: &[u8]) -> io::Result<Vec<u8>> {
-    let mut text = Vec::new(alloc);
-    for row in slices_at(alloc, b'\n', body)?.as_slice() {
-        let found = answer(alloc, first_word(row), behind_word(row))?;
-        push_answer(alloc, &mut text, row, found.bytes())?;
+impl Rows for Devices {
+    fn answer(&self, alloc: Global, name: &[u8], given: &[u8]) -> Result<Text, AllocError> {
+        if is_word(name, b"write") {
+            slowly(alloc, given)
+        } else if is_word(name, b"read") {
+            read_thrice(alloc, given)
+        } else if is_word(name, b"plain") {
+            read_once(alloc, given)
+        } else if is_word(name, b"clock") {
+            shown(alloc, given)
+        } else if is_word(name, b"link") {
+            device_links::told(alloc, given)
+        } else if is_word(name, b"disk") {
+            device_disks::told(alloc, given)
+        } else if is_word(name, b"image") {
+            device_disks::images(alloc)
+        } else {
+            no_such_row(alloc)
+        }
     }
-    Ok(text)
 }

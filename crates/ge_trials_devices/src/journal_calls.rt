@@ -2,12 +2,11 @@
 
 use crate::journal_steps::{Step, make_steps};
 use ge_outside::MemDisk;
-use ge_pieces::{before, behind, digits_worth, is_word};
+use ge_pieces::{digits_worth, is_word};
 use ge_rows::Text;
 use ge_spool::{Raw, Spool};
-use ge_trials_rows::area;
+use ge_trials_rows::{area, at_bar};
 use std::alloc::{AllocError, Global};
-use std::io;
 
 // The bytes of the record or the snapshot that a step writes.
 fn body(alloc: Global, step: u8) -> Result<Text, AllocError> {
@@ -100,11 +99,12 @@ fn run(
 /// A row `fails CALL|CALL|WORD`: how many steps are acknowledged where these calls of the two
 /// areas fail, and whether what a stop leaves is that, or one step more where the word is
 /// `more`.
-pub(crate) fn failed(alloc: Global, given: &[u8]) -> io::Result<Text> {
-    let (fails_a, rest) = (digits_worth(before(b'|', given)), behind(b'|', given));
-    let (fails_b, word) = (digits_worth(before(b'|', rest)), behind(b'|', rest));
+pub(crate) fn failed(alloc: Global, given: &[u8]) -> Result<Text, AllocError> {
+    let (fails_a, rest) = at_bar(given);
+    let (fails_b, word) = at_bar(rest);
+    let (fails_a, fails_b) = (digits_worth(fails_a), digits_worth(fails_b));
     let (count, stands) = run(alloc, fails_a, fails_b, is_word(word, b"more"))?;
     let word: &str = if stands { "stands" } else { "is lost" };
     let line = format!(in alloc; "{count} {word}")?;
-    Ok(Text::from_bytes(alloc, line.as_bytes())?)
+    Text::from_bytes(alloc, line.as_bytes())
 }

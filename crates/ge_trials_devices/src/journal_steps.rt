@@ -3,14 +3,13 @@ ghost use Rattle.ge_outside.specs.MemoryDisks.{disk_told};
 ghost use Rattle.ge_spool.specs.Settled.{KeepsRoom};
 
 use crate::journal_areas::stands_at;
-use crate::journals::{append_areas, area_of};
+use crate::journals::append_areas;
 use ge_outside::MemDisk;
-use ge_pieces::{before, behind, is_word, slices_at};
+use ge_pieces::{is_word, slices_at};
 use ge_rows::Text;
 use ge_spool::{RecordBytes, SnapshotBytes, Spool, WRITTEN_FORMAT};
-use ge_trials_rows::bytes_of;
+use ge_trials_rows::{area_of, at_bar, bytes_of};
 use std::alloc::{AllocError, Global};
-use std::io;
 
 /// A record or a snapshot that is written.
 #[derive(Drop)]
@@ -68,17 +67,15 @@ pub(crate) fn make_steps(
 }
 
 // A step that is written as `r` or `s` and hex digits.
-fn step_of(alloc: Global, word: &[u8]) -> io::Result<Step> {
+fn step_of(alloc: Global, word: &[u8]) -> Result<Step, AllocError> {
     let (first, digits) = word.split_at(word.len().min(1));
-    let none = Vec::new(alloc);
-    let bytes = bytes_of(alloc, digits, &none)?;
     Ok(Step {
         is_compaction: is_word(first, b"s"),
-        body: Text::from_bytes(alloc, bytes.as_slice())?,
+        body: Text::from_vec(bytes_of(alloc, digits)?),
     })
 }
 
-fn steps_of(alloc: Global, words: &[u8]) -> io::Result<Vec<Step>> {
+fn steps_of(alloc: Global, words: &[u8]) -> Result<Vec<Step>, AllocError> {
     let mut steps = Vec::new(alloc);
     for word in slices_at(alloc, b',', words)?.as_slice() {
         if !word.is_empty() {
@@ -91,16 +88,15 @@ fn steps_of(alloc: Global, words: &[u8]) -> io::Result<Vec<Step>> {
 /// A row `journal AREA|AREA|STEPS`: how many steps are made over two areas, where the journal
 /// then stands, and what they hold. A step is `r` for a record or `s` for a snapshot, and its
 /// bytes in hex; commas stand between.
-pub(crate) fn stepped(alloc: Global, given: &[u8]) -> io::Result<Text> {
-    let (of_a, rest) = (before(b'|', given), behind(b'|', given));
-    let (of_b, words) = (before(b'|', rest), behind(b'|', rest));
+pub(crate) fn stepped(alloc: Global, given: &[u8]) -> Result<Text, AllocError> {
+    let (of_a, rest) = at_bar(given);
+    let (of_b, words) = at_bar(rest);
     let steps = steps_of(alloc, words)?;
     let mut a = area_of(alloc, of_a, 0)?;
     let mut b = area_of(alloc, of_b, 0)?;
     let (count, place) = make_steps(alloc, &mut a, &mut b, steps.as_slice())?;
-    let mut line = Text::from_bytes(alloc, count.to_string(alloc)?.as_bytes())?;
-    line.append(b" made,")?;
-    line.append(place.as_bytes())?;
+    let told = format!(in alloc; "{count} made,{place}")?;
+    let mut line = Text::from_bytes(alloc, told.as_bytes())?;
     append_areas(alloc, &mut line, &a, &b)?;
     Ok(line)
 }

@@ -5,7 +5,6 @@ use ge_pieces::digits_worth;
 use ge_rows::Text;
 use ge_spool::{OpenFault, Raw, Spool};
 use std::alloc::{AllocError, Global};
-use std::io;
 
 // The next of a run of numbers.
 fn advanced(state: u64) -> u64 {
@@ -78,7 +77,7 @@ fn is_opened(alloc: Global, start: u64) -> Result<bool, AllocError> {
 
 /// A row `made_up NUMBER`: how many of so many pairs of areas are answered in two ways, and
 /// whether a tenth to nine tenths of them are open.
-pub(crate) fn answered(alloc: Global, given: &[u8]) -> io::Result<Text> {
+pub(crate) fn answered(alloc: Global, given: &[u8]) -> Result<Text, AllocError> {
     let many = digits_worth(given).min(1_000_000);
     let (mut differ, mut opened) = (0u64, 0u64);
     for start in 0..many {
@@ -92,5 +91,5 @@ pub(crate) fn answered(alloc: Global, given: &[u8]) -> io::Result<Text> {
     let are_some = opened > many / 10 && opened < many / 10 * 9;
     let word: &str = if are_some { "some" } else { "few or many" };
     let line = format!(in alloc; "{differ} differ, {word} open")?;
-    Ok(Text::from_bytes(alloc, line.as_bytes())?)
+    Text::from_bytes(alloc, line.as_bytes())
 }

@@ -89,7 +89,7 @@ fn status_line(
 
 /// A page `words`: on a line a command line, whose first word is the program's name, and then the script. An empty line stands
 /// for one that finds no memory. It tells how many words were read, the status, and how many bytes were written.
-pub(crate) fn words_page(alloc: Global, body: &[u8]) -> io::Result<Vec<u8>> {
+pub(crate) fn words_page(alloc: Global, body: &[u8]) -> Result<Vec<u8>, AllocError> {
     let (line, script) = (before(b'\n', body), behind(b'\n', body));
     let words = words_on(alloc, line);
     let mut text = Vec::new(alloc);

@@ -2,18 +2,30 @@
 
 use crate::areas::{Areas, Given, push_area};
 use crate::running::{run, shown};
-use ge_outside::MemSource;
+use ge_outside::{MemDisk, MemSource};
 use ge_pieces::{before, behind, behind_word, digits_worth, first_word, is_word};
-use ge_trials_rows::{area, bytes_of, made};
-use std::alloc::Global;
-use std::io;
+use ge_trials_rows::{area, area_of, made};
+use std::alloc::{AllocError, Global};
+
+// The area that a line gives, or `=`, which stands for the bytes that the run before left.
+fn area_on(alloc: Global, line: &[u8], left: &Vec<u8>) -> Result<MemDisk, AllocError> {
+    if is_word(line, b"=") {
+        area(alloc, left.as_slice(), 0)
+    } else {
+        area_of(alloc, line, 0)
+    }
+}
 
 /// A page `areas`: the words of a run, the bytes of both areas, each on a line, and then the script. It tells the bytes of both
 /// areas afterwards.
-pub(crate) fn areas_page(alloc: Global, body: &[u8], areas: &mut Areas) -> io::Result<Vec<u8>> {
+pub(crate) fn areas_page(
+    alloc: Global,
+    body: &[u8],
+    areas: &mut Areas,
+) -> Result<Vec<u8>, AllocError> {
     let given = Given::new(body);
-    let mut a = area(alloc, bytes_of(alloc, given.a, &areas.a)?.as_slice(), 0)?;
-    let mut b = area(alloc, bytes_of(alloc, given.b, &areas.b)?.as_slice(), 0)?;
+    let mut a = area_on(alloc, given.a, &areas.a)?;
+    let mut b = area_on(alloc, given.b, &areas.b)?;
     let mut input = MemSource::new(given.rest.to_vec(alloc)?, Vec::new(alloc));
     let ran = run(alloc, given.words, &mut input, 0, &mut a, &mut b)?;
     areas.a = a.bytes().to_vec(alloc)?;
@@ -35,11 +47,15 @@ fn fails_at(line: &[u8], sort: &[u8]) -> u64 {
 
 /// A page `kept`: the words of a run, the bytes of both areas, and which call fails, as `read 2`, `write 1`, or nothing, each on
 /// a line, and then the lines of a script that is made. It tells what `status` writes afterwards.
-pub(crate) fn kept_page(alloc: Global, body: &[u8], areas: &mut Areas) -> io::Result<Vec<u8>> {
+pub(crate) fn kept_page(
+    alloc: Global,
+    body: &[u8],
+    areas: &mut Areas,
+) -> Result<Vec<u8>, AllocError> {
     let given = Given::new(body);
     let (line, lines) = (before(b'\n', given.rest), behind(b'\n', given.rest));
-    let mut a = area(alloc, bytes_of(alloc, given.a, &areas.a)?.as_slice(), 0)?;
-    let mut b = area(alloc, bytes_of(alloc, given.b, &areas.b)?.as_slice(), 0)?;
+    let mut a = area_on(alloc, given.a, &areas.a)?;
+    let mut b = area_on(alloc, given.b, &areas.b)?;
     let reads = [fails_at(line, b"read")].to_vec(alloc)?;
     let mut input = MemSource::new(made(alloc, lines)?, reads);
     let write = fails_at(line, b"write");

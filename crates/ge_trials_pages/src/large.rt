@@ -6,27 +6,24 @@
 
 use crate::running::simulated;
 use ge_outside::PlainSource;
+use ge_pieces::slices_at;
 use ge_trials_rows::{checksum, made};
 use std::alloc::{AllocError, Global};
 
-fn is_feed(byte: &u8) -> bool {
-    *byte == b'\n'
-}
-
 // The front of the last line of an output, 80 bytes at most.
-fn last_line(output: &[u8]) -> &[u8] {
+fn last_line(alloc: Global, output: &[u8]) -> Result<String, AllocError> {
     let mut line: &[u8] = &[];
-    for next in output.split(|byte| is_feed(byte)) {
+    for next in slices_at(alloc, b'\n', output)?.as_slice() {
         if !next.is_empty() {
             line = next;
         }
     }
-    line.get(..80).unwrap_or(line)
+    String::from_utf8_lossy(alloc, line.get(..80).unwrap_or(line))
 }
 
-/// A page `large`, which is the lines of a script that is made. Its line is its name, the size of its script, the status, the size and the checksum of what is answered, and the front
-/// of its last line.
-pub(crate) fn line(alloc: Global, name: &[u8], lines: &[u8]) -> Result<String, AllocError> {
+/// A page `large`, which is the lines of a script that is made. Its line is its name, the size of its script, the status, the size
+/// and the checksum of what is answered, and the front of its last line.
+pub(crate) fn line(alloc: Global, name: &[u8], lines: &[u8]) -> Result<Vec<u8>, AllocError> {
     let name = String::from_utf8_lossy(alloc, name)?;
     let script = made(alloc, lines)?;
     let given = script.len();
@@ -34,6 +31,9 @@ pub(crate) fn line(alloc: Global, name: &[u8], lines: &[u8]) -> Result<String, A
     let status = ran.status;
     let size = ran.written.len();
     let sum = checksum(ran.written.as_slice());
-    let last = String::from_utf8_lossy(alloc, last_line(ran.written.as_slice()))?;
-    format!(in alloc; "{name}: {given} bytes, status {status}, {size} bytes, {sum}, {last}\n")
+    let last = last_line(alloc, ran.written.as_slice())?;
+    let told = format!(in alloc;
+        "{name}: {given} bytes, status {status}, {size} bytes, {sum}, {last}\n"
+    )?;
+    Vec::from_slice(alloc, told.as_bytes())
 }

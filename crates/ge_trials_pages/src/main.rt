@@ -1,9 +1,10 @@
-//! Runs over streams and areas in memory, one a page of the standard input: what each writes, its status, and what it leaves.
+//! All tests that cross crates, each a page of the standard input: runs over streams and areas in memory, with what each writes, its
+//! status and what it leaves; and calls alone and devices in memory, which ge_trials_calls and ge_trials_devices tell.
 //!
 //! Pages are parted by form feeds. A page's first line is its kind, a blank and its name; what stands behind it is told at the
-//! kind's function, and `pages` has them all. What is told of a page stands behind a line with its name; of a `large` one it
-//! is that line, and of a `command` what is told alone. The stored lines were worked out by hand, or are those of an independent
-//! reading of the rules.
+//! kind's function, and `pages` has those of runs and hands the others on. What is told of a page stands behind a line with its
+//! name; of a `large` one it is that line, and of a `command` what is told alone. The stored lines were worked out by hand, or are
+//! those of an independent reading of the rules.
 //!
 //! Behind the pages come processes: the program starts itself with a word that is no command, then as a server of two
 //! connections, twice as a client and once over the server's files, and writes what the clients wrote and how each of the five
@@ -20,13 +21,14 @@ mod driving;
 mod generating;
 mod keeping;
 mod large;
+mod links;
 mod masters;
 mod pages;
 mod parsing;
-mod planning;
 mod ports;
 mod readers;
 mod rendering;
+mod reopening;
 mod running;
 mod sockets;
 mod starting;
@@ -36,10 +38,12 @@ mod streaming;
 use crate::areas::Areas;
 use ge_edge::read_words;
 use ge_top::run;
-use ge_trials_rows::PAGE_END;
 use std::io;
 use std::io::{BufRead, BufReader, BufWriter, Eprint, Write};
 use std::process::ExitCode;
+
+/// What stands between two pages: a form feed.
+const PAGE_END: u8 = 0x0c;
 
 // Writes what is told of each page.
 fn tell_pages(rt: &HostRuntime) -> io::Result<()> {

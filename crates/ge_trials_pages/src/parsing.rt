@@ -17,8 +17,8 @@ fn command(alloc: Global, text: &[u8]) -> Result<Text, AllocError> {
 }
 
 /// A text's command as one line, as an independent reading of the grammar makes it.
-pub(crate) fn line(alloc: Global, text: &[u8]) -> Result<Text, AllocError> {
-    let mut line = command(alloc, text)?;
-    line.append(b"\n")?;
+pub(crate) fn line(alloc: Global, text: &[u8]) -> Result<Vec<u8>, AllocError> {
+    let mut line = Vec::from_slice(alloc, command(alloc, text)?.bytes())?;
+    line.push(b'\n')?;
     Ok(line)
 }

@@ -1,21 +1,19 @@
 //! A command as one line of a table.
 
 use ge_rows::{Command, Key, Listing, ObjectKind, Options, Pick, Query, Text};
+use ge_trials_rows::append_all;
 use std::alloc::{AllocError, Global};
 
 fn bracketed(line: &mut Text, words: &[Text]) -> Result<(), AllocError> {
     for word in words {
-        line.append(b"(")?;
-        line.append(word.bytes())?;
-        line.append(b")")?;
+        append_all(line, &[b"(", word.bytes(), b")"])?;
     }
     Ok(())
 }
 
 fn options(line: &mut Text, options: &Options) -> Result<(), AllocError> {
     for (name, words) in options.items.items() {
-        line.append(b" ")?;
-        line.append(name.bytes())?;
+        append_all(line, &[b" ", name.bytes()])?;
         bracketed(line, words.items())?;
     }
     Ok(())
@@ -73,22 +71,17 @@ fn kind(kind: ObjectKind) -> &'static [u8] {
 
 fn key(line: &mut Text, key: &Key) -> Result<(), AllocError> {
     line.append(kind(key.kind))?;
-    line.append(b" ")?;
-    line.append(key.name.bytes())
+    append_all(line, &[b" ", key.name.bytes()])
 }
 
 fn body(line: &mut Text, of: ObjectKind, text: &Text) -> Result<(), AllocError> {
     line.append(kind(of))?;
-    line.append(b" |")?;
-    line.append(text.bytes())
+    append_all(line, &[b" |", text.bytes()])
 }
 
 fn listing(alloc: Global, line: &mut Text, listing: &Listing) -> Result<(), AllocError> {
     match listing {
-        Listing::All(pattern) => {
-            line.append(b"jobs of ")?;
-            line.append(pattern.bytes())
-        }
+        Listing::All(pattern) => append_all(line, &[b"jobs of ", pattern.bytes()]),
         Listing::One(job) => {
             line.append(b"job ")?;
             number(alloc, line, u64::from(*job))
@@ -101,10 +94,7 @@ fn listing(alloc: Global, line: &mut Text, listing: &Listing) -> Result<(), Allo
 fn query(alloc: Global, line: &mut Text, query: &Query) -> Result<(), AllocError> {
     match query {
         Query::Total => line.append(b"sums"),
-        Query::Owner(owner) => {
-            line.append(b"sums of ")?;
-            line.append(owner.bytes())
-        }
+        Query::Owner(owner) => append_all(line, &[b"sums of ", owner.bytes()]),
         Query::Job(job) => {
             line.append(b"lines of ")?;
             number(alloc, line, u64::from(*job))
@@ -114,11 +104,7 @@ fn query(alloc: Global, line: &mut Text, query: &Query) -> Result<(), AllocError
 
 fn reports(line: &mut Text, reports: &[(Text, Text)]) -> Result<(), AllocError> {
     for (name, value) in reports {
-        line.append(b" ")?;
-        line.append(name.bytes())?;
-        line.append(b"(")?;
-        line.append(value.bytes())?;
-        line.append(b")")?;
+        append_all(line, &[b" ", name.bytes(), b"(", value.bytes(), b")"])?;
     }
     Ok(())
 }
@@ -132,8 +118,7 @@ fn submission(
     options(line, given)?;
     line.append(b" :")?;
     bracketed(line, words)?;
-    line.append(b" |")?;
-    line.append(script.bytes())
+    append_all(line, &[b" |", script.bytes()])
 }
 
 fn alteration(

@@ -1,10 +1,9 @@
 //! The top calls over streams and areas in memory.
 
 use ge_outside::{MemClock, MemDisk, MemDoor, MemSink, MemSource, PlainSource, Source};
-use ge_pieces::slices_at;
 use ge_top::{gridmaster, simulate};
+use ge_trials_rows::words_at;
 use std::alloc::{AllocError, Global};
-use std::io;
 
 /// What a run wrote, and its status.
 #[derive(Drop)]
@@ -30,14 +29,6 @@ impl Ran {
     }
 }
 
-fn words_of(alloc: Global, line: &[u8]) -> Result<Vec<String>, AllocError> {
-    let mut words = Vec::new(alloc);
-    for word in slices_at(alloc, b' ', line)?.as_slice() {
-        words.push(String::from_utf8_lossy(alloc, word)?)?;
-    }
-    Ok(words)
-}
-
 /// A run with the words of a line, of which one write fails, counted from 1; none where the number is 0.
 pub(crate) fn run<S: Source>(
     alloc: Global,
@@ -47,7 +38,7 @@ pub(crate) fn run<S: Source>(
     a: &mut MemDisk,
     b: &mut MemDisk,
 ) -> Result<Ran, AllocError> {
-    let words = words_of(alloc, line)?;
+    let words = words_at(alloc, b' ', line)?;
     let mut output = MemSink::new(alloc, [fails].to_vec(alloc)?);
     let mut door = MemDoor::new(alloc, Vec::new(alloc), Vec::new(alloc));
     let mut clock = MemClock::new(Vec::new(alloc));
@@ -84,8 +75,6 @@ pub(crate) fn simulated<S: Source>(alloc: Global, input: &mut S) -> Result<Ran, 
 }
 
 /// A page `simulate`, which is a script.
-pub(crate) fn script_page(alloc: Global, script: &[u8]) -> io::Result<Vec<u8>> {
-    let ran = simulated(alloc, &mut PlainSource::new(script.to_vec(alloc)?))?;
-    let text = ran.told(alloc)?;
-    Ok(text)
+pub(crate) fn script_page(alloc: Global, script: &[u8]) -> Result<Vec<u8>, AllocError> {
+    simulated(alloc, &mut PlainSource::new(script.to_vec(alloc)?))?.told(alloc)
 }

@@ -6,7 +6,6 @@ use ge_outside::{MemDisk, MemSource};
 use ge_pieces::{before, behind, is_word};
 use ge_trials_rows::{area, bytes_of, made};
 use std::alloc::{AllocError, Global};
-use std::io;
 
 // More calls of an area than any page makes.
 const CALLS: u64 = 1000;
@@ -83,14 +82,13 @@ fn try_call(
     Ok(true)
 }
 
-fn trial_of<'a>(alloc: Global, body: &'a [u8]) -> io::Result<Trial<'a>> {
+fn trial_of<'a>(alloc: Global, body: &'a [u8]) -> Result<Trial<'a>, AllocError> {
     let given = Given::new(body);
     let (which, lines) = (before(b'\n', given.rest), behind(b'\n', given.rest));
-    let none = Vec::new(alloc);
     Ok(Trial {
         words: given.words,
-        a: bytes_of(alloc, given.a, &none)?,
-        b: bytes_of(alloc, given.b, &none)?,
+        a: bytes_of(alloc, given.a)?,
+        b: bytes_of(alloc, given.b)?,
         is_second: is_word(which, b"b"),
         script: made(alloc, lines)?,
     })
@@ -99,7 +97,7 @@ fn trial_of<'a>(alloc: Global, body: &'a [u8]) -> io::Result<Trial<'a>> {
 /// A page `calls`: the words of a run, the bytes of both areas, and which of them fails, `a` or `b`, each on a line, and then
 /// the lines of a script that is made. It tells of each call of that area what a run writes in which it fails, and what
 /// `status` then writes of the areas that a stop may leave.
-pub(crate) fn calls_page(alloc: Global, body: &[u8]) -> io::Result<Vec<u8>> {
+pub(crate) fn calls_page(alloc: Global, body: &[u8]) -> Result<Vec<u8>, AllocError> {
     let trial = trial_of(alloc, body)?;
     let mut text = Vec::new(alloc);
     for call in 1..CALLS {

@@ -8,7 +8,6 @@ use ge_pieces::{before, behind, behind_word, digits_worth, first_word, is_word};
 use ge_top::simulate;
 use ge_trials_rows::{area, made};
 use std::alloc::{AllocError, Global};
-use std::io;
 use std::io::{ErrorKind, Read};
 
 // A run of `simulate` from a reader into a writer that takes so many bytes at most.
@@ -54,11 +53,10 @@ fn streamed(alloc: Global, line: &[u8], script: &[u8]) -> Result<Ran, AllocError
 /// A page `streams`: on a line the reader and how many bytes the writer takes, and then the lines of a script that is made and
 /// simulated. The reader gives single bytes, and then an `end` or an `error`; of an `interrupted` one each second read is. Of
 /// the writer each second write is interrupted. A `slow` source gives single bytes too, to a writer that takes all.
-pub(crate) fn streams_page(alloc: Global, body: &[u8]) -> io::Result<Vec<u8>> {
+pub(crate) fn streams_page(alloc: Global, body: &[u8]) -> Result<Vec<u8>, AllocError> {
     let (line, lines) = (before(b'\n', body), behind(b'\n', body));
     let script = made(alloc, lines)?;
-    let text = streamed(alloc, line, script.as_slice())?.told(alloc)?;
-    Ok(text)
+    streamed(alloc, line, script.as_slice())?.told(alloc)
 }
 
 // Adds what is told of a run over two new areas from a source that breaks off behind some bytes.
@@ -81,7 +79,7 @@ fn push_front(
 
 /// A page `fronts`: on a line the words of a run, and then the lines of a script that is made. It tells of each front of the
 /// script what a run writes whose source breaks off there, and what `status` writes then.
-pub(crate) fn fronts_page(alloc: Global, body: &[u8]) -> io::Result<Vec<u8>> {
+pub(crate) fn fronts_page(alloc: Global, body: &[u8]) -> Result<Vec<u8>, AllocError> {
     let (words, lines) = (before(b'\n', body), behind(b'\n', body));
     let script = made(alloc, lines)?;
     let mut text = Vec::new(alloc);

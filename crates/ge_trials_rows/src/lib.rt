@@ -1,23 +1,30 @@
-//! What the programs of trials share: rows and their answers, bytes in hex, scripts that a few lines make.
+//! What the crates of trials share: rows and their answers, bytes in hex, scripts that a few lines make.
 //!
-//! - [`bytes`], [`push_bytes`], [`push_answer`]: the bytes that a row gives, and the line that is told of it.
-//! - [`push_word`], [`bytes_of`], [`area`]: bytes of an area as words of hex, and an area that holds them.
-//! - [`tell_pages`]: the pages of a program, by its [`Kinds`]. [`times_borne`]: how often jobs bear a mark.
-//! - [`made`]: a script that is made from a few lines. [`read_events`]: the events of a script. [`checksum`]: of what is told.
+//! - [`tell_rows`]: a page of rows, by what answers them ([`Rows`]); [`no_such_row`]: the answer to a name that none has.
+//! - [`at_bar`], [`bytes`], [`words_at`]: what a row gives. [`push_bytes`]: bytes as an answer has them.
+//! - [`bytes_of`], [`append_hex`]: bytes as words of hex. [`area`], [`area_of`]: an area that holds some. [`append_all`]: parts of a text.
+//! - [`failing`], [`moments`], [`append_closed`]: other devices in memory. [`times_borne`]: how often jobs bear a mark.
+//! - [`made`]: a script that is made from a few lines. [`read_events`], [`first_event`]: its events. [`checksum`]: of what is told.
 #![tactic(auto)]
 
+mod appending;
 mod areas;
 mod bearing;
+mod devices;
 mod events;
 mod making;
-mod paging;
 mod rows;
 mod sums;
+mod telling;
+mod words;
 
-pub use areas::{area, bytes_of, push_word};
+pub use appending::{append_all, append_hex};
+pub use areas::{area, area_of, bytes_of};
 pub use bearing::times_borne;
-pub use events::read_events;
+pub use devices::{append_closed, failing, moments};
+pub use events::{first_event, read_events};
 pub use making::made;
-pub use paging::{Kinds, PAGE_END, tell_pages};
-pub use rows::{bytes, push_answer, push_bytes};
+pub use rows::{at_bar, bytes, push_bytes};
 pub use sums::checksum;
+pub use telling::{Rows, no_such_row, tell_rows};
+pub use words::words_at;

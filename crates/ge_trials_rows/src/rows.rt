@@ -5,20 +5,25 @@
 //! `%25%` for a `%` itself. All other bytes stand for themselves. In an answer each byte that is no plain character is in hex so,
 //! and 100 or more equal bytes are told as their number, a star and the byte.
 //!
+//! - `at_bar(text)`: what bars part.
 //! - `bytes(alloc, text)`: the bytes that a text of a row stands for. A row's parts are cut first, and then read by it.
 //! - `push_bytes(alloc, &mut text, bytes)`: adds bytes as an answer has them.
 //! - `push_answer(alloc, &mut text, row, answer)`: adds the line that is told of a row; `answer` are its bytes, not yet in hex.
 
 use crate::areas::push_word;
-use ge_pieces::slices_at;
+use ge_pieces::{before, behind, slices_at};
 use std::alloc::{AllocError, Global};
-use std::io;
 
 /// So many equal bytes are told as their number.
 const MANY: u64 = 100;
 
+/// What stands before the first bar of a text, and what behind it.
+pub fn at_bar(text: &[u8]) -> (&[u8], &[u8]) {
+    (before(b'|', text), behind(b'|', text))
+}
+
 /// The bytes that a text of a row stands for.
-pub fn bytes(alloc: Global, text: &[u8]) -> io::Result<Vec<u8>> {
+pub fn bytes(alloc: Global, text: &[u8]) -> Result<Vec<u8>, AllocError> {
     let mut bytes = Vec::new(alloc);
     let mut is_hex = false;
     for piece in slices_at(alloc, b'%', text)?.as_slice() {
@@ -103,7 +108,7 @@ pub fn push_bytes(alloc: Global, text: &mut Vec<u8>, bytes: &[u8]) -> Result<(),
 }
 
 /// Adds the line that is told of a row.
-pub fn push_answer(
+pub(crate) fn push_answer(
     alloc: Global,
     text: &mut Vec<u8>,
     row: &[u8],

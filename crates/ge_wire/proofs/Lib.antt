@@ -5,3 +5,4 @@ pub mod ReplyCases
 pub mod Exactly
 pub mod Statuses
 pub mod Payloads
+mod ParsedReplies

@@ -3,7 +3,6 @@ mod Texts
 mod Elements
 mod Stays
 mod Entries
-mod Lines
 mod OrderLines
 mod OrderRows
 mod Ended

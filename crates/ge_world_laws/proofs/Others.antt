@@ -1,6 +1,7 @@
 -- Only the request `end` has the entry of an end.
-use Rattle.std.proofs.Common.{◌≡◌, ℕ, ◌==◌, ◌&&◌, ◌||◌, not, Bool, true, false, if◌then◌else◌, List, [], ◌∷◌, ◌++◌, flat_map, length, Option, Some, None, IfSome, is_some, is_none, refl, subst, true≢false}
+use Rattle.std.proofs.Common.{◌≡◌, ℕ, ◌==◌, ◌&&◌, ◌||◌, not, Bool, true, false, if◌then◌else◌, List, [], ◌∷◌, ◌++◌, flat_map, length, Option, Some, None, IfSome, is_some, is_none, Result, Err, refl, subst, true≢false}
 use Rattle.std.specs.Prelude.{nat_lt}
+use Rattle.ge_limits.specs.Limits as limit
 use Rattle.ge_base.specs.declared.refusal.Refusal.{Refusal}
 use Rattle.ge_base.specs.declared.refusal.Refusal.TheVariants.{TooLong, TimeBack, NoSuchObject, NotPermitted, Cycle}
 use Rattle.ge_collections.specs.Keyed.{at_number, at_text}
@@ -13,7 +14,8 @@ use Rattle.ge_model_rows.specs.JobRows.{Grant, Advance}
 use Rattle.ge_model_rows.specs.Faults.{first_fault, when}
 use Rattle.ge_model_rows.specs.Pieces.{each_number_once}
 use Rattle.ge_model_rows.specs.Access.{is_operator}
-use Rattle.ge_model_grammar.specs.ScriptLines.{is_too_long}
+use Rattle.ge_model_grammar.specs.ScriptLines.{lines_of, has_long_line}
+use Rattle.ge_model_grammar.specs.Parsing.{in_grammar, parsed}
 use Rattle.ge_model_grammar.specs.declared.Body.{Body}
 use Rattle.ge_model_grammar.specs.Bodies.{body_of}
 use Rattle.ge_model_grammar.specs.Commands.{command_of}
@@ -39,7 +41,7 @@ use Rattle.ge_model_core.specs.Reports.{load_plan, host_faults, report_faults, r
 use Rattle.ge_model_core.specs.Scheduling.{sched_plan, decided, decisions_at}
 use Rattle.ge_model_core.specs.Booking.{advance_asked, book_faults, booked, book_plan, unbook_faults, unbooked, unbook_plan, show_booked_of, show_booked_plan}
 use Rattle.ge_model_core.specs.Plan.{event_command, command_plan, timely_plan, plan_of}
-use Rattle.ge_world_laws.specs.Product.{is_end, is_end_command}
+use Rattle.ge_world_laws.specs.Product.{is_end, is_end_command, is_end_answer, is_end_text}
 
 -- a plan's entry, if it has one, is that of no end
 abbrev EndsNone : Planned → Type 0
@@ -105,7 +107,7 @@ show_booked_none c m (Some number) = turned (is_some (at_number c.advances numbe
 
 -- ---- all plans
 
-command_none : (c : Cluster) (e : Event) (asked : Command) → is_end_command (Some asked) ≡ false → EndsNone (command_plan c e asked)
+command_none : (c : Cluster) (e : Event) (asked : Command) → is_end_command asked ≡ false → EndsNone (command_plan c e asked)
 unfolding submit_plan alter_plan delete_plan clear_plan hold_plan release_plan remove_plan print_plan load_plan orders_plan task_plan stop_plan sched_plan book_plan unbook_plan show_booked_plan
 command_none c e (Command.Submit options words script) other =
     unless (option_faults c e options.items (submitter e options.items) ++ join_faults c e options.items ++ size_faults c (submitted_tasks options.items) words script) (submission_answer e (submitted_job c e options.items words script)) refl
@@ -133,20 +135,35 @@ command_none c e (Command.Book options) other =
 command_none c e (Command.Unbook numbers) other = unless (flat_map (unbook_faults c e) numbers) (unbooked e (each_number_once numbers)) refl
 command_none c e (Command.ShowBooked one) other = show_booked_none c e.moment one
 
-timely_none : (c : Cluster) (e : Event) (asked : Option Command) → is_end_command asked ≡ false → EndsNone (timely_plan c e asked)
+-- the command that a text is isn't `end`
+abbrev IsOther : Option Command → Type 0
+IsOther asked = IfSome asked (λ command. is_end_command command ≡ false)
+
+timely_none : (c : Cluster) (e : Event) (asked : Option Command) → IsOther asked → EndsNone (timely_plan c e asked)
 timely_none c e None other = tt
 timely_none c e (Some asked) other = chosen (nat_lt e.moment c.last) TimeBack (command_plan c e asked) (command_none c e asked other)
 
-event_other : (form : Form) (text : List ℕ) → is_end_command (command_of text) ≡ false → is_end_command (event_command form text) ≡ false
+event_other : (form : Form) (text : List ℕ) → IsOther (command_of text) → IsOther (event_command form text)
 event_other Form.Good text other = other
-event_other Form.BadHeader text other = refl
-event_other Form.TooLong text other = refl
+event_other Form.BadHeader text other = tt
+event_other Form.TooLong text other = tt
 
-plan_none : (c : Cluster) (e : Event) → is_end_command (command_of e.text) ≡ false → EndsNone (plan_of c e)
-unfolding plan_of
-plan_none c e other =
-    chosen (is_cut e.form || is_too_long e.text) TooLong (timely_plan c e (event_command e.form e.text)) (timely_none c e (event_command e.form e.text) (event_other e.form e.text other))
+read_other : (asked : Option Command) → is_end_answer (in_grammar asked) ≡ false → IsOther asked
+read_other None other = tt
+read_other (Some asked) other = other
 
--- a text that isn't the request `end` has no entry of an end
-pub other_entry : (c : Cluster) (e : Event) (entry : Entry) → is_end_command (command_of e.text) ≡ false → (plan_of c e).entry ≡ Some entry → is_end entry.change ≡ false
+-- a text with a long line is refused
+plan_none : (c : Cluster) (e : Event) → is_end_text e.text ≡ false → EndsNone (plan_of c e)
+unfolding plan_of parsed
+plan_none c e other = by (is_cut e.form) (nat_lt limit.text_bytes (length e.text)) (has_long_line (lines_of e.text)) other
+  where
+    by : (cut long line : Bool) → is_end_answer (elim line as (λ b. Result Command Refusal) [ true ↦ Err TooLong | false ↦ in_grammar (command_of e.text) ]) ≡ false
+        → EndsNone (if cut || (long || line) then refused TooLong else timely_plan c e (event_command e.form e.text))
+    by true long line other = tt
+    by false true line other = tt
+    by false false true other = tt
+    by false false false other = timely_none c e (event_command e.form e.text) (event_other e.form e.text (read_other (command_of e.text) other))
+
+-- a text that isn't read as the request `end` has no entry of an end
+pub other_entry : (c : Cluster) (e : Event) (entry : Entry) → is_end_text e.text ≡ false → (plan_of c e).entry ≡ Some entry → is_end entry.change ≡ false
 other_entry c e entry other is = subst (λ o. IfSome o (λ one. is_end one.change ≡ false)) is (plan_none c e other)

@@ -10,6 +10,7 @@ use Rattle.ge_model_rows.specs.JobRows.{Job, Running}
 use Rattle.ge_model_jobs.specs.Applying.{after_entry}
 use Rattle.ge_model_jobs.specs.Soundness.{serial_of, serials_of}
 use Rattle.ge_model_core.specs.Plan.{plan_of}
+use Rattle.ge_laws.proofs.GrowingLines.{entry_grows}
 use Rattle.ge_soundness.proofs.Brought.{Fits}
 use Rattle.ge_soundness.proofs.Changes.{kept}
 use Rattle.ge_soundness.proofs.Opening.{opening_is_sound}
@@ -23,7 +24,6 @@ use Rattle.ge_model_world.proofs.Lists.{map_has, map_append}
 use Rattle.ge_model_world.proofs.Once.{keeps_once}
 use Rattle.ge_world_laws.specs.Product.{product, IsReady, next_of, post_of, job_posts, posts_of, posts, IsHost}
 use Rattle.ge_world_laws.proofs.Entries.{Goes, entry_goes}
-use Rattle.ge_world_laws.proofs.Lines.{entry_grows}
 use Rattle.ge_world_laws.proofs.Others.{other_entry}
 use Rattle.ge_world_laws.proofs.Reports.{orders_name, report_ends}
 

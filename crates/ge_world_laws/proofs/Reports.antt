@@ -3,9 +3,7 @@ use Rattle.std.proofs.Common.{◌≡◌, ℕ, ◌^◌, ◌<◌, ◌≤◌, ◌==
 use Rattle.std.specs.Prelude.{nat_lt, nat_le, not}
 use Rattle.std.proofs.lemmas.Bool.{and_parts, leb-true, ltb-true, eqb-true}
 use Rattle.ge_limits.specs.Limits as limit
-use Rattle.ge_base.specs.Refusal.{reply_code}
 use Rattle.ge_base.specs.declared.refusal.Refusal.{Refusal}
-use Rattle.ge_base.specs.declared.refusal.Refusal.TheVariants as refusal
 use Rattle.ge_base.specs.declared.refusal.Refusal.TheVariants.{TooLong, TimeBack, NoSuchObject, StaleReport}
 use Rattle.ge_collections.specs.Keyed.{at_text}
 use Rattle.ge_model_rows.specs.ClusterRows.{Cluster}
@@ -30,6 +28,7 @@ use Rattle.ge_model_core.specs.Plan.{command_plan, timely_plan, plan_of}
 use Rattle.ge_model_core.specs.Refusals.{refused, unless_refused}
 use Rattle.ge_model_core.specs.Reports.{serial_faults, end_faults, end_plan, orders_plan}
 use Rattle.ge_model_core.proofs.NamedPlans.{none_holds}
+use Rattle.ge_laws.proofs.PlannedEntries.{code_is}
 use Rattle.ge_execd.specs.declared.rows.OrderLine.{OrderLine}
 use Rattle.ge_execd.specs.Orders.{orders_in, line_serial}
 use Rattle.ge_execd.specs.Daemons.{is_amount, end_text}
@@ -58,21 +57,6 @@ plan_is P refuses c moment text asked read accepted = first (is_cut Form.Good ||
     first false = subst (λ o. P (timely_plan c (root_event moment text) o)) (sym read) (second (nat_lt moment c.last))
 
 -- ---- orders
-
-code_is : (r : Refusal) → (reply_code r == 0) ≡ false
-code_is refusal.Syntax = refl
-code_is refusal.TooLong = refl
-code_is refusal.TimeBack = refl
-code_is refusal.NoSuchObject = refl
-code_is refusal.NotPermitted = refl
-code_is refusal.Exists = refl
-code_is refusal.InUse = refl
-code_is refusal.BadValue = refl
-code_is refusal.NotRequestable = refl
-code_is refusal.Cycle = refl
-code_is refusal.Limit = refl
-code_is refusal.StaleReport = refl
-code_is refusal.NoMemory = refl
 
 -- what a reply orders runs at the host
 abbrev Names : Cluster → List ℕ → Planned → Type 0

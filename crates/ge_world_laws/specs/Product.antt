@@ -1,13 +1,14 @@
 -- gridmaster's own cluster as a master of a world.
-use Rattle.std.specs.Prelude.{ℕ, ◌+◌, ◌≤◌, Bool, true, false, List, [], ◌∷◌, map, flat_map, Option, Some, IsTrue, codes}
+use Rattle.std.specs.Prelude.{ℕ, ◌+◌, ◌≤◌, Bool, true, false, List, [], ◌∷◌, map, flat_map, IsTrue, Result, Ok, Err, codes}
 use Rattle.ge_limits.specs.Limits as limit
+use Rattle.ge_base.specs.declared.refusal.Refusal.{Refusal}
 use Rattle.ge_model_rows.specs.ClusterRows.{Cluster, opening_cluster}
 use Rattle.ge_model_rows.specs.CommandRows.{Command}
 use Rattle.ge_model_rows.specs.EntryRows.{Change}
 use Rattle.ge_model_rows.specs.JobRows.{Job, Running}
 use Rattle.ge_model_rows.specs.Pieces.{joined_by}
 use Rattle.ge_model_grammar.specs.Names.{is_name}
-use Rattle.ge_model_grammar.specs.Commands.{command_of}
+use Rattle.ge_model_grammar.specs.Parsing.{parsed}
 use Rattle.ge_model_jobs.specs.Soundness.{IsSound, serials_of}
 use Rattle.ge_model_jobs.specs.Orderly.{IsOrdered}
 use Rattle.ge_model_jobs.specs.Accounts.{first_instance}
@@ -21,10 +22,17 @@ abbrev pub is_end : Change → Bool
 is_end (Change.End serial exit cpu mem io) = true
 is_end _ = false
 
--- whether a text is the request `end`, by the grammar
-abbrev pub is_end_command : Option Command → Bool
-is_end_command (Some (Command.End serial exit cpu mem io)) = true
+-- whether a command is `end`, and whether a text is read as it
+abbrev pub is_end_command : Command → Bool
+is_end_command (Command.End serial exit cpu mem io) = true
 is_end_command _ = false
+
+abbrev pub is_end_answer : Result Command Refusal → Bool
+is_end_answer (Ok command) = is_end_command command
+is_end_answer (Err refusal) = false
+
+abbrev pub is_end_text : List ℕ → Bool
+is_end_text text = is_end_answer (parsed text)
 
 -- the request `orders HOST`
 abbrev pub orders_text : List ℕ → List ℕ
@@ -39,7 +47,7 @@ product = record {
   serials = λ c. serials_of c.jobs;
   lines = λ c. c.lines;
   is_end = λ entry. is_end entry.change;
-  is_end_text = λ text. is_end_command (command_of text);
+  is_end_text = is_end_text;
   orders_text = orders_text;
 }
 

@@ -14,7 +14,7 @@
 #![tactic(auto)]
 
 ghost use Rattle.std.specs.Prelude.{◌≡◌, ◌⊎◌, ◌≤◌, ◌<◌, ◌^◌, ℕ, false, IfSome, List, Ok, Some};
-ghost use Rattle.ge_rows.specs.Opening.{opening_cluster};
+ghost use Rattle.ge_model_rows.specs.Opening.{opening_cluster};
 ghost use Rattle.ge_rows.specs.declared.cluster.Cluster.{Cluster};
 ghost use Rattle.ge_rows.specs.declared.entries.Entry.{Entry};
 ghost use Rattle.ge_rows.specs.declared.events.Event.{Event};
@@ -29,7 +29,7 @@ ghost use Rattle.ge_model_world.specs.declared.rows.Report.{Report};
 ghost use Rattle.ge_model_world.specs.declared.rows.Step.{Step};
 ghost use Rattle.ge_model_world.specs.Laws.{AreApart, AreHosts, Fits, Has, IsEndOf, KeepsOnce, Laws};
 ghost use Rattle.ge_model_world.specs.Worlds.{report_event, root_event, world_of};
-ghost use Rattle.ge_world_laws.specs.Product.{is_end, is_end_command, orders_text, product};
+ghost use Rattle.ge_world_laws.specs.Product.{is_end, is_end_text, orders_text, product};
 ghost use Rattle.ge_world_laws.specs.Product.{IsHost, IsReady, next_of, posts};
 
 /// The opening cluster is sound and in order, and its next serial is at most one past the last that there is; and so is
@@ -70,10 +70,10 @@ pub fn reports_end_their_serial()
         → IsEndOf product c r entry }
 {}
 
-/// A text that isn't the request `end` has no entry of an end.
+/// A text that isn't read as the request `end` has no entry of an end.
 pub fn no_other_request_ends_by_a_report()
     ensures { (c : Cluster) (e : Event) (entry : Entry)
-        → is_end_command (command_of e.text) ≡ false
+        → is_end_text e.text ≡ false
         → (plan_of c e).entry ≡ Some entry → is_end entry.change ≡ false }
 {}
 

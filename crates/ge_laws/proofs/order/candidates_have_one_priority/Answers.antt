@@ -1,4 +1,4 @@
-use Rattle.ge_laws.proofs.OrderOnce.{rows_of_candidates, rows_distinct}
+use Rattle.ge_model_order.proofs.OrderOnce.{rows_of_candidates, rows_distinct}
 use Rattle.ge_laws.proofs.order.candidates_have_one_priority.Goals as goal
 
 pub returns-clause-rows : goal.returns-clause-rows

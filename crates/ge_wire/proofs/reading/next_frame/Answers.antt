@@ -2,8 +2,37 @@ use Rattle.std.proofs.Common.{◌≡◌, ℕ, ◌+◌, ◌-◌, ◌≤◌, ◌<�
 use Rattle.std.specs.Int.{w32, from_be_bytes}
 use Rattle.std.proofs.lemmas.List.{length-take-le}
 use Rattle.ge_model_wire.specs.Frames.{is_no_size}
-use Rattle.ge_wire.proofs.Cases.{take-all, take-front, reads-no-size, reads-long-payload, reads-part, reads-whole}
+use Rattle.ge_wire.proofs.Cases.{take-all, take-front, reads-long-head, reads-none, reads-cut-head, reads-no-size, reads-long-payload, reads-part, reads-whole}
 use Rattle.ge_wire.proofs.reading.next_frame.Goals as goal
+
+pub returns-then-count-room-clause-reads : goal.returns-then-count-room-clause-reads
+returns-then-count-room-clause-reads g c =
+    let count = c.in_ok-count.count in
+    let buf : List ℕ = c.fill.new.buf in
+    let long : length buf ≡ 4 = c.in_ok-count.ensures.long in
+    let some : length (take count buf) ≡ count = length-take-le count buf (omega (arith, long, c.in_ok-count.ensures.bound, c.min.ensures)) in
+    reads-long-head _ _ (take count buf) c.args.at c.in_ok-count.ensures.moved (omega (arith, some, c.in_ok-count.ensures.bound, c.min.ensures))
+    (omega (arith, some, c.requires, c.if-count-room.true))
+
+pub returns-then-count-eq0-clause-reads : goal.returns-then-count-eq0-clause-reads
+returns-then-count-eq0-clause-reads g c =
+    let count = c.in_ok-count.count in
+    let buf : List ℕ = c.fill.new.buf in
+    let none : length (take count buf) ≡ 0 = length-take-le count buf (omega (arith, c.if-count-eq0.true)) ∙ c.if-count-eq0.true in
+    reads-none _ _ (take count buf) c.args.at c.in_ok-count.ensures.moved
+    (c.in_ok-count.ensures.ended (omega (arith, c.requires, c.if-count-eq0.true, c.if-count-room.false, c.min.ensures)))
+    none (omega (arith, c.requires, c.if-count-eq0.true, c.if-count-room.false))
+
+pub returns-then-count-lt4-clause-reads : goal.returns-then-count-lt4-clause-reads
+returns-then-count-lt4-clause-reads g c =
+    let count = c.in_ok-count.count in
+    let buf : List ℕ = c.fill.new.buf in
+    let long : length buf ≡ 4 = c.in_ok-count.ensures.long in
+    let some : length (take count buf) ≡ count = length-take-le count buf (omega (arith, long, c.if-count-lt4.true)) in
+    reads-cut-head _ _ (take count buf) c.args.at c.args.at c.in_ok-count.ensures.moved
+    (c.in_ok-count.ensures.ended (omega (arith, c.if-count-lt4.true, c.if-count-room.false, c.in_ok-count.ensures.bound, c.min.ensures)))
+    (omega (arith, some, c.if-count-lt4.true)) (omega (arith, some, c.if-count-eq0.false))
+    (omega (arith, some, c.requires, c.in_ok-count.ensures.bound, c.min.ensures, c.if-count-room.false))
 
 pub returns-then-is_no_length-clause-reads : goal.returns-then-is_no_length-clause-reads
 returns-then-is_no_length-clause-reads g c =

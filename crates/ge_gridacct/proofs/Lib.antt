@@ -1,0 +1,10 @@
+mod Same
+mod Fronts
+mod Appended
+mod Written
+mod Accounts
+mod Flushed
+mod Looked
+mod Spooled
+mod Asked
+mod Answered

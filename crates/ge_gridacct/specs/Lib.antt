@@ -1,0 +1,10 @@
+pub mod Words
+pub mod Fronts
+pub mod Records
+pub mod Sights
+pub mod Faults
+pub mod Sums
+pub mod Holding
+pub mod Looks
+pub mod Flushes
+pub mod Lines

@@ -1,0 +1,7 @@
+//! The cluster before the first command: [`opening`].
+#![tactic(auto)]
+
+mod cluster;
+mod complexes;
+
+pub use cluster::opening;

@@ -1,0 +1,6 @@
+mod Codes
+mod Fronts
+mod Runs
+mod Frames
+mod Links
+mod Examples
