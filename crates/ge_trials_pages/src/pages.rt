@@ -27,6 +27,8 @@ fn told(
         Some(text)
     } else if let Some(text) = ge_trials_calls::told(alloc, kind, body) {
         Some(text)
+    } else if let Some(text) = ge_trials_accounts::told(alloc, kind, body) {
+        Some(text)
     } else {
         ge_trials_devices::told(alloc, kind, body)
     }
