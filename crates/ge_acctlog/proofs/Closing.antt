@@ -1,16 +1,15 @@
 -- The end of a log is closed and lines are appended: what the bytes stand for then, and what a stop may leave.
-use Rattle.std.specs.Prelude.{◌≡◌, ◌⊎◌, ℕ, ◌+◌, ◌<◌, ◌≤◌, Bool, true, false, not, ◌==◌, ◌&&◌, nat_lt, List, [], ◌∷◌, ◌++◌, length, drop, slice_index, Option, Some, Ok, refl}
+use Rattle.std.specs.Prelude.{◌≡◌, ◌⊎◌, ℕ, ◌+◌, ◌<◌, ◌≤◌, Bool, true, false, not, ◌==◌, ◌&&◌, nat_lt, List, [], ◌∷◌, ◌++◌, length, drop, slice_index, Option, Ok, refl}
 use Rattle.std.proofs.Common.{arith, ◌∙◌, sym, ap, inl, inr, ⊎_elim, length-append}
 use Rattle.std.proofs.lemmas.List.{drop_at, get_or-drop}
 use Rattle.std.proofs.lemmas.Bool.{lt-ltb, ltb-true, ltb-false}
 use Rattle.ge_limits.specs.Limits as limit
 use Rattle.ge_model_journal.specs.Disk.{overwritten}
-use Rattle.ge_spool.specs.Pieces.{IsRecordPiece}
 use Rattle.ge_spool.specs.Steps.{IsBehindImage, opened_behind}
 use Rattle.ge_spool.proofs.Reading.{either}
 use Rattle.ge_model_log.specs.Records.{records_behind}
 use Rattle.ge_acctlog.specs.Gates.{closed_at, IsClosedAt, needs_gate, with_gate, IsGateImage}
-use Rattle.ge_acctlog.proofs.Parts.{IsLog}
+use Rattle.ge_acctlog.proofs.Parts.{IsLog, HasRecords}
 use Rattle.ge_acctlog.proofs.Finding.{found-back, found-reads, log-reads}
 use Rattle.ge_acctlog.proofs.Tearing.{length-log, behind-log, behind-done, torn-end, closed-log, whole-log, open-end}
 
@@ -83,23 +82,23 @@ module _ {X : Type 0} (read_body : List ℕ → Option (List X)) where
       ))
       (either (needs_gate bytes end))
 
-  -- a record was written, or part of it
-  pub behind-image : (bytes image : List ℕ) (all more : List X) (end : ℕ) (piece body : List ℕ) → records_behind read_body (length bytes) 0 bytes [] ≡ Ok (all, end)
-      → IsClosedAt bytes end → IsRecordPiece piece body → read_body body ≡ Some more → IsBehindImage end piece bytes image
-      → (records_behind read_body (length image) 0 image [] ≡ Ok (all, end)) ⊎ (records_behind read_body (length image) 0 image [] ≡ Ok (all ++ more, end + 5 + length body))
-  behind-image bytes image all more end piece body read closed is_piece reads behind =
+  -- records were written, or part of them
+  pub behind-image : (bytes image : List ℕ) (all more : List X) (end : ℕ) (piece records : List ℕ) → records_behind read_body (length bytes) 0 bytes [] ≡ Ok (all, end)
+      → IsClosedAt bytes end → HasRecords read_body records more → 1 ∷ piece ≡ records ++ 0 ∷ [] → IsBehindImage end piece bytes image
+      → (records_behind read_body (length image) 0 image [] ≡ Ok (all, end)) ⊎ (records_behind read_body (length image) 0 image [] ≡ Ok (all ++ more, end + length records))
+  behind-image bytes image all more end piece records read closed has is_piece behind =
       ⊎_elim
       (λ log. inl (log-reads read_body image all end log))
-      (λ log. inr (log-reads read_body image (all ++ more) (end + 5 + length body) log))
-      (behind-log read_body bytes image all more end piece body (log-back bytes all end read closed) is_piece reads behind)
+      (λ log. inr (log-reads read_body image (all ++ more) (end + length records) log))
+      (behind-log read_body bytes image all more end piece records (log-back bytes all end read closed) has is_piece behind)
 
-  -- it was written
-  pub opened-log : (bytes : List ℕ) (all more : List X) (end : ℕ) (piece body : List ℕ) → records_behind read_body (length bytes) 0 bytes [] ≡ Ok (all, end)
-      → IsClosedAt bytes end → IsRecordPiece piece body → read_body body ≡ Some more
-      → (records_behind read_body (length (opened_behind end piece bytes)) 0 (opened_behind end piece bytes) [] ≡ Ok (all ++ more, end + 5 + length body))
-      × IsClosedAt (opened_behind end piece bytes) (end + 5 + length body)
-  opened-log bytes all more end piece body read closed is_piece reads =
-      let log = behind-done read_body bytes all more end piece body (log-back bytes all end read closed) is_piece reads in (
-        log-reads read_body (opened_behind end piece bytes) (all ++ more) (end + 5 + length body) log,
-        log-closed (opened_behind end piece bytes) (all ++ more) (end + 5 + length body) log,
+  -- they were written
+  pub opened-log : (bytes : List ℕ) (all more : List X) (end : ℕ) (piece records : List ℕ) → records_behind read_body (length bytes) 0 bytes [] ≡ Ok (all, end)
+      → IsClosedAt bytes end → HasRecords read_body records more → 1 ∷ piece ≡ records ++ 0 ∷ []
+      → (records_behind read_body (length (opened_behind end piece bytes)) 0 (opened_behind end piece bytes) [] ≡ Ok (all ++ more, end + length records))
+      × IsClosedAt (opened_behind end piece bytes) (end + length records)
+  opened-log bytes all more end piece records read closed has is_piece =
+      let log = behind-done read_body bytes all more end piece records (log-back bytes all end read closed) has is_piece in (
+        log-reads read_body (opened_behind end piece bytes) (all ++ more) (end + length records) log,
+        log-closed (opened_behind end piece bytes) (all ++ more) (end + length records) log,
       )

@@ -23,7 +23,7 @@ pub not-false : (b : Bool) → not b ≡ false → b ≡ true
 not-false true e = refl
 not-false false e = sym e
 
-above-zero : (n : ℕ) → (n ≡ 0 → ⊥) → 0 < n
+pub above-zero : (n : ℕ) → (n ≡ 0 → ⊥) → 0 < n
 above-zero zero none = absurd (none refl)
 above-zero (suc n) none = omega arith
 

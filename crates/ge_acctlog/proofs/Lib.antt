@@ -7,3 +7,4 @@ pub mod Lines
 pub mod Walking
 pub mod Reached
 pub mod Moments
+pub mod Gathered

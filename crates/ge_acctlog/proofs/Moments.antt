@@ -1,12 +1,11 @@
 -- What a stop may leave of a log in the course of its calls.
-use Rattle.std.specs.Prelude.{◌≡◌, ℕ, ◌+◌, ◌<◌, false, List, [], ◌∷◌, ◌++◌, length, Some, Ok, refl}
+use Rattle.std.specs.Prelude.{◌≡◌, ℕ, ◌+◌, ◌<◌, false, List, [], ◌∷◌, ◌++◌, length, Ok, refl}
 use Rattle.std.proofs.Common.{arith, ◌∙◌, sym, ap, subst, inl, inr, ⊎_elim}
 use Rattle.ge_limits.specs.Limits as limit
 use Rattle.ge_model_rows.specs.AccountRows.{Line}
 use Rattle.ge_model_journal.specs.Disk.{Content, read_bytes, told_synced, settled_content}
 use Rattle.ge_spool.specs.Moments.{IsQuiet, Since, since_join, since_weaker, quiet_image, read_bytes-quiet}
 use Rattle.ge_spool.specs.Opening.{Tells}
-use Rattle.ge_spool.specs.Pieces.{IsRecordPiece}
 use Rattle.ge_spool.specs.Steps.{IsBehindImage, opened_behind}
 use Rattle.ge_model_log.specs.Lines.{lines_in, logged, stands_for, without_end, StandsForOneOf}
 use Rattle.ge_acctlog.specs.Gates.{IsClosedAt, with_gate, IsGateImage}
@@ -14,6 +13,7 @@ use Rattle.ge_acctlog.specs.Opens.{StandsAlike, HasOpened}
 use Rattle.ge_acctlog.specs.Logs.{IsLogged, IsReached}
 use Rattle.ge_acctlog.specs.Reads.{ReadsAll}
 use Rattle.ge_acctlog.specs.declared.log.Log.{Log}
+use Rattle.ge_acctlog.proofs.Parts.{HasRecords}
 use Rattle.ge_acctlog.proofs.Closing.{gate-image, gate-done, behind-image, opened-log}
 use Rattle.ge_acctlog.proofs.Reached.{reached-start}
 
@@ -75,21 +75,21 @@ opened-rests l new bytes lines alive counted start stands quiet =
       reads = reads;
     }
 
--- a record was written, or part of it
-pub appended-since : (l : Log) (old new : List Content) (held more : List Line) (piece body : List ℕ) → IsLogged l old held → l.end < limit.area_bytes → IsRecordPiece piece body
-    → lines_in body ≡ Some more → Since old new (IsBehindImage l.end piece (read_bytes old)) → Since old new (StandsForOneOf held (held ++ more))
-appended-since l old new held more piece body logged_ below is_piece read since =
+-- records were written, or part of them
+pub appended-since : (l : Log) (old new : List Content) (held more : List Line) (piece records : List ℕ) → IsLogged l old held → l.end < limit.area_bytes
+    → HasRecords lines_in records more → 1 ∷ piece ≡ records ++ 0 ∷ [] → Since old new (IsBehindImage l.end piece (read_bytes old)) → Since old new (StandsForOneOf held (held ++ more))
+appended-since l old new held more piece records logged_ below has is_piece since =
     since_weaker old new (IsBehindImage l.end piece (read_bytes old)) (StandsForOneOf held (held ++ more)) since
     (λ image behind. ⊎_elim (λ same. inl (ap without_end same)) (λ longer. inr (ap without_end longer))
-    (behind-image lines_in (read_bytes old) image held more l.end piece body logged_.stands (logged_.closed below) is_piece read behind))
+    (behind-image lines_in (read_bytes old) image held more l.end piece records logged_.stands (logged_.closed below) has is_piece behind))
 
--- it was written, and the log is at rest
-pub appended-rests : (l after : Log) (old new : List Content) (held more : List Line) (piece body : List ℕ) → IsLogged l old held → l.end < limit.area_bytes → IsRecordPiece piece body
-    → lines_in body ≡ Some more → IsQuiet new (opened_behind l.end piece (read_bytes old)) → after.dead ≡ false → after.count ≡ length (held ++ more)
-    → after.end ≡ l.end + 5 + length body → after.reached ≡ record { first = 0; next = 0; lines = [] } → IsLogged after new (held ++ more)
-appended-rests l after old new held more piece body logged_ below is_piece read quiet alive counted place start =
+-- they were written, and the log is at rest
+pub appended-rests : (l after : Log) (old new : List Content) (held more : List Line) (piece records : List ℕ) → IsLogged l old held → l.end < limit.area_bytes
+    → HasRecords lines_in records more → 1 ∷ piece ≡ records ++ 0 ∷ [] → IsQuiet new (opened_behind l.end piece (read_bytes old)) → after.dead ≡ false
+    → after.count ≡ length (held ++ more) → after.end ≡ l.end + length records → after.reached ≡ record { first = 0; next = 0; lines = [] } → IsLogged after new (held ++ more)
+appended-rests l after old new held more piece records logged_ below has is_piece quiet alive counted place start =
     let reads = read_bytes-quiet new (opened_behind l.end piece (read_bytes old)) quiet in
-    let done = opened-log lines_in (read_bytes old) held more l.end piece body logged_.stands (logged_.closed below) is_piece read in
+    let done = opened-log lines_in (read_bytes old) held more l.end piece records logged_.stands (logged_.closed below) has is_piece in
     let again : logged (read_bytes new) ≡ Ok (held ++ more, after.end) = ap logged reads ∙ done.0 ∙ ap (λ k. Ok (held ++ more, k)) (sym place) in
     record {
       alive = alive;
@@ -99,6 +99,13 @@ appended-rests l after old new held more piece body logged_ below is_piece read 
       count = counted;
       reached = subst (λ r. IsReached r (read_bytes new) (held ++ more) after.end) (sym start) (reached-start (read_bytes new) (held ++ more) after.end again);
     }
+
+-- the same, for lines that are said otherwise
+pub appended-first : (l after : Log) (old new : List Content) (held more some : List Line) (piece records : List ℕ) → more ≡ some → IsLogged l old held → l.end < limit.area_bytes
+    → HasRecords lines_in records more → 1 ∷ piece ≡ records ++ 0 ∷ [] → IsQuiet new (opened_behind l.end piece (read_bytes old)) → after.dead ≡ false
+    → after.count ≡ length (held ++ more) → after.end ≡ l.end + length records → after.reached ≡ record { first = 0; next = 0; lines = [] } → IsLogged after new (held ++ some)
+appended-first l after old new held more some piece records same logged_ below has is_piece quiet alive counted place start =
+    subst (λ xs. IsLogged after new (held ++ xs)) same (appended-rests l after old new held more piece records logged_ below has is_piece quiet alive counted place start)
 
 -- a log at rest of which another record was read last
 pub rests-again : (l m : Log) (told : List Content) (lines : List Line) → IsLogged l told lines → m.dead ≡ l.dead → m.end ≡ l.end → m.count ≡ l.count

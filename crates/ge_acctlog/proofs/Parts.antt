@@ -36,3 +36,9 @@ module _ {X : Type 0} (read_body : List ℕ → Option (List X)) where
     pub are_read : AreRead bodies [] all
     pub closed : (gate == 1) ≡ false
     pub place : end ≡ length front
+
+  -- records whose bodies are read as these items
+  pub record HasRecords (front : List ℕ) (more : List X) : Type 0 where
+    pub bodies : List (List ℕ)
+    pub are_blocks : IsBlocks front bodies
+    pub are_read : AreRead bodies [] more

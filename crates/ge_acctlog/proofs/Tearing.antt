@@ -1,25 +1,33 @@
 -- What a torn write leaves of a log.
 use Rattle.std.specs.Prelude.{◌≡◌, ◌⊎◌, ℕ, suc, ◌+◌, ◌<◌, true, false, not, ◌==◌, nat_lt, List, [], ◌∷◌, ◌++◌, length, take, drop, slice_index, Option, Some, refl}
-use Rattle.std.proofs.Common.{arith, ◌∙◌, sym, ap, subst, inl, inr, ⊎_elim, length-append, length-drop, append_assoc, drop-cons}
+use Rattle.std.proofs.Common.{arith, ◌∙◌, sym, ap, subst, inl, inr, ⊎_elim, length-append, length-drop, append_assoc, append-nil, drop-cons}
 use Rattle.std.proofs.lemmas.List.{take_at, drop_at, take-append-drop, get_or-drop}
 use Rattle.std.proofs.lemmas.Bool.{eqb-true, lt-ltb, ltb-true}
 use Rattle.ge_model_journal.specs.Disk.{overwritten}
-use Rattle.ge_model_journal.specs.Area.{number4}
 use Rattle.ge_spool.specs.Moments.{Torn}
-use Rattle.ge_spool.specs.Pieces.{IsRecordPiece}
+use Rattle.ge_spool.proofs.Parts.{IsBlocks}
 use Rattle.ge_spool.specs.Steps.{IsBehindImage, opened_behind}
-use Rattle.ge_spool.proofs.Reading.{either, number4-append}
-use Rattle.ge_spool.proofs.Tearing.{blocks-append, torn-whole, opened-whole}
-use Rattle.ge_acctlog.proofs.Parts.{IsEnding, IsFound, IsLog}
-use Rattle.ge_acctlog.proofs.Finding.{or-true, read-more}
+use Rattle.ge_spool.proofs.Reading.{either}
+use Rattle.ge_spool.proofs.Tearing.{torn-whole, opened-whole}
+use Rattle.ge_acctlog.proofs.Parts.{IsEnding, AreRead, IsFound, IsLog, HasRecords}
+use Rattle.ge_acctlog.proofs.Finding.{or-true}
 
-piece-number : (piece body : List ℕ) → IsRecordPiece piece body → number4 (take 4 piece) 0 ≡ length body
-piece-number piece body is_piece =
-    sym (number4-append (take 4 piece) (drop 4 piece) is_piece.width) ∙ ap (λ xs. number4 xs 0) (take-append-drop 4 piece) ∙ is_piece.number
-
-piece-before : (piece body tail : List ℕ) → IsRecordPiece piece body → piece ++ tail ≡ take 4 piece ++ (body ++ (0 ∷ tail))
-piece-before piece body tail is_piece =
-    ap (λ xs. xs ++ tail) is_piece.whole ∙ append_assoc (take 4 piece) (body ++ (0 ∷ [])) tail ∙ ap (λ xs. (take 4 piece) ++ xs) (append_assoc body (0 ∷ []) tail)
+-- records behind records
+blocks-join : (bodies others : List (List ℕ)) (front behind : List ℕ) → IsBlocks front bodies → IsBlocks behind others → IsBlocks (front ++ behind) (bodies ++ others)
+blocks-join [] others front behind is_front is_behind = subst (λ xs. IsBlocks (xs ++ behind) others) (sym is_front) is_behind
+blocks-join (first ∷ bodies) others front behind is_front is_behind =
+    let block = is_front.1 in (
+      is_front.0 ++ behind,
+      record {
+        field = block.field;
+        whole = ap (λ xs. xs ++ behind) block.whole
+            ∙ ap (λ xs. 1 ∷ xs) (append_assoc block.field (first ++ is_front.0) behind ∙ ap (λ xs. block.field ++ xs) (append_assoc first is_front.0 behind));
+        width = block.width;
+        number = block.number;
+        some = block.some;
+      },
+      blocks-join bodies others is_front.0 behind is_front.2 is_behind,
+    )
 
 -- few bytes end a list, whatever they are
 few-end : (tail : List ℕ) → length tail < 6 → IsEnding tail
@@ -58,31 +66,48 @@ module _ {X : Type 0} (read_body : List ℕ → Option (List X)) where
     place = log.place;
   }
 
-  -- a log whose last gate was torn, in front of a whole record: it stands, or has the record more
-  gated : (bytes image : List ℕ) (all more : List X) (end gate : ℕ) (field body tail : List ℕ) → IsLog read_body bytes all end → length field ≡ 4
-      → number4 field 0 ≡ length body → 0 < length body → read_body body ≡ Some more → image ≡ take end bytes ++ (gate ∷ (field ++ (body ++ (0 ∷ tail))))
-      → ((gate == 1) ≡ true → IsLog read_body image (all ++ more) (end + 5 + length body)) × ((gate == 1) ≡ false → IsLog read_body image all end)
-  gated bytes image all more end gate field body tail log width number some read whole =
-      let arranged : image ≡ log.front ++ (gate ∷ (field ++ (body ++ (0 ∷ tail)))) =
-      whole ∙ ap (λ xs. xs ++ (gate ∷ (field ++ (body ++ (0 ∷ tail))))) (front-log bytes all end log) in (
+  -- what is read behind items
+  read-behind : (bodies : List (List ℕ)) (items more all : List X) → AreRead read_body bodies more all → AreRead read_body bodies (items ++ more) (items ++ all)
+  read-behind [] items more all are_read = ap (λ xs. items ++ xs) are_read
+  read-behind (body ∷ bodies) items more all are_read = (
+    are_read.0,
+    are_read.1,
+    subst (λ xs. AreRead read_body bodies xs (items ++ all)) (sym (append_assoc items more are_read.0)) (read-behind bodies items (more ++ are_read.0) all are_read.2),
+  )
+
+  read-join : (bodies others : List (List ℕ)) (items all more : List X) → AreRead read_body bodies items all → AreRead read_body others [] more
+      → AreRead read_body (bodies ++ others) items (all ++ more)
+  read-join [] others items all more are_read behind =
+      subst (λ xs. AreRead read_body others xs (all ++ more)) (append-nil all ∙ sym are_read) (read-behind others all [] more behind)
+  read-join (body ∷ bodies) others items all more are_read behind =
+      (are_read.0, are_read.1, read-join bodies others (items ++ are_read.0) all more are_read.2 behind)
+
+  -- a log whose last gate was torn, in front of whole records: it stands, or has the records more
+  gated : (bytes image : List ℕ) (all more : List X) (end gate : ℕ) (piece records tail : List ℕ) → IsLog read_body bytes all end → HasRecords read_body records more
+      → 1 ∷ piece ≡ records ++ 0 ∷ [] → image ≡ take end bytes ++ (gate ∷ (piece ++ tail))
+      → ((gate == 1) ≡ true → IsLog read_body image (all ++ more) (end + length records)) × ((gate == 1) ≡ false → IsLog read_body image all end)
+  gated bytes image all more end gate piece records tail log has is_piece whole =
+      let arranged : image ≡ log.front ++ (gate ∷ (piece ++ tail)) =
+      whole ∙ ap (λ xs. xs ++ (gate ∷ (piece ++ tail))) (front-log bytes all end log) in (
         λ opened. record {
-          bodies = log.bodies ++ body ∷ [];
-          front = log.front ++ (1 ∷ (field ++ body));
+          bodies = log.bodies ++ has.bodies;
+          front = log.front ++ records;
           gate = 0;
           rest = tail;
-          whole = arranged ∙ ap (λ k. log.front ++ (k ∷ (field ++ (body ++ (0 ∷ tail))))) (eqb-true gate 1 opened)
-              ∙ ap (λ xs. log.front ++ (1 ∷ xs)) (sym (append_assoc field body (0 ∷ tail)))
-              ∙ sym (append_assoc log.front (1 ∷ (field ++ body)) (0 ∷ tail));
-          is_front = blocks-append log.bodies log.front body field log.is_front width number some;
-          are_read = read-more read_body log.bodies body [] all more log.are_read read;
+          whole = arranged ∙ ap (λ k. log.front ++ (k ∷ (piece ++ tail))) (eqb-true gate 1 opened)
+              ∙ ap (λ xs. log.front ++ (xs ++ tail)) is_piece
+              ∙ ap (λ xs. log.front ++ xs) (append_assoc records (0 ∷ []) tail)
+              ∙ sym (append_assoc log.front records (0 ∷ tail));
+          is_front = blocks-join log.bodies has.bodies log.front records log.is_front has.are_blocks;
+          are_read = read-join log.bodies has.bodies [] all more log.are_read has.are_read;
           closed = refl;
-          place = omega (arith, log.place, length-append log.front (1 ∷ (field ++ body)), length-append field body, width);
+          place = omega (arith, log.place, length-append log.front records);
         },
         λ closed. record {
           bodies = log.bodies;
           front = log.front;
           gate = gate;
-          rest = field ++ (body ++ (0 ∷ tail));
+          rest = piece ++ tail;
           whole = arranged;
           is_front = log.is_front;
           are_read = log.are_read;
@@ -91,26 +116,23 @@ module _ {X : Type 0} (read_body : List ℕ → Option (List X)) where
         },
       )
 
-  -- at each moment of writing a record: the log stands, or has the record more
-  pub behind-log : (bytes image : List ℕ) (all more : List X) (end : ℕ) (piece body : List ℕ) → IsLog read_body bytes all end → IsRecordPiece piece body → read_body body ≡ Some more
-      → IsBehindImage end piece bytes image → IsLog read_body image all end ⊎ IsLog read_body image (all ++ more) (end + 5 + length body)
-  behind-log bytes image all more end piece body log is_piece read (inl torn) = inl (torn-behind bytes image all end (length piece) log torn)
-  behind-log bytes image all more end piece body log is_piece read (inr torn) =
+  -- at each moment of writing records: the log stands, or has the records more
+  pub behind-log : (bytes image : List ℕ) (all more : List X) (end : ℕ) (piece records : List ℕ) → IsLog read_body bytes all end → HasRecords read_body records more
+      → 1 ∷ piece ≡ records ++ 0 ∷ [] → IsBehindImage end piece bytes image → IsLog read_body image all end ⊎ IsLog read_body image (all ++ more) (end + length records)
+  behind-log bytes image all more end piece records log has is_piece (inl torn) = inl (torn-behind bytes image all end (length piece) log torn)
+  behind-log bytes image all more end piece records log has is_piece (inr torn) =
       let within = length-log bytes all end log in
-      let cases = gated bytes image all more end (slice_index image end) (take 4 piece) body (drop (end + 1 + length piece) bytes)
-      log is_piece.width (piece-number piece body is_piece) is_piece.some read
-      (torn-whole bytes image end piece within torn
-      ∙ ap (λ xs. take end bytes ++ (slice_index image end ∷ xs)) (piece-before piece body (drop (end + 1 + length piece) bytes) is_piece)) in
+      let cases = gated bytes image all more end (slice_index image end) piece records (drop (end + 1 + length piece) bytes) log has is_piece
+      (torn-whole bytes image end piece within torn) in
       ⊎_elim (λ opened. inr (cases.0 opened)) (λ closed. inl (cases.1 closed)) (either (slice_index image end == 1))
 
-  -- and once it is done it has it
-  pub behind-done : (bytes : List ℕ) (all more : List X) (end : ℕ) (piece body : List ℕ) → IsLog read_body bytes all end → IsRecordPiece piece body → read_body body ≡ Some more
-      → IsLog read_body (opened_behind end piece bytes) (all ++ more) (end + 5 + length body)
-  behind-done bytes all more end piece body log is_piece read =
+  -- and once it is done it has them
+  pub behind-done : (bytes : List ℕ) (all more : List X) (end : ℕ) (piece records : List ℕ) → IsLog read_body bytes all end → HasRecords read_body records more
+      → 1 ∷ piece ≡ records ++ 0 ∷ [] → IsLog read_body (opened_behind end piece bytes) (all ++ more) (end + length records)
+  behind-done bytes all more end piece records log has is_piece =
       let within = length-log bytes all end log in
-      let cases = gated bytes (opened_behind end piece bytes) all more end 1 (take 4 piece) body (drop (end + 1 + length piece) bytes)
-      log is_piece.width (piece-number piece body is_piece) is_piece.some read
-      (opened-whole bytes end piece within ∙ ap (λ xs. take end bytes ++ (1 ∷ xs)) (piece-before piece body (drop (end + 1 + length piece) bytes) is_piece)) in
+      let cases = gated bytes (opened_behind end piece bytes) all more end 1 piece records (drop (end + 1 + length piece) bytes) log has is_piece
+      (opened-whole bytes end piece within) in
       cases.0 refl
 
   -- the end of a list with few bytes behind it, torn by a write of one byte: the same list

@@ -5,3 +5,4 @@ pub mod Logs
 pub mod Lines
 pub mod Opens
 pub mod Appends
+pub mod Records

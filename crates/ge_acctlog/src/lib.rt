@@ -13,9 +13,9 @@ mod codes;
 mod copying;
 mod counting;
 mod faults;
+mod gathering;
 mod log;
 mod opening;
-mod pieces;
 mod reading;
 
 pub use faults::{LogFault, LogStop};

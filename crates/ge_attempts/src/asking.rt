@@ -165,7 +165,7 @@ fn lacks_room(booked: &Timeline, from: u64, until: u64, counted: &Counted) -> bo
     ensures { result ≡ has_none booked.now from until counted.now }
 {
     match counted.capacity.checked_sub(u128::from(counted.amount)) {
-        Some(room) => booked.exceeds(&counted.limit, from, until, room),
+        Some(room) => booked.is_above(&counted.limit, from, until, room),
         None => true,
     }
 }

@@ -3,12 +3,13 @@ ghost use Rattle.std.specs.Prelude.{◌≡◌, ◌++◌, IfOk};
 ghost use Rattle.ge_model_order.specs.Priority.{order_of, prios_at};
 ghost use Rattle.ge_model_place.specs.Running.{run_of};
 ghost use Rattle.ge_model_core.specs.Scheduling as scheduling;
+ghost use Rattle.ge_order.specs.Parted.{first_of, second_of};
 ghost use Rattle.ge_scheduling.specs.Bases.{IsBasis};
 ghost use Rattle.ge_scheduling.specs.UnderWay.{IsUnderWay, tasks_decided};
 ghost use Rattle.ge_dispatching.specs.Telling.{TellsRun};
 
 use crate::prioritizing::run_prios;
-use ge_order::{Prios, bound_for, first_part, order, second_part};
+use ge_order::{Bound, Prios, bound_for, first_part, order, second_part};
 use ge_rows::{Cluster, Decision, Event, List, Prio};
 use ge_scheduling::{
     Basis, Run, all_wait, basis_of, begin_run, decide_tasks, decisions_of, others_wait,
@@ -54,9 +55,8 @@ fn decide_last(
     Ok(decisions_of(more))
 }
 
-// The decisions of a run on its basis, over all candidates in the order of their priorities. Those of tasks that wait behind
-// the first jobs are left out where each does.
-fn decide_in_parts(
+// The decisions of a run on its basis, over all candidates at once.
+fn decide_all(
     alloc: Global,
     c: &Cluster,
     basis: Basis,
@@ -67,20 +67,90 @@ fn decide_in_parts(
     ensures { IfOk result (λ decisions.
         TellsRun c.now (order_of c.now prios.now now) basis.moment decisions) }
 {
+    let prios = prios.list(alloc)?;
     let run = begin_run(alloc, c, basis)?;
-    let Some(bound) = bound_for(alloc, prios, FEW)? else {
-        let prios = prios.list(alloc)?;
-        let decisions = decide_last(alloc, c, run, &prios, now)?;
-        return Ok(decisions);
-    };
-    let first = first_part(alloc, prios, &bound)?;
+    let decisions = decide_last(alloc, c, run, &prios, now)?;
+    Ok(decisions)
+}
+
+// The run on a basis with the tasks of the jobs before a bound decided.
+fn decide_first(
+    alloc: Global,
+    c: &Cluster,
+    basis: Basis,
+    prios: &Prios,
+    bound: &Bound,
+    now: u64,
+) -> Result<Run, AllocError>
+    requires { IsBasis c.now basis }
+    ensures under_way { IfOk result (λ begun. IsUnderWay c.now begun) }
+    ensures moment { IfOk result (λ begun. begun.moment ≡ basis.moment) }
+    ensures tasks { IfOk result (λ begun. tasks_decided begun
+        ≡ order_of c.now (first_of bound.now prios.now) now) }
+{
+    let first = first_part(alloc, prios, bound)?;
+    let run = begin_run(alloc, c, basis)?;
     let begun = decide_jobs(alloc, c, run, &first, now)?;
+    Ok(begun)
+}
+
+// The decisions of a run once the tasks of the jobs behind a bound are decided too.
+fn decide_second(
+    alloc: Global,
+    c: &Cluster,
+    begun: Run,
+    prios: &Prios,
+    bound: &Bound,
+    now: u64,
+) -> Result<List<Decision>, AllocError>
+    requires { IsUnderWay c.now begun }
+    ensures { IfOk result (λ decisions. decisions ≡ run_of c.now
+        (tasks_decided begun ++ order_of c.now (second_of bound.now prios.now) now)
+        begun.moment) }
+{
+    let second = second_part(alloc, prios, bound)?;
+    let decisions = decide_last(alloc, c, begun, &second, now)?;
+    Ok(decisions)
+}
+
+// The decisions of a run on its basis, first over the jobs before a bound. Those of tasks that wait behind it are left out
+// where each does.
+fn decide_in_parts(
+    alloc: Global,
+    c: &Cluster,
+    basis: Basis,
+    prios: &Prios,
+    bound: &Bound,
+    now: u64,
+) -> Result<List<Decision>, AllocError>
+    requires { IsBasis c.now basis }
+    ensures { IfOk result (λ decisions.
+        TellsRun c.now (order_of c.now prios.now now) basis.moment decisions) }
+{
+    let begun = decide_first(alloc, c, basis, prios, bound, now)?;
     if others_wait(c, &begun) {
         return Ok(decisions_of(begun));
     }
-    let second = second_part(alloc, prios, &bound)?;
-    let decisions = decide_last(alloc, c, begun, &second, now)?;
+    let decisions = decide_second(alloc, c, begun, prios, bound, now)?;
     Ok(decisions)
+}
+
+// The decisions of a run on its basis, over all candidates in the order of their priorities: in parts where there are many.
+fn decide_prios(
+    alloc: Global,
+    c: &Cluster,
+    basis: Basis,
+    prios: &Prios,
+    now: u64,
+) -> Result<List<Decision>, AllocError>
+    requires { IsBasis c.now basis }
+    ensures { IfOk result (λ decisions.
+        TellsRun c.now (order_of c.now prios.now now) basis.moment decisions) }
+{
+    match bound_for(alloc, prios, FEW)? {
+        None => decide_all(alloc, c, basis, prios, now),
+        Some(bound) => decide_in_parts(alloc, c, basis, prios, &bound, now),
+    }
 }
 
 // The same over the priorities of all candidates.
@@ -95,7 +165,7 @@ fn decisions_on(
         TellsRun c.now (order_of c.now (prios_at c.now now) now) basis.moment decisions) }
 {
     let prios = run_prios(alloc, c, now)?;
-    let decisions = decide_in_parts(alloc, c, basis, &prios, now)?;
+    let decisions = decide_prios(alloc, c, basis, &prios, now)?;
     Ok(decisions)
 }
 

@@ -1,5 +1,5 @@
 // A daemon.
-ghost use Rattle.std.specs.Prelude.{◌≡◌, true, IfOk, option_copied};
+ghost use Rattle.std.specs.Prelude.{◌≡◌, ◌&&◌, true, IfOk, option_copied};
 ghost use Rattle.ge_collections.specs.Keyed.{at_number};
 ghost use Rattle.ge_execd.specs.declared.rows.Stage.TheVariants.{Ended};
 ghost use Rattle.ge_execd.specs.Orders.{orders_in};
@@ -155,12 +155,19 @@ impl Daemon {
         }
     }
 
+    /// Whether an answer settles the report of a kept end, which is forgotten then.
+    pub fn is_settled_by(&self, serial: u64, reply: &Reply) -> bool
+        ensures { result ≡ (settles reply.now.code && is_ended_stage (at_number self.now.tasks serial)) }
+    {
+        is_settled(reply.code) && is_ended(self.tasks.get(&serial))
+    }
+
     /// Forgets the kept end of a serial where the master's answer to its report has the code 0 or 22, and else does
     /// nothing. It takes no memory.
     pub fn answered(&mut self, serial: u64, reply: &Reply)
         ensures { self.new ≡ after_answer self.old serial reply.now }
     {
-        if is_settled(reply.code) && is_ended(self.tasks.get(&serial)) {
+        if self.is_settled_by(serial, reply) {
             self.tasks.remove(&serial);
         }
     }

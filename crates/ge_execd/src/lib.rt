@@ -8,9 +8,11 @@
 //!   master has answered, and then it is forgotten. [`can_end`]: the numbers that an end can have; [`end_line`]: its report.
 //!
 //! A serial is the number of a dispatch: a task that is started again has a new one. `specs/Orders` has the lines of orders,
-//! `specs/Daemons` what a daemon does, `specs/Shows` the forms of results that calls promise.
+//! `specs/Daemons` what a daemon does, `specs/Shows` the forms of results that calls promise, `specs/Bytes` a daemon's
+//! bytes.
 #![tactic(auto)]
 
+mod canonical;
 mod daemon;
 mod obeying;
 mod reading;

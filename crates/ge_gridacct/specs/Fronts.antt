@@ -2,8 +2,9 @@
 use Rattle.std.specs.Prelude.{◌≡◌, ◌⊎◌, ℕ, ◌+◌, ◌*◌, ◌<◌, ◌≤◌, List, ◌++◌, length, take, drop, Result, Ok}
 use Rattle.ge_limits.specs.Limits as limit
 use Rattle.ge_model_rows.specs.AccountRows.{Line}
-use Rattle.ge_model_log.specs.Lines.{bytes_of_lines, stands_for}
+use Rattle.ge_model_log.specs.Lines.{stands_for}
 use Rattle.ge_model_log.specs.declared.Wrong.{Wrong}
+use Rattle.ge_acctlog.specs.Records.{log_end}
 
 -- the ones are the first of the others
 abbrev pub IsFront : List Line → List Line → Type 0
@@ -26,20 +27,12 @@ KeepsFront stood lines image =
 abbrev pub record_lines : ℕ
 record_lines = 1024
 
--- where a list of records that ended at a place ends behind so many records of lines
-abbrev pub end_behind : ℕ → List Line → ℕ → ℕ
-end_behind end lines k = end + 5 * k + length (bytes_of_lines (take (k * record_lines) lines))
-
--- where the log would end with the record behind those, its gate included
-abbrev pub record_end : ℕ → List Line → ℕ → ℕ
-record_end end lines k = end_behind end lines k + 6 + length (bytes_of_lines (take record_lines (drop (k * record_lines) lines)))
-
 -- no record of these lines passes the limit of an area
 abbrev pub Fits : ℕ → List Line → Type 0
-Fits end lines = (k : ℕ) → k * record_lines < length lines → record_end end lines k ≤ limit.area_bytes
+Fits end lines = (k : ℕ) → k * record_lines < length lines → log_end record_lines end lines (k + 1) ≤ limit.area_bytes
 
 -- one of them does
 pub record IsFull (end : ℕ) (lines : List Line) : Type 0 where
   pub k : ℕ
   pub within : k * record_lines < length lines
-  pub past : limit.area_bytes < record_end end lines k
+  pub past : limit.area_bytes < log_end record_lines end lines (k + 1)

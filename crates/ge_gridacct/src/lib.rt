@@ -11,7 +11,6 @@ mod flushing;
 mod holding;
 mod records;
 mod showing;
-mod summing;
 mod texts;
 mod top;
 mod totals;

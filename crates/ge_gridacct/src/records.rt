@@ -1,10 +1,10 @@
-// Lines appended record by record.
-ghost use Rattle.std.specs.Prelude.{◌≡◌, ◌≤◌, ◌++◌, IfOk, OnOk, List as Items, length, take, drop, false};
+// Lines appended in records.
+ghost use Rattle.std.specs.Prelude.{◌≡◌, ◌≤◌, ◌++◌, OnOk, List as Items, false};
 ghost use Rattle.ge_model_rows.specs.AccountRows.{Line as Row};
 ghost use Rattle.ge_outside.specs.Faults.{Rose};
 ghost use Rattle.ge_spool.specs.Moments.{Since};
 ghost use Rattle.ge_acctlog.specs.Logs.{IsLogged, HasRoom, end_of, is_dead};
-ghost use Rattle.ge_gridacct.specs.Fronts.{StandsBehind, record_lines};
+ghost use Rattle.ge_gridacct.specs.Fronts.{StandsBehind};
 ghost use Rattle.ge_gridacct.specs.Records.{AppendsAll};
 
 use ge_acctlog::{Log, LogStop};
@@ -13,18 +13,6 @@ use ge_rows::Line;
 
 /// How many lines a record has, but for the last.
 const RECORD_LINES: usize = 1_024;
-
-// The lines of the next record, and the others.
-fn next_record(lines: &[Line]) -> (&[Line], &[Line])
-    ensures first { result.0.now ≡ take record_lines lines.now }
-    ensures others { result.1.now ≡ drop record_lines lines.now }
-{
-    if lines.len() <= RECORD_LINES {
-        (lines, &[])
-    } else {
-        lines.split_at(RECORD_LINES)
-    }
-}
 
 /// Appends all of these lines. At each moment a stop leaves what stood before, and the first of them.
 pub(crate) fn append_all<E: Disk>(
@@ -44,9 +32,13 @@ pub(crate) fn append_all<E: Disk>(
 {
     let mut rest = lines;
     'records: while !rest.is_empty() {
-        let (record, others) = next_record(rest);
-        log.append(disk, record)?;
-        rest = others;
+        match log.append_records(disk, rest, RECORD_LINES) {
+            Ok(appended) => {
+                let (_, others) = rest.split_at(appended);
+                rest = others;
+            }
+            Err(stop) => return Err(stop),
+        }
     }
     Ok(())
 }

@@ -13,11 +13,11 @@ ghost use Rattle.ge_gridacct.specs.Sights.{LogSays, sight_of};
 
 use crate::faults::{DONE, Fault, status_of};
 use crate::holding::{hold, write_held};
-use crate::summing::sums_text;
 use crate::texts::{fed, shown_line};
 use crate::totals::sums_of;
 use crate::words::Look;
 use ge_acctlog::Log;
+use ge_listing::sums_text;
 use ge_outside::{Disk, Sink, write_all};
 use std::alloc::Global;
 

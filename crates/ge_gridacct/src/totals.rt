@@ -5,10 +5,11 @@ ghost use Rattle.ge_model_rows.specs.AccountRows.{Line as Row};
 ghost use Rattle.ge_outside.specs.Faults.{Rose};
 ghost use Rattle.ge_acctlog.specs.Logs.{IsLogged};
 ghost use Rattle.ge_acctlog.specs.Reads.{Blames, IsDiskOrMemory};
-ghost use Rattle.ge_gridacct.specs.Sums.{AreSums, counted};
+ghost use Rattle.ge_listing.specs.Sums.{AreSums};
+ghost use Rattle.ge_gridacct.specs.Sums.{counted};
 
-use crate::summing::{Sums, no_sums, with_line};
 use ge_acctlog::{Log, LogFault};
+use ge_listing::{Sums, no_sums, with_line};
 use ge_outside::Disk;
 use ge_pieces::is_word;
 use ge_rows::Line;

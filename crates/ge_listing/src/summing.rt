@@ -1,6 +1,6 @@
 //! The sums of accounting lines.
 
-ghost use Rattle.std.specs.Prelude.{◌≡◌, ◌^◌, ◌<◌, ◌+◌, [], IfOk, filter, List as Items};
+ghost use Rattle.std.specs.Prelude.{◌≡◌, ◌^◌, ◌<◌, ◌+◌, [], ◌∷◌, ◌++◌, IfOk, filter, List as Items};
 ghost use Rattle.ge_base.specs.Fixed.{cut_sum};
 ghost use Rattle.ge_collections.specs.Keyed.{text_eq};
 ghost use Rattle.ge_model_report.specs.Accounting.{sum_line, wallclock};
@@ -15,21 +15,21 @@ use std::alloc::{AllocError, Global};
 
 /// How many lines there are, and the sums of what they report, each cut at 2^128 - 1.
 #[derive(Clone, Copy)]
-pub(crate) struct Sums {
+pub struct Sums {
     /// How many lines.
-    pub(crate) count: usize,
+    pub count: usize,
     /// The sum of the times that tasks ran, in seconds.
-    pub(crate) ran: u128,
+    pub ran: u128,
     /// The sum of `cpu`.
-    pub(crate) processor: u128,
+    pub processor: u128,
     /// The sum of `mem`.
-    pub(crate) memory: u128,
+    pub memory: u128,
     /// The sum of `io`.
-    pub(crate) moved: u128,
+    pub moved: u128,
 }
 
-// The sums of no lines.
-fn none() -> Sums
+/// The sums of no lines.
+pub fn no_sums() -> Sums
     ensures { AreSums result [] }
 {
     Sums {
@@ -41,9 +41,11 @@ fn none() -> Sums
     }
 }
 
-// The sums with one more line.
-fn with_line(sums: &Sums, line: &Line) -> Sums
+/// The sums with one more line.
+pub fn with_line(sums: &Sums, line: &Line) -> Sums
     requires { sums.now.count + 1 < 2 ^ 64 }
+    ensures sums { (lines : Items Row) → AreSums sums.now lines
+        → AreSums result (lines ++ line.now ∷ []) }
     ensures count { result.count ≡ sums.now.count + 1 }
     ensures ran { result.ran ≡ cut_sum sums.now.ran (wallclock line.now) }
     ensures processor { result.processor ≡ cut_sum sums.now.processor line.now.cpu }
@@ -63,7 +65,7 @@ fn with_line(sums: &Sums, line: &Line) -> Sums
 pub(crate) fn sums_of_all(lines: &[Line]) -> Sums
     ensures { AreSums result lines.now }
 {
-    let mut sums = none();
+    let mut sums = no_sums();
     for line in lines {
         sums = with_line(&sums, line);
     }
@@ -74,7 +76,7 @@ pub(crate) fn sums_of_all(lines: &[Line]) -> Sums
 pub(crate) fn sums_of_owner(lines: &[Line], owner: &Text) -> Sums
     ensures { AreSums result (filter (λ line. text_eq line.owner owner.now) lines.now) }
 {
-    let mut sums = none();
+    let mut sums = no_sums();
     for line in lines {
         if line.owner == *owner {
             sums = with_line(&sums, line);
@@ -84,7 +86,7 @@ pub(crate) fn sums_of_owner(lines: &[Line], owner: &Text) -> Sums
 }
 
 /// A name with the number of lines and their sums.
-pub(crate) fn sums_text(alloc: Global, name: &[u8], sums: &Sums) -> Result<Text, AllocError>
+pub fn sums_text(alloc: Global, name: &[u8], sums: &Sums) -> Result<Text, AllocError>
     ensures { (lines : Items Row) → AreSums sums.now lines → IfOk result (λ text. text
         ≡ sum_line name.now lines) }
 {

@@ -1,6 +1,6 @@
 -- What handling a batch comes to, at each exit.
 use Rattle.std.proofs.Common.{◌≡◌, ℕ, ◌+◌, ◌<◌, ◌≤◌, Bool, true, false, List, [], ◌∷◌, length, replicate, Result, Ok, Err, refl, ap, ◌∙◌, sym, subst, inl, inr, arith, fold}
-use Rattle.std.specs.Prelude.{IsTrue, ◌↔◌, ◌||◌, flat_map}
+use Rattle.std.specs.Prelude.{IsTrue, ◌↔◌, ◌||◌}
 use Rattle.std.proofs.lemmas.List.{length-replicate}
 use Rattle.ge_limits.specs.Limits as limit
 use Rattle.ge_model_rows.specs.ClusterRows.{Cluster}
@@ -8,22 +8,28 @@ use Rattle.ge_model_rows.specs.EventRows.{Event, Reply, Planned}
 use Rattle.ge_model_journal.specs.Disk.{IsImageSince}
 use Rattle.ge_model_journal.specs.Journal.{State, IsOneOf}
 use Rattle.ge_model_jobs.specs.Applying.{after_entry}
-use Rattle.ge_model_program.specs.StandsFor.{entry_bytes, cluster_bytes, cluster_fits, held, StandsForOneOf}
+use Rattle.ge_model_program.specs.StandsFor.{cluster_bytes, cluster_fits, held, StandsForOneOf}
 use Rattle.ge_model_program.specs.Traced.{Traced, traced}
 use Rattle.ge_spool.specs.Settled.{IsSettled, Grows, format_of}
 use Rattle.ge_spool.specs.declared.spool.Spool.{Spool}
-use Rattle.ge_spool.proofs.Settling.{still-moments}
+use Rattle.ge_model_program.specs.declared.Wrong.TheVariants.{Frame, Bad}
+use Rattle.ge_keeping.specs.Keeping.{Keeps, OnUnwritten as KeptUnwritten, OnWritten}
+use Rattle.ge_keeping.specs.declared.faults.KeepFault.{KeepFault}
+use Rattle.ge_keeping.specs.declared.faults.KeepFault.TheVariants as fault
+use Rattle.ge_keeping.proofs.Standing as keeping
 use Rattle.ge_master.specs.declared.faults.Stop.{Stop}
 use Rattle.ge_master.specs.declared.faults.Stop.TheVariants.{Disk, Full, Spent, Dead}
 use Rattle.ge_master.specs.declared.staging.Staged.{Staged}
 use Rattle.ge_master.specs.Areas.{Areas, HasFailed, EachSince, StandsSince}
-use Rattle.ge_master.specs.Storing.{compacts, written_end, stored, IsStored, stored_syncs, Stores, OnUnwritten, OnWritten}
+use Rattle.ge_master.specs.Storing.{compacts, written_end, stored, IsStored, stored_syncs, StopsAs, OnUnwritten}
 use Rattle.ge_master.specs.Staging.{IsStaged}
 use Rattle.ge_master.specs.Homes.{Parts, IsHome}
+use Rattle.ge_master.specs.Ledgers.{ledger_of}
 use Rattle.ge_master.specs.Handling.{traced_size, traced_end, RepliesAs, HandlesBatch}
-use Rattle.ge_master.proofs.Standing.{stands-for, stands-for-one, holds-stored, no_entries}
+use Rattle.ge_master.proofs.Standing.{holds-stored, no_entries}
 use Rattle.ge_master.proofs.Staged.{traced-applied}
 use Rattle.ge_master.proofs.Bounds.{few-stored, compacts-full}
+use Rattle.ge_master.proofs.KeptOn.{has-entries, ledger-same, ledger-next}
 
 -- what isn't empty has something
 pub not_empty : {X : Type 0} (t : Bool) (xs : List X) → (IsTrue t ↔ (xs ≡ [])) → t ≡ false → 0 < length xs
@@ -33,21 +39,9 @@ not_empty t [] is lacks = absurd (never t (is.1 refl) lacks)
     never t holds lacks = cc
 not_empty t (x ∷ xs) is lacks = omega arith
 
--- what follows from a fact where nothing was written
-pub on-unwritten : {T : Type 0} (r : Result T Stop) (P Q : Type 0) → (P → Q) → OnUnwritten r P → OnUnwritten r Q
-on-unwritten (Ok done) P Q f h = tt
-on-unwritten (Err Disk) P Q f h = tt
-on-unwritten (Err (Full place)) P Q f h = f h
-on-unwritten (Err Spent) P Q f h = f h
-on-unwritten (Err Dead) P Q f h = f h
-
 -- while nothing is written every pair of images stands for the cluster
-pub stays : (old : Parts) (before after : Areas) → IsHome old before → after.a ≡ before.a → after.b ≡ before.b → StandsSince before after old.cluster
-stays old before after home same_a same_b c d of_c of_d =
-    stands-for c d home.state old.cluster
-    (still-moments old.spool before.a before.b home.state home.settled c d
-    (subst (λ told. IsImageSince (length before.a) told c) same_a of_c) (subst (λ told. IsImageSince (length before.b) told d) same_b of_d))
-    home.holds
+stays : (old : Parts) (before after : Areas) → IsHome old before → after.a ≡ before.a → after.b ≡ before.b → StandsSince before after old.cluster
+stays old before after home same_a same_b = keeping.stays Frame Bad held old.spool old.cluster before after home same_a same_b
 
 module _ (plan : Cluster → Event → Planned) (old : Parts) (events : List Event) (before after : Areas) where
   -- there is no memory, and nothing was written
@@ -96,6 +90,7 @@ module _ (plan : Cluster → Event → Planned) (old : Parts) (events : List Eve
               cluster = is.cluster;
               stopping = asks ∙ ap (λ s. old.stopping || s) is.stop;
               journal = inl (none, refl);
+              ledger = ledger-same trace (ledger_of old.spool) _ none;
               few = λ low. inl none;
             };
             home = λ home. record {
@@ -126,10 +121,11 @@ module _ (plan : Cluster → Event → Planned) (old : Parts) (events : List Eve
       the_syncs = subst (λ body. after.syncs ≤ before.syncs + stored_syncs (compacts old.spool (length body))) is.bytes syncs
 
       -- there is something to write
+      some-entries : 0 < length trace.entries
+      some-entries = has-entries trace.entries staged.body is.bytes some
+
       never-idle : trace.entries ≡ [] → after ≡ before
-      never-idle none =
-          let empty : length staged.body ≡ 0 = ap length is.bytes ∙ ap (λ entries. length (flat_map entry_bytes entries)) none in
-          absurd (omega (arith, some, empty))
+      never-idle none = absurd (omega (arith, some-entries, ap length none))
 
       -- what was written stands for the cluster after the batch
       written-holds : (compacting ≡ true → IsTrue (cluster_fits cluster)) → (home : IsHome old before)
@@ -141,7 +137,7 @@ module _ (plan : Cluster → Event → Planned) (old : Parts) (events : List Eve
       each-moment : (compacting ≡ true → IsTrue (cluster_fits cluster)) → IsHome old before → EachSince before after (StandsForOneOf old.cluster trace.cluster)
       each-moment fits home c d of_c of_d =
           subst (λ x. StandsForOneOf old.cluster x c d) is.cluster
-          (stands-for-one home.state (stored compacting home.state staged.body (cluster_bytes cluster)) old.cluster cluster c d home.holds (written-holds fits home)
+          (keeping.stands-for-one Frame Bad held home.state (stored compacting home.state staged.body (cluster_bytes cluster)) old.cluster cluster c d home.holds (written-holds fits home)
           (moments home.state home.settled c d of_c of_d))
 
       -- it was not kept
@@ -169,21 +165,25 @@ module _ (plan : Cluster → Event → Planned) (old : Parts) (events : List Eve
           fault-as stop new answer (λ home c d of_c of_d. inl (stays old before after home same_a same_b c d of_c of_d))
           (λ home. unwritten (stays old before after home same_a same_b))
 
-      pub handled-fault : (stop : Stop) (new : Parts) → Stores (Err stop) (written_end old.spool cluster (length staged.body)) (HasFailed before after)
-          → (compacting ≡ true → OnWritten {T = Unit {0}} (Err stop) (IsTrue (cluster_fits cluster)))
-          → OnUnwritten {T = Unit {0}} (Err stop) ((after.a ≡ before.a) × (after.b ≡ before.b)) → HandlesBatch plan old new events (Err stop) before after
-      handled-fault Disk new answer fits same =
-          fault-as Disk new (answer.1, subst (λ end. end ≤ limit.area_bytes) the_end answer.0) (each-moment fits) (λ home. tt)
-      handled-fault (Full place) new answer fits same =
+      pub handled-fault : (f : KeepFault) (stop : Stop) (new : Parts) → StopsAs f stop → Keeps (Err f) (written_end old.spool cluster (length staged.body)) (HasFailed before after)
+          → (compacting ≡ true → OnWritten {T = Unit {0}} (Err f) (IsTrue (cluster_fits cluster)))
+          → KeptUnwritten {T = Unit {0}} (Err f) ((after.a ≡ before.a) × (after.b ≡ before.b)) → HandlesBatch plan old new events (Err stop) before after
+      handled-fault fault.Disk stop new stops answer fits same =
+          subst (λ s. HandlesBatch plan old new events (Err s) before after) (sym stops)
+          (fault-as Disk new (answer.1, subst (λ end. end ≤ limit.area_bytes) the_end answer.0) (each-moment fits) (λ home. tt))
+      handled-fault (fault.Full place) stop new stops answer fits same =
           let past : limit.area_bytes < place = omega (arith, answer.0, answer.1) in
           let end : place ≡ traced_end old.spool trace = answer.1 ∙ the_end in
-          still (Full place) new (record {
-            past = past;
+          subst (λ s. HandlesBatch plan old new events (Err s) before after) (sym stops)
+          (still (Full place) new (record {
+            some = some-entries;
             end = end;
+            past = past;
             compacting = compacts-full old.spool (traced_size trace) (19 + length (cluster_bytes trace.cluster)) place past end;
-          }) same.0 same.1 (λ stands. stands)
-      handled-fault Spent new answer fits same = still Spent new tt same.0 same.1 (λ stands. stands)
-      handled-fault Dead new answer fits same = absurd answer
+          }) same.0 same.1 (λ stands. stands))
+      handled-fault fault.Memory stop new stops answer fits same =
+          subst (λ s. HandlesBatch plan old new events (Err s) before after) (sym stops) (still Spent new tt same.0 same.1 (λ stands. stands))
+      handled-fault fault.Dead stop new stops answer fits same = absurd answer
 
       -- it was kept
       pub handled-kept : (stopping : Bool) → stopping ≡ (old.stopping || staged.stop) → (compacting ≡ true → IsTrue (cluster_fits cluster))
@@ -204,6 +204,7 @@ module _ (plan : Cluster → Event → Planned) (old : Parts) (events : List Eve
                 cluster = is.cluster;
                 stopping = asks ∙ ap (λ s. old.stopping || s) is.stop;
                 journal = inr journal;
+                ledger = ledger-next trace old.spool later some-entries journal;
                 few = λ low. inr (few-stored old.spool later (traced_size trace) (length (cluster_bytes trace.cluster)) journal low);
               };
               home = λ home. record {

@@ -3,8 +3,8 @@ pub mod Standing
 pub mod Bounds
 pub mod Stops
 pub mod Staged
+pub mod KeptOn
 pub mod Handled
 pub mod Singles
 pub mod AtHome
 pub mod ReadBack
-pub mod Opened

@@ -5,14 +5,14 @@ use Rattle.std.specs.List.{list_all}
 use Rattle.std.proofs.lemmas.List.{length-drop, append-nil}
 use Rattle.std.proofs.lemmas.List.Concat.{flat_map-cons}
 use Rattle.std.proofs.lemmas.Bool.{ne_eqb}
-use Rattle.ge_model_journal.specs.Journal.{State, with_record, compacted}
+use Rattle.ge_model_journal.specs.Journal.{State, compacted}
 use Rattle.ge_model_codec.specs.Reading.{Reading}
 use Rattle.ge_model_codec.specs.declared.TakeFault.{TakeFault}
 use Rattle.ge_model_codec.specs.Code.{Code, whole}
 use Rattle.ge_model_codec.specs.Canonical.{IsCanonical}
 use Rattle.ge_codec.specs.Places.{both, drop-past, ends_behind}
 use Rattle.ge_snapshot.specs.Whole.{whole_read}
-use Rattle.ge_model_program.specs.Reading.{or_at, after_from, after_record, at_record, after_records, in_snapshot, held_in}
+use Rattle.ge_model_program.specs.Reading.{after_from, after_record, in_snapshot, held_in}
 
 module _ {C E : Type 0} (snapshot : Code C) (entry : Code E) (after : C → E → C) (opening : C) where
   -- the last entry
@@ -34,11 +34,6 @@ module _ {C E : Type 0} (snapshot : Code C) (entry : Code E) (after : C → E �
       → elim reading as (λ r. Option C) [ Ok p ↦ elim (p.1 == size) [ true ↦ Some (after c p.0) | false ↦ more p.1 (after c p.0) ] | Err fault ↦ None ] ≡ None
   none_applies reading fault size c more read =
       ap (λ r. elim r as (λ r. Option C) [ Ok p ↦ elim (p.1 == size) [ true ↦ Some (after c p.0) | false ↦ more p.1 (after c p.0) ] | Err fault ↦ None ]) read
-
-  -- what was wrong before stays wrong
-  pub after_records-wrong : (place : ℕ) (records : List (List ℕ)) (wrong : ℕ) → after_records snapshot entry after opening place records (Err wrong) ≡ Err wrong
-  after_records-wrong place [] wrong = refl
-  after_records-wrong place (bytes ∷ records) wrong = after_records-wrong (place + 5 + length bytes) records wrong
 
   module _ (canonical : IsCanonical entry) (some : (e : E) → 0 < length (entry.write e)) where
     -- entries that stand from a place on up to the end are applied
@@ -76,20 +71,6 @@ module _ {C E : Type 0} (snapshot : Code C) (entry : Code E) (after : C → E �
         as_many : (xs : List E) → length xs ≤ length (flat_map entry.write xs)
         as_many [] = omega arith
         as_many (x ∷ xs) = omega (arith, as_many xs, some x, ap length (flat_map-cons entry.write x xs), length-append (entry.write x) (flat_map entry.write xs))
-
-  -- one record more
-  pub after_records-more : (place : ℕ) (records : List (List ℕ)) (bytes : List ℕ) (c : Result C ℕ) (d : C) → after_records snapshot entry after opening place records c ≡ Ok d
-      → (later : C) → after_record snapshot entry after opening d bytes ≡ Some later → after_records snapshot entry after opening place (records ++ bytes ∷ []) c ≡ Ok later
-  after_records-more place [] bytes c d stands later applies =
-      ap (at_record snapshot entry after opening place bytes) stands ∙ ap (or_at place) applies
-  after_records-more place (first ∷ records) bytes c d stands later applies =
-      after_records-more (place + 5 + length first) records bytes (at_record snapshot entry after opening place first c) d stands later applies
-
-  -- a state with one record more
-  pub held_in-more : (s : State) (bytes : List ℕ) (c later : C) → held_in snapshot entry after opening s ≡ Ok c → after_record snapshot entry after opening c bytes ≡ Some later
-      → held_in snapshot entry after opening (with_record s bytes) ≡ Ok later
-  held_in-more s bytes c later stands applies =
-      after_records-more (23 + length s.snapshot) s.records bytes (in_snapshot snapshot entry after opening s.snapshot) c stands later applies
 
   -- a snapshot that was written is read again
   snapshot_read : (bytes : List ℕ) (c : C) → IsCanonical snapshot → IsTrue (snapshot.fits c) → bytes ≡ snapshot.write c → 0 < length bytes → in_snapshot snapshot entry after opening bytes ≡ Ok c

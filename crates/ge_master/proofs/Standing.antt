@@ -1,5 +1,5 @@
 -- What areas stand for after a batch was kept.
-use Rattle.std.proofs.Common.{◌≡◌, ℕ, ◌<◌, Bool, true, false, List, [], ◌∷◌, ◌++◌, length, Ok, Err, refl, ap, ◌∙◌, sym, inl, inr, ⊎_elim, arith, fold, flat_map, length-append}
+use Rattle.std.proofs.Common.{◌≡◌, ℕ, ◌<◌, Bool, true, false, List, [], ◌∷◌, ◌++◌, length, Ok, Err, refl, ap, ◌∙◌, sym, arith, fold, flat_map, length-append}
 use Rattle.std.specs.Prelude.{IsTrue, if◌then◌else◌, ◌==◌}
 use Rattle.std.proofs.lemmas.List.{append-nil}
 use Rattle.std.proofs.lemmas.List.Concat.{flat_map-cons}
@@ -15,23 +15,21 @@ use Rattle.ge_model_codec.specs.Reading.{Reading}
 use Rattle.ge_model_codec.specs.declared.TakeFault.TheVariants.{Short}
 use Rattle.ge_codec.specs.EntryLaws.{entry_canonical, entry_canonical_1}
 use Rattle.ge_codec.specs.ClusterLaws.{cluster_canonical}
-use Rattle.ge_model_journal.specs.Area.{head}
-use Rattle.ge_model_journal.specs.Journal.{State, choice, meaning, with_record, compacted, IsOneOf, counted_area}
+use Rattle.ge_model_journal.specs.Journal.{State, meaning, with_record, compacted}
 use Rattle.ge_model_jobs.specs.Applying.{after_entry}
-use Rattle.ge_model_program.specs.Reading.{held_in}
-use Rattle.ge_model_program.specs.StandsFor.{snapshot_code, body_code, entry_bytes, cluster_bytes, entry_fits, cluster_fits, held, or_bad, or_frame, stands_for, StandsForOneOf}
+use Rattle.ge_model_program.specs.Reading.{after_record, in_snapshot, held_in}
+use Rattle.ge_model_program.specs.StandsFor.{snapshot_code, body_code, entry_bytes, cluster_bytes, entry_fits, cluster_fits, held, stands_for}
+use Rattle.ge_model_program.specs.declared.Wrong.TheVariants.{Frame, Bad}
+use Rattle.ge_keeping.proofs.Standing as keeping
+use Rattle.ge_keeping.proofs.Standing.{held-more}
 use Rattle.ge_master.specs.Storing.{stored}
 use Rattle.ge_master.specs.Staging.{AreFit}
-use Rattle.ge_master.proofs.ReadAgain.{record_applies, held_in-more, held_in-compacted}
+use Rattle.ge_master.proofs.ReadAgain.{record_applies, held_in-compacted}
 
 -- what a state holds is what areas with that meaning stand for
 pub stands-for : (a b : List ℕ) (s : State) (c : Cluster) → meaning a b ≡ Ok s → held s ≡ Ok c → stands_for a b ≡ Ok c
 stands-for a b s c is holds =
-    ap (or_frame (counted_area (choice (head a) (head b)))) is ∙ ap (or_bad (counted_area (choice (head a) (head b)))) holds
-
-pub stands-for-one : (before after : State) (c d : Cluster) (a b : List ℕ) → held before ≡ Ok c → held after ≡ Ok d → IsOneOf before after a b → StandsForOneOf c d a b
-stands-for-one before after c d a b holds later is =
-    ⊎_elim (λ h. inl (stands-for a b before c h holds)) (λ h. inr (stands-for a b after d h later)) is
+    keeping.stands-for Frame Bad held a b s c is holds
 
 -- what begins with something has something
 some_front : (xs ys : List ℕ) → 0 < length xs → 0 < length (xs ++ ys)
@@ -83,7 +81,8 @@ holds-record : (s : State) (body : List ℕ) (c : Cluster) (e : Entry) (es : Lis
 unfolding entry_bytes entry_fits
 holds-record s body c e es format holds is fits =
     held_written (with_record s body) format
-    ∙ held_in-more cluster_code entry_code after_entry opening_cluster s body c (fold after_entry c (e ∷ es)) (sym (held_written s format) ∙ holds)
+    ∙ held-more (in_snapshot cluster_code entry_code after_entry opening_cluster) (after_record cluster_code entry_code after_entry opening_cluster)
+    s body c (fold after_entry c (e ∷ es)) (sym (held_written s format) ∙ holds)
     (record_applies cluster_code entry_code after_entry opening_cluster entry_canonical (λ e. some_entry e) es e body c fits is)
 
 -- a snapshot

@@ -1,38 +1,14 @@
--- The stop that a fault of the journal makes.
-use Rattle.std.proofs.Common.{◌≡◌, ℕ, ◌+◌, Bool, true, false, List, length, Result, Ok, Err, sym, subst}
-use Rattle.ge_spool.specs.Answers.{Answers, OnRefusal}
-use Rattle.ge_spool.specs.declared.faults.AppendFault.{AppendFault}
-use Rattle.ge_spool.specs.declared.faults.AppendFault.TheVariants as fault
-use Rattle.ge_master.specs.Storing.{StopsAs, Stores, OnUnwritten, OnWritten}
+-- The stop that a fault of keeping makes.
+use Rattle.std.proofs.Common.{◌≡◌, Err, sym, subst}
+use Rattle.ge_keeping.specs.Keeping as keeping
+use Rattle.ge_keeping.specs.declared.faults.KeepFault.{KeepFault}
+use Rattle.ge_keeping.specs.declared.faults.KeepFault.TheVariants as fault
+use Rattle.ge_master.specs.Storing.{StopsAs, OnUnwritten}
 use Rattle.ge_master.specs.declared.faults.Stop.{Stop}
-use Rattle.ge_master.specs.declared.faults.Stop.TheVariants.{Disk, Full, Spent, Dead}
 
--- a journal that lives is not dead
-never : (dead : Bool) → dead ≡ false → dead ≡ true → ⊥
-never dead alive gone = cc
-
--- it has the cause of the fault
-stores-as : (f : AppendFault) (stop : Stop) (dead : Bool) (end : ℕ) (reason : Type 0) → dead ≡ false → Answers (Err f) dead end reason → StopsAs f stop
-    → Stores (Err stop) end reason
-stores-as fault.Disk stop dead end reason alive h is = subst (λ s. Stores (Err s) end reason) (sym is) (h.1, h.2)
-stores-as (fault.Full place) stop dead end reason alive h is = subst (λ s. Stores (Err s) end reason) (sym is) (h.1, h.2)
-stores-as fault.Dead stop dead end reason alive h is = absurd (never dead alive h)
-
-pub stores-snapshot : (f : AppendFault) (stop : Stop) (dead : Bool) (written snapshot : List ℕ) (reason : Type 0) → dead ≡ false
-    → Answers (Err f) dead (19 + length written) reason → StopsAs f stop → written ≡ snapshot → Stores (Err stop) (19 + length snapshot) reason
-stores-snapshot f stop dead written snapshot reason alive h is same =
-    subst (λ bytes. Stores (Err stop) (19 + length bytes) reason) same (stores-as f stop dead (19 + length written) reason alive h is)
-
--- and what wasn't touched then isn't now
-pub untouched-as : (f : AppendFault) (stop : Stop) (X P Q : Type 0) → OnRefusal (Err f) (X × P × Q) → StopsAs f stop → OnUnwritten {T = Unit {0}} (Err stop) (P × Q)
-untouched-as fault.Disk stop X P Q h is = subst (λ s. OnUnwritten {T = Unit {0}} (Err s) (P × Q)) (sym is) tt
-untouched-as (fault.Full place) stop X P Q h is = subst (λ s. OnUnwritten {T = Unit {0}} (Err s) (P × Q)) (sym is) (h.1, h.2)
-untouched-as fault.Dead stop X P Q h is = subst (λ s. OnUnwritten {T = Unit {0}} (Err s) (P × Q)) (sym is) (h.1, h.2)
-
--- what holds anyway holds where something may have been written
-pub on-written : {T : Type 0} (r : Result T Stop) (P : Type 0) → P → OnWritten r P
-on-written (Ok done) P h = h
-on-written (Err Disk) P h = h
-on-written (Err (Full place)) P h = tt
-on-written (Err Spent) P h = tt
-on-written (Err Dead) P h = tt
+-- what holds where nothing was written holds at the stop
+pub unwritten-as : (T X : Type 0) (f : KeepFault) (stop : Stop) (P : Type 0) → StopsAs f stop → keeping.OnUnwritten {T = T} (Err f) P → OnUnwritten {T = X} (Err stop) P
+unwritten-as T X fault.Disk stop P is h = subst (λ s. OnUnwritten {T = X} (Err s) P) (sym is) tt
+unwritten-as T X (fault.Full place) stop P is h = subst (λ s. OnUnwritten {T = X} (Err s) P) (sym is) h
+unwritten-as T X fault.Memory stop P is h = subst (λ s. OnUnwritten {T = X} (Err s) P) (sym is) h
+unwritten-as T X fault.Dead stop P is h = subst (λ s. OnUnwritten {T = X} (Err s) P) (sym is) h

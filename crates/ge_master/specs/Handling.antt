@@ -1,15 +1,17 @@
 -- What handling events answers and leaves.
-use Rattle.std.specs.Prelude.{◌≡◌, ◌⊎◌, ℕ, ◌+◌, ◌<◌, ◌≤◌, Bool, true, ◌||◌, List, [], ◌∷◌, length, flat_map, Result, Ok, Err, OnOk}
+use Rattle.std.specs.Prelude.{◌≡◌, ◌⊎◌, ℕ, ◌+◌, ◌<◌, ◌≤◌, Bool, ◌||◌, List, [], ◌∷◌, length, flat_map, Result, Ok, Err, OnOk}
 use Rattle.ge_limits.specs.Limits as limit
 use Rattle.ge_model_rows.specs.ClusterRows.{Cluster}
 use Rattle.ge_model_rows.specs.EventRows.{Event, Reply, Planned}
 use Rattle.ge_model_core.specs.Trace.{answer_of}
 use Rattle.ge_model_program.specs.StandsFor.{entry_bytes, cluster_bytes, StandsForOneOf}
 use Rattle.ge_model_program.specs.Traced.{Traced, traced, single}
+use Rattle.ge_model_program.specs.Keeping.{FitsBatch, HasNoRoom, next_ledger}
 use Rattle.ge_spool.specs.Settled.{Grows, generation_of, record_count}
 use Rattle.ge_spool.specs.declared.spool.Spool.{Spool}
 use Rattle.ge_master.specs.Areas.{Areas, HasFailed, EachSince, StandsSince}
 use Rattle.ge_master.specs.Storing.{record_limit, last_generation, compacts, written_end, IsStored, stored_syncs, OnUnwritten}
+use Rattle.ge_master.specs.Ledgers.{ledger_of}
 use Rattle.ge_master.specs.Homes.{Parts, IsHome}
 use Rattle.ge_master.specs.declared.faults.Stop.{Stop}
 use Rattle.ge_master.specs.declared.faults.Stop.TheVariants.{Disk, Full, Spent, Dead}
@@ -26,21 +28,12 @@ traced_compacts spool t = compacts spool (traced_size t)
 abbrev pub traced_end : Spool → Traced → ℕ
 traced_end spool t = written_end spool t.cluster (traced_size t)
 
--- there was nothing to write, or there was room for it
-abbrev pub HadRoom : Spool → Traced → Type 0
-HadRoom spool t = (t.entries ≡ []) ⊎ (traced_end spool t ≤ limit.area_bytes)
-
--- There was no room for it: it compacts, and the area would end at the place, past the limit. In the last generation it appends.
-pub record HadNoRoom (spool : Spool) (t : Traced) (place : ℕ) : Type 0 where
-  pub past : limit.area_bytes < place
-  pub end : place ≡ traced_end spool t
-  pub compacting : generation_of spool < last_generation → traced_compacts spool t ≡ true
-
--- the answer for a trace, whose replies are handed out when all it changed is kept; a disk fails only for a reason
+-- the answer for a trace, whose replies are handed out when all it changed is kept; Full comes exactly where there is no room for that, and
+-- a disk fails only for a reason
 abbrev pub RepliesAs : Traced → Spool → Result (List Reply) Stop → Type 0 → Type 0
-RepliesAs t spool (Ok replies) reason = (replies ≡ t.replies) × HadRoom spool t
+RepliesAs t spool (Ok replies) reason = (replies ≡ t.replies) × FitsBatch (ledger_of spool) t
 RepliesAs t spool (Err Disk) reason = reason × (traced_end spool t ≤ limit.area_bytes)
-RepliesAs t spool (Err (Full place)) reason = HadNoRoom spool t place
+RepliesAs t spool (Err (Full place)) reason = HasNoRoom (ledger_of spool) t place
 RepliesAs t spool (Err Spent) reason = Unit {0}
 RepliesAs t spool (Err Dead) reason = ⊥
 
@@ -56,6 +49,7 @@ pub record HasHandled (t : Traced) (old new : Parts) : Type 0 where
   pub cluster : new.cluster ≡ t.cluster
   pub stopping : new.stopping ≡ (old.stopping || t.stopped)
   pub journal : KeepsTrace t old.spool new.spool
+  pub ledger : ledger_of new.spool ≡ next_ledger (ledger_of old.spool) t
   -- in the last generation no bound is kept
   pub few : generation_of old.spool < last_generation → (t.entries ≡ []) ⊎ (record_count new.spool ≤ record_limit)
 

@@ -2,6 +2,7 @@ pub mod Areas
 pub mod Storing
 pub mod Staging
 pub mod Homes
+pub mod Ledgers
 pub mod Handling
 pub mod Masters
 pub mod OpeningMasters

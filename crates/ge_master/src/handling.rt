@@ -4,15 +4,27 @@ ghost use Rattle.ge_model_core.specs.Plan.{plan_of};
 ghost use Rattle.ge_spool.specs.Settled.{HasRoom, is_dead};
 ghost use Rattle.ge_master.specs.Areas.{areas_of};
 ghost use Rattle.ge_master.specs.Handling.{HandlesBatch};
-ghost use Rattle.ge_master.specs.Storing.{OnUnwritten};
+ghost use Rattle.ge_master.specs.Storing.{StopsAs, OnUnwritten};
 
 use crate::Stop;
 use crate::staging::stage_all;
 use crate::storing::store;
+use ge_keeping::KeepFault;
 use ge_outside::Disk;
 use ge_rows::{Cluster, Event, List, Reply};
 use ge_spool::Spool;
 use std::alloc::Global;
+
+fn stop_of(fault: KeepFault) -> Stop
+    ensures { StopsAs fault result }
+{
+    match fault {
+        KeepFault::Disk => Stop::Disk,
+        KeepFault::Full(place) => Stop::Full(place),
+        KeepFault::Memory => Stop::Spent,
+        KeepFault::Dead => Stop::Dead,
+    }
+}
 
 /// Handles events over a journal that lives, and notes whether one of them asks the master to stop. After a stop the cluster
 /// is given up.
@@ -53,6 +65,6 @@ pub(crate) fn handle<D: Disk>(
             *stopping |= staged.stop;
             Ok(staged.replies)
         }
-        Err(stop) => Err(stop),
+        Err(fault) => Err(stop_of(fault)),
     }
 }

@@ -5,7 +5,8 @@ ghost use Rattle.ge_model_journal.specs.Area.{end_from};
 ghost use Rattle.ge_model_program.specs.StandsFor.{snapshot_code, entry_reading, cluster_after_record, cluster_in_snapshot, held};
 ghost use Rattle.ge_model_codec.specs.Code.{whole};
 ghost use Rattle.ge_spool.specs.Opening.{raw_state};
-ghost use Rattle.ge_master.specs.Reading.{AppliesEntry, EndsWithin, ReadsRecord, AppliesBehind, ReadsPart, ReadsBack};
+ghost use Rattle.ge_keeping.specs.Reading.{ReadsPart, ReadsBack, ReadsBehind};
+ghost use Rattle.ge_master.specs.Reading.{AppliesEntry, EndsWithin, ReadsRecord};
 
 use ge_codec::{Canon, TakeFault};
 use ge_core::apply;
@@ -121,7 +122,7 @@ fn apply_behind(
     journal_record: &Text,
 ) -> Result<u64, OpenFault>
     requires { gate + 5 + length journal_record.now < 2 ^ 63 }
-    ensures { AppliesBehind result raw.now.area gate (length journal_record.now) cluster.new
+    ensures { ReadsBehind result raw.now.area gate (length journal_record.now) cluster.new
         (cluster_after_record raw.now.format cluster.old journal_record.now) }
 {
     let good = apply_record(alloc, cluster, raw.format, journal_record.bytes())?;

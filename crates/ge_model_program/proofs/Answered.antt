@@ -4,7 +4,6 @@ use Rattle.std.specs.Prelude.{IsTrue}
 use Rattle.std.specs.List.{list_any}
 use Rattle.std.proofs.lemmas.Bool.{eqb-true, false≢true}
 use Rattle.ge_limits.specs.Limits as limit
-use Rattle.ge_outside.specs.Faults.{Rose}
 use Rattle.ge_model_program.specs.Statuses.{IsOneStatusOf}
 use Rattle.ge_model_program.specs.Simulating.{Simulates, IfRead, AreFaultlessStreams}
 use Rattle.ge_model_program.specs.Generating.{IsWriterStatus}

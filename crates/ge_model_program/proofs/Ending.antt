@@ -8,19 +8,27 @@ use Rattle.ge_model_rows.specs.ClusterRows.{Cluster}
 use Rattle.ge_model_rows.specs.EventRows.{Event, Planned}
 use Rattle.ge_model_wire.specs.Frames.{frames_of}
 use Rattle.ge_model_program.specs.Answered.{FrameMarks, framed, answered}
-use Rattle.ge_model_program.specs.Links.{InHand, LeftWhole, LeftAll, LeftInHand, HoldsOneOf, EndsAs}
+use Rattle.ge_model_program.specs.Links.{InHand, LeftWhole, LeftAll, LeftInHand, HoldsAfter, EndsAs}
 use Rattle.ge_model_program.specs.declared.LinkEnd.{LinkEnd}
 use Rattle.ge_model_program.specs.declared.LinkEnd.TheVariants as end
 
-module _ (plan : Cluster → Event → Planned) (start : Cluster) (clock : Answers) (bytes : List ℕ) (Leaves : ℕ → Cluster → Cluster → Type 0) where
+module _ (plan : Cluster → Event → Planned) (start : Cluster) (clock : Answers) (bytes : List ℕ) (Leaves : List FrameMarks → List FrameMarks → Cluster → Cluster → Type 0) where
   -- what is said of the areas may be put otherwise
-  module _ (Others : ℕ → Cluster → Cluster → Type 0) (say : (n : ℕ) (c d : Cluster) → n ≤ length (frames_of bytes) → Leaves n c d → Others n c d) where
+  module _ (Others : List FrameMarks → List FrameMarks → Cluster → Cluster → Type 0)
+      (say : (marks hand : List FrameMarks) (c d : Cluster) → length (marks ++ hand) ≤ length (frames_of bytes) → Leaves marks hand c d → Others marks hand c d) where
     abbrev pub map-hand : InHand plan start clock bytes Leaves → InHand plan start clock bytes Others
-    map-hand h = record { marks = h.marks; hand = h.hand; few = h.few; one = h.one; areas = say _ _ _ h.few h.areas }
+    map-hand h = record { marks = h.marks; hand = h.hand; few = h.few; one = h.one; areas = say _ _ _ _ h.few h.areas }
 
     module _ (old now : Option (List ℕ)) (later : Option Answers) (reached : Cluster) (stopping : Bool) where
       abbrev pub map-whole : LeftWhole plan start clock bytes Leaves old now later reached stopping → LeftWhole plan start clock bytes Others old now later reached stopping
-      map-whole w = record { marks = w.marks; few = w.few; wrote = w.wrote; ticks = w.ticks; holds = w.holds; areas = say _ _ _ w.few w.areas }
+      map-whole w = record {
+        marks = w.marks;
+        few = w.few;
+        wrote = w.wrote;
+        ticks = w.ticks;
+        holds = w.holds;
+        areas = say _ _ _ _ (omega (arith, w.few, ap length (append-nil w.marks))) w.areas;
+      }
 
       map-all : LeftAll plan start clock bytes Leaves old now later reached stopping → LeftAll plan start clock bytes Others old now later reached stopping
       map-all a = record { whole = map-whole a.whole; all = a.all; going = a.going }
@@ -45,7 +53,7 @@ module _ (plan : Cluster → Event → Planned) (start : Cluster) (clock : Answe
       hand = [];
       few = omega (arith, w.few, ap length (append-nil w.marks));
       one = omega arith;
-      areas = subst (λ (ms : List FrameMarks). Leaves (length ms) (answered plan start clock (frames_of bytes) w.marks).cluster (answered plan start clock (frames_of bytes) ms).cluster) (sym (append-nil w.marks)) w.areas;
+      areas = subst (λ (ms : List FrameMarks). Leaves w.marks [] (answered plan start clock (frames_of bytes) w.marks).cluster (answered plan start clock (frames_of bytes) ms).cluster) (sym (append-nil w.marks)) w.areas;
     }
 
     all-wrote : (w : LeftWhole plan start clock bytes Leaves old now later reached stopping)
@@ -56,7 +64,7 @@ module _ (plan : Cluster → Event → Planned) (start : Cluster) (clock : Answe
 
     -- and so nothing but their replies is written
     pub whole-left : LeftWhole plan start clock bytes Leaves old now later reached stopping
-        → (left : LeftInHand plan start clock bytes Leaves old now later) × HoldsOneOf plan start clock bytes Leaves left.in_hand reached stopping
+        → (left : LeftInHand plan start clock bytes Leaves old now later) × HoldsAfter plan start clock bytes Leaves (left.in_hand.marks ++ left.in_hand.hand) reached stopping
     whole-left w = (
       record {
         in_hand = whole-hand w;
@@ -66,7 +74,7 @@ module _ (plan : Cluster → Event → Planned) (start : Cluster) (clock : Answe
         wrote = all-wrote w;
         ticks = w.ticks ∙ ap (λ (ms : List FrameMarks). Some (answered plan start clock (frames_of bytes) ms).clock) (sym (append-nil w.marks));
       },
-      inl w.holds,
+      subst (λ (ms : List FrameMarks). HoldsAfter plan start clock bytes Leaves ms reached stopping) (sym (append-nil w.marks)) w.holds,
     )
 
     -- at each end there are frames that are answered, and perhaps one in hand

@@ -6,6 +6,8 @@ pub mod ReplayAnswered
 pub mod Own
 pub mod Lengths
 pub mod Ending
+pub mod FramesFitting
 pub mod Serving
+mod LedgerExamples
 pub mod LinksOn
 pub mod Mapped

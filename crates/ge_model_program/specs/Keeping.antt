@@ -1,7 +1,8 @@
 -- How a journal keeps what batches changed: each as a record, or as a snapshot of the whole cluster, which an area must hold.
-use Rattle.std.specs.Prelude.{◌≡◌, ◌⊎◌, ℕ, zero, suc, ◌+◌, ◌-◌, ◌^◌, ◌≤◌, Bool, true, false, not, ◌&&◌, ◌||◌, ◌==◌, nat_le, nat_lt, List, [], length, take, drop, flat_map}
+use Rattle.std.specs.Prelude.{◌≡◌, ◌⊎◌, ℕ, zero, suc, ◌+◌, ◌-◌, ◌^◌, ◌<◌, ◌≤◌, min, Bool, true, false, not, ◌&&◌, ◌||◌, ◌==◌, nat_le, nat_lt, if◌then◌else◌, List, [], ◌∷◌, length, take, drop, flat_map}
 use Rattle.ge_limits.specs.Limits as limit
 use Rattle.ge_model_rows.specs.ClusterRows.{Cluster}
+use Rattle.ge_model_rows.specs.EntryRows.{Entry}
 use Rattle.ge_model_rows.specs.EventRows.{Event, Planned}
 use Rattle.ge_model_journal.specs.Area.{written_format, end_from}
 use Rattle.ge_model_journal.specs.Journal.{State}
@@ -35,24 +36,43 @@ kept_ledger false l size snapshot_size = record { format = l.format; generation 
 abbrev pub entries_size : Traced → ℕ
 entries_size t = length (flat_map entry_bytes t.entries)
 
--- where the cluster after a batch is kept in place of a record, an area holds it
+-- Where the area ends that is written for a batch: behind the snapshot, or behind one record more as far as a number of 64 bits tells.
+abbrev pub batch_end : Ledger → Traced → ℕ
+batch_end l t =
+    if keeps_cluster l (entries_size t) then 19 + length (cluster_bytes t.cluster) else min (l.end + 6 + entries_size t) (2 ^ 64 - 1)
+
+-- it changed nothing, or an area holds what is written for it
 abbrev pub FitsBatch : Ledger → Traced → Type 0
-FitsBatch l t = (t.entries ≡ []) ⊎ (keeps_cluster l (entries_size t) ≡ true → 19 + length (cluster_bytes t.cluster) ≤ limit.area_bytes)
+FitsBatch l t = (t.entries ≡ []) ⊎ (batch_end l t ≤ limit.area_bytes)
 
--- the ledger after a batch is the one before where it changed nothing, or the one of how it is kept
-abbrev pub IsNextLedger : Ledger → Traced → Ledger → Type 0
-IsNextLedger l t next =
-    ((t.entries ≡ []) × (next ≡ l))
-    ⊎ (next ≡ kept_ledger (keeps_cluster l (entries_size t)) l (entries_size t) (length (cluster_bytes t.cluster)))
+-- It changed something, for which there is no room: the area would end at the place, past its limit. Before the last generation that is
+-- behind a snapshot, for there a record that doesn't fit gives way to one.
+pub record HasNoRoom (l : Ledger) (t : Traced) (place : ℕ) : Type 0 where
+  pub some : 0 < length t.entries
+  pub end : place ≡ batch_end l t
+  pub past : limit.area_bytes < place
+  pub compacting : l.generation < 2 ^ 64 - 1 → keeps_cluster l (entries_size t) ≡ true
 
--- a batch fits, and what follows it from the next ledger on
-abbrev pub FitsThen : Ledger → Traced → (Ledger → Type 0) → Type 0
-FitsThen l t later = FitsBatch l t × ((next : Ledger) × IsNextLedger l t next × later next)
+-- the one where there are no entries, else the other
+abbrev pub by_entries : List Entry → Ledger → Ledger → Ledger
+by_entries [] l kept = l
+by_entries (e ∷ es) l kept = kept
+
+-- the ledger after a batch: as before where it changed nothing, else that of how it is kept
+abbrev pub next_ledger : Ledger → Traced → Ledger
+next_ledger l t = by_entries t.entries l (kept_ledger (keeps_cluster l (entries_size t)) l (entries_size t) (length (cluster_bytes t.cluster)))
 
 module _ (plan : Cluster → Event → Planned) (size : ℕ) where
-  -- each of the first batches of events with these marks fits, so many events a batch
+  -- the ledger after the first batches of events with these marks, so many events a batch
+  abbrev pub ledger_after : ℕ → Ledger → Cluster → List Event → List Bool → Ledger
+  ledger_after zero l c events marks = l
+  ledger_after (suc k) l c events marks =
+      let t = traced plan c (take size events) (take size marks) in
+      ledger_after k (next_ledger l t) t.cluster (drop size events) (drop size marks)
+
+  -- each of those batches fits
   abbrev pub BatchesFit : ℕ → Ledger → Cluster → List Event → List Bool → Type 0
   BatchesFit zero l c events marks = Unit {0}
   BatchesFit (suc k) l c events marks =
       let t = traced plan c (take size events) (take size marks) in
-      FitsThen l t (λ next. BatchesFit k next t.cluster (drop size events) (drop size marks))
+      FitsBatch l t × BatchesFit k (next_ledger l t) t.cluster (drop size events) (drop size marks)

@@ -15,6 +15,7 @@ pub mod Showing
 pub mod Faultless
 pub mod Moments
 pub mod Answered
+pub mod FramesKept
 pub mod Links
 pub mod Served
 pub mod Doors

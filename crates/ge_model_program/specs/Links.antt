@@ -20,8 +20,8 @@ OnTold None clock P = Unit {0}
 OnTold (Some bytes) None P = Unit {0}
 
 -- start and clock: the cluster and what the clock was to answer when the connection began; bytes: all that it has to read; Leaves: what the
--- areas are left with after so many frames, of which the one cluster or the other stands
-module _ (plan : Cluster → Event → Planned) (start : Cluster) (clock : Answers) (bytes : List ℕ) (Leaves : ℕ → Cluster → Cluster → Type 0) where
+-- areas are left with after frames with these marks and those in hand, of which the one cluster or the other stands
+module _ (plan : Cluster → Event → Planned) (start : Cluster) (clock : Answers) (bytes : List ℕ) (Leaves : List FrameMarks → List FrameMarks → Cluster → Cluster → Type 0) where
   -- the trace of the first frames
   abbrev pub after_frames : List FrameMarks → Answered
   after_frames marks = answered plan start clock (frames_of bytes) marks
@@ -32,7 +32,7 @@ module _ (plan : Cluster → Event → Planned) (start : Cluster) (clock : Answe
     pub hand : List FrameMarks
     pub few : length (marks ++ hand) ≤ length (frames_of bytes)
     pub one : length hand ≤ 1
-    pub areas : Leaves (length (marks ++ hand)) (after_frames marks).cluster (after_frames (marks ++ hand)).cluster
+    pub areas : Leaves marks hand (after_frames marks).cluster (after_frames (marks ++ hand)).cluster
 
   -- the master holds the cluster after the first frames, and stops where the last of them asked for it
   abbrev pub HoldsAfter : List FrameMarks → Cluster → Bool → Type 0
@@ -51,7 +51,7 @@ module _ (plan : Cluster → Event → Planned) (start : Cluster) (clock : Answe
       pub wrote : Gains old now (framed (after_frames marks).replies)
       pub ticks : later ≡ Some (after_frames marks).clock
       pub holds : HoldsAfter marks reached stopping
-      pub areas : Leaves (length marks) (after_frames marks).cluster (after_frames marks).cluster
+      pub areas : Leaves marks [] (after_frames marks).cluster (after_frames marks).cluster
 
     -- all frames were answered whole, and none stopped the master
     pub record LeftAll (reached : Cluster) (stopping : Bool) : Type 0 where
@@ -69,12 +69,12 @@ module _ (plan : Cluster → Event → Planned) (start : Cluster) (clock : Answe
       pub ticks : later ≡ Some (after_frames (in_hand.marks ++ in_hand.hand)).clock
 
     -- What each end says: the conditions of no two of Done, Stopped, Frame and Long hold together. A frame that ends where a connection has as
-    -- many bytes as it may is Long. At Write and at Memory an accepted stop may be in hand.
+    -- many bytes as it may is Long. At Write the frame in hand is handled, at Memory it may be; and it may be an accepted stop.
     abbrev pub EndsAs : LinkEnd → Cluster → Bool → Type 0
     EndsAs end.Done reached stopping = LeftAll reached stopping × (behind_frames bytes ≡ []) × (length bytes < link_bytes)
     EndsAs end.Stopped reached stopping = LeftWhole reached stopping × (stopping ≡ true)
     EndsAs end.Read reached stopping = LeftWhole reached stopping × (stopping ≡ false)
-    EndsAs end.Write reached stopping = (left : LeftInHand) × HoldsOneOf left.in_hand reached stopping
+    EndsAs end.Write reached stopping = (left : LeftInHand) × HoldsAfter (left.in_hand.marks ++ left.in_hand.hand) reached stopping
     EndsAs (end.Frame place) reached stopping =
         LeftAll reached stopping × (behind_frames bytes ≢ []) × (place + length (behind_frames bytes) ≡ length bytes)
         × (place + taken_of (behind_frames bytes) < link_bytes)

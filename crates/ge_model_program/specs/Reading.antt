@@ -1,12 +1,8 @@
 -- What a journal's snapshot and records stand for, for any codes of what they hold and any way to apply an entry.
-use Rattle.std.specs.Prelude.{ℕ, zero, suc, ◌+◌, ◌==◌, true, false, List, [], ◌∷◌, length, Option, Some, None, Result, Ok, Err}
+use Rattle.std.specs.Prelude.{ℕ, zero, suc, ◌==◌, true, false, List, [], ◌∷◌, length, Option, Some, None, Result, Ok, Err}
 use Rattle.ge_model_journal.specs.Journal.{State}
 use Rattle.ge_model_codec.specs.Code.{Code, whole}
-
--- what there is, or the place where it isn't
-abbrev pub or_at : {C : Type 0} → ℕ → Option C → Result C ℕ
-or_at place None = Err place
-or_at place (Some c) = Ok c
+use Rattle.ge_model_keeping.specs.Reading as journal
 
 module _ {C E : Type 0} (snapshot : Code C) (entry : Code E) (after : C → E → C) (opening : C) where
   -- what stands after the entries in bytes from a place on, one behind the other up to the end of the bytes; nothing where one
@@ -22,16 +18,6 @@ module _ {C E : Type 0} (snapshot : Code C) (entry : Code E) (after : C → E �
   abbrev pub after_record : C → List ℕ → Option C
   after_record c bytes = after_from (suc (length bytes)) bytes 0 c
 
-  -- the same, for a record at a place behind what stood or was wrong before
-  abbrev pub at_record : ℕ → List ℕ → Result C ℕ → Result C ℕ
-  at_record place bytes (Err wrong) = Err wrong
-  at_record place bytes (Ok c) = or_at place (after_record c bytes)
-
-  -- what stands after records, of which the first begins at a place; between two of them stand a gate and a length
-  abbrev pub after_records : ℕ → List (List ℕ) → Result C ℕ → Result C ℕ
-  after_records place [] c = c
-  after_records place (bytes ∷ more) c = after_records (place + 5 + length bytes) more (at_record place bytes c)
-
   -- what a snapshot stands for: what its bytes say, or the opening where there are none
   abbrev pub in_snapshot : List ℕ → Result C ℕ
   in_snapshot [] = Ok opening
@@ -39,4 +25,4 @@ module _ {C E : Type 0} (snapshot : Code C) (entry : Code E) (after : C → E �
 
   -- what a state stands for, or the place of the first byte of the snapshot or record that can't be read
   abbrev pub held_in : State → Result C ℕ
-  held_in s = after_records (23 + length s.snapshot) s.records (in_snapshot s.snapshot)
+  held_in s = journal.held_in in_snapshot after_record s

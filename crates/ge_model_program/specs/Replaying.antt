@@ -1,5 +1,5 @@
 -- A replay, by its status: what it wrote, what the areas hold, and why it ended.
-use Rattle.std.specs.Prelude.{◌≡◌, ◌≢◌, ◌⊎◌, ℕ, ◌+◌, ◌-◌, ◌<◌, ◌≤◌, ◌^◌, Bool, true, List, [], ◌∷◌, length, Option, Some, Ok, Err, IfSome, IsErr}
+use Rattle.std.specs.Prelude.{◌≡◌, ◌≢◌, ◌⊎◌, ℕ, ◌+◌, ◌<◌, ◌≤◌, Bool, true, List, [], ◌∷◌, Option, Some, Ok, IfSome, IsErr}
 use Rattle.ge_limits.specs.Limits as limit
 use Rattle.ge_outside.specs.Faults.{Rose}
 use Rattle.ge_model_rows.specs.ClusterRows.{Cluster}
@@ -20,8 +20,8 @@ abbrev pub EndsOrStops : Option (List ℕ) → Option (List ℕ) → Type 0
 EndsOrStops script rest =
     IsReadToEnd rest ⊎ IfSome script (λ bytes. (c : Cluster) × (marks : List Bool) × ((traced plan_of c (events_of bytes) marks).stopped ≡ true))
 
--- Exit statuses of a replay over areas that stand for a cluster: 0 done, 3 the script has no end within 2^40 bytes, 5 a cluster is too long
--- for an area, 6 a read failed, 7 a write failed, 8 an area failed, 10 want of memory.
+-- Exit statuses of a replay over areas that stand for a cluster: 0 done, 3 the script has no end within 2^40 bytes, 5 an area
+-- has no room for a batch, 6 a read failed, 7 a write failed, 8 an area failed, 10 want of memory.
 abbrev pub IsReplayStatus : ℕ → Type 0
 IsReplayStatus status = IsOneStatusOf (0 ∷ 3 ∷ 5 ∷ 6 ∷ 7 ∷ 8 ∷ 10 ∷ []) status
 
@@ -44,8 +44,7 @@ module _ (status : ℕ) (script rest : Option (List ℕ)) (reads_before reads_af
     pub whole : status ≡ 0 → IfSome script (λ bytes. RanAll plan_of start (events_of bytes) home x.output y.output y.a y.b batch x.syncs y.syncs ledger (IsReadToEnd rest))
     pub part : status ≢ 7 → IfSome script (λ bytes. RanTo plan_of start (events_of bytes) home x.output y.output y.a y.b batch x.syncs y.syncs ledger)
     pub cut : status ≡ 7 → IfSome script (λ bytes. RanCut plan_of start (events_of bytes) home x.output y.output y.a y.b batch x.syncs y.syncs ledger)
-    pub full : status ≡ 5
-        → IfSome script (λ bytes. RanFull plan_of start (events_of bytes) home x.output y.output y.a y.b batch x.syncs y.syncs ledger (2 ^ 64 - 1 ≤ ledger.generation + length bytes))
+    pub full : status ≡ 5 → IfSome script (λ bytes. RanFull plan_of start (events_of bytes) home x.output y.output y.a y.b batch x.syncs y.syncs ledger)
     pub causes : HasCauses
 
 -- what is seen where opening the areas has synced them, six times at most

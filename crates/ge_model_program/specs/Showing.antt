@@ -1,5 +1,5 @@
 -- A look at the areas: what they hold, in one line.
-use Rattle.std.specs.Prelude.{◌≡◌, ◌≢◌, ◌⊎◌, ℕ, ◌+◌, ◌≤◌, List, [], ◌∷◌, ◌++◌, length, decimal, codes, Option, Some, Ok, Err, IfSome, IsErr, IsOk}
+use Rattle.std.specs.Prelude.{◌≡◌, ◌≢◌, ◌⊎◌, ℕ, ◌+◌, ◌≤◌, List, [], ◌∷◌, ◌++◌, length, decimal, codes, Some, Ok, IfSome, IsErr}
 use Rattle.ge_outside.specs.Faults.{Rose}
 use Rattle.ge_outside.specs.Streams.{Gains, GainsPrefix}
 use Rattle.ge_model_rows.specs.ClusterRows.{Cluster}

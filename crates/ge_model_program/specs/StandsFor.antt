@@ -1,5 +1,5 @@
 -- What two areas stand for as a cluster.
-use Rattle.std.specs.Prelude.{◌≡◌, ◌⊎◌, ℕ, ◌==◌, if◌then◌else◌, Bool, List, Option, Result, Ok, Err}
+use Rattle.std.specs.Prelude.{ℕ, ◌==◌, if◌then◌else◌, Bool, List, Option, Result}
 use Rattle.ge_model_rows.specs.ClusterRows.{Cluster, opening_cluster}
 use Rattle.ge_model_rows.specs.EntryRows.{Entry}
 use Rattle.ge_model_codec.specs.Code.{Code}
@@ -7,11 +7,11 @@ use Rattle.ge_model_codec.specs.Cluster.{cluster_code, cluster_code_1}
 use Rattle.ge_model_codec.specs.Entries.{entry_code, entry_code_1}
 use Rattle.ge_model_codec.specs.Reading.{Reading}
 use Rattle.ge_model_jobs.specs.Applying.{after_entry}
-use Rattle.ge_model_journal.specs.Area.{head}
-use Rattle.ge_model_journal.specs.Journal.{State, choice, meaning, counted_area}
+use Rattle.ge_model_journal.specs.Journal.{State}
+use Rattle.ge_model_keeping.specs.Standing as standing
 use Rattle.ge_model_program.specs.declared.Wrong.{Wrong}
 use Rattle.ge_model_program.specs.declared.Wrong.TheVariants.{Frame, Bad}
-use Rattle.ge_model_program.specs.Reading.{after_from, after_record, after_records, in_snapshot, held_in}
+use Rattle.ge_model_program.specs.Reading.{after_from, after_record, in_snapshot, held_in}
 
 -- how an area of a format writes a cluster, and an entry
 abbrev pub snapshot_code : ℕ → Code Cluster
@@ -48,11 +48,6 @@ unfoldable pub cluster_after_record : ℕ → Cluster → List ℕ → Option Cl
 cluster_after_record format c bytes =
     after_record (snapshot_code format) (body_code format) after_entry opening_cluster c bytes
 
--- the cluster after records from a place on, or the place of the first that can't be read
-unfoldable pub cluster_after_records : ℕ → ℕ → List (List ℕ) → Result Cluster ℕ → Result Cluster ℕ
-cluster_after_records format place records c =
-    after_records (snapshot_code format) (body_code format) after_entry opening_cluster place records c
-
 -- the cluster of a snapshot, or its place
 unfoldable pub cluster_in_snapshot : ℕ → List ℕ → Result Cluster ℕ
 cluster_in_snapshot format bytes =
@@ -63,18 +58,10 @@ cluster_in_snapshot format bytes =
 unfoldable pub held : State → Result Cluster ℕ
 held s = held_in (snapshot_code s.format) (body_code s.format) after_entry opening_cluster s
 
-abbrev pub or_bad : ℕ → Result Cluster ℕ → Result Cluster Wrong
-or_bad area (Ok c) = Ok c
-or_bad area (Err place) = Err (Bad area place)
-
-abbrev pub or_frame : ℕ → Result State (ℕ × ℕ) → Result Cluster Wrong
-or_frame area (Ok s) = or_bad area (held s)
-or_frame area (Err wrong) = Err (Frame wrong.0 wrong.1)
-
 -- what two areas stand for, or the first of what is wrong: headers and lists before bodies, and each by its place
 abbrev pub stands_for : List ℕ → List ℕ → Result Cluster Wrong
-stands_for a b = or_frame (counted_area (choice (head a) (head b))) (meaning a b)
+stands_for a b = standing.stands_for Frame Bad held a b
 
 -- two areas stand for the one cluster or for the other
 abbrev pub StandsForOneOf : Cluster → Cluster → List ℕ → List ℕ → Type 0
-StandsForOneOf before later a b = (stands_for a b ≡ Ok before) ⊎ (stands_for a b ≡ Ok later)
+StandsForOneOf before later a b = standing.StandsForOneOf Frame Bad held before later a b

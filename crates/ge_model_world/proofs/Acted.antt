@@ -26,9 +26,9 @@ use Rattle.ge_model_world.specs.Masters.{Master}
 use Rattle.ge_model_world.specs.declared.rows.World.{World}
 use Rattle.ge_model_world.specs.declared.rows.Message.TheVariants.{Orders, Answer}
 use Rattle.ge_model_world.specs.declared.rows.Act.TheVariants.{Deliver, Finish}
-use Rattle.ge_model_world.specs.Worlds.{Acted, obeying, taking, delivered, acted, starts_at, with_acted, acting}
+use Rattle.ge_model_world.specs.Worlds.{Acted, obeying, taking, delivered, acted, cut_short, starts_at, with_acted, acting, cutting}
 use Rattle.ge_model_world.specs.Laws.{Has, Post, started_serial}
-use Rattle.ge_model_world.proofs.Lists.{has_append, has_at, has_map, has_drop, get_set, get_set_same, map_append, distinct_append, distinct_none, has_change, change_rises}
+use Rattle.ge_model_world.proofs.Lists.{has_append, has_at, has_map, has_drop, get_set, get_set_same, map_append, distinct_append, distinct_none, distinct_take, has_take, has_change, change_rises}
 use Rattle.ge_model_world.proofs.Orders.{IsMade, IsNewRow, orders_rise, read_rise, rise_has, orders_row, seen_grows, seen_has, started_order, starts_distinct}
 use Rattle.ge_model_world.proofs.Got.{Got}
 use Rattle.ge_model_world.proofs.Kept.{Holds, IsKept, IsOfDaemon, FitsStage, told_end}
@@ -47,6 +47,19 @@ pub record Acts (sent : List (ℕ × Message)) (place : ℕ) (before : Daemon) (
 -- a serial that was named is in range
 got_below : {sent : List (ℕ × Message)} {daemon serial : ℕ} → Got sent daemon serial → serial ≤ limit.last_serial
 got_below got = subst (λ n. n ≤ limit.last_serial) got.same (rise_has got.order (read_rise got.reply got.orders got.read) got.in_it).1
+
+-- of its starts the first alone
+cut_acts : {sent : List (ℕ × Message)} {place : ℕ} {before : Daemon} {a : Acted} (starts : Option ℕ) → Acts sent place before a → Acts sent place before (cut_short starts a)
+cut_acts None acts = acts
+cut_acts {a = a} (Some n) acts = record {
+  host = acts.host;
+  grows = acts.grows;
+  rows = acts.rows;
+  keeps = acts.keeps;
+  ends = acts.ends;
+  started = λ s h. acts.started s (has_take n a.1 s h);
+  different = distinct_take n a.1 acts.different;
+}
 
 starts_serials : (place : ℕ) (serials : List ℕ) → map started_serial (map (λ serial. (place, serial)) serials) ≡ serials
 starts_serials place [] = refl
@@ -249,7 +262,13 @@ module _ (m : Master) (IsSound : Cluster → Type 0) (next : Cluster → ℕ) (p
 
 -- a step of a daemon
 module _ (m : Master) (IsSound : Cluster → Type 0) (next : Cluster → ℕ) (posts : Cluster → List Post) (hosts : List (List ℕ)) where
-  pub acting_holds : (w : World) (place : ℕ) (act : Act) (found : Option Daemon) → slice_get w.daemons place ≡ found → Holds m IsSound next posts hosts w → Holds m IsSound next posts hosts (acting w place act found)
-  acting_holds w place act None is holds = holds
-  acting_holds w place act (Some d) is holds =
-      with_acted_holds m IsSound next posts hosts w place d is (acted w.sent place d act) holds (acts m IsSound next posts hosts w holds place d is act)
+  pub acting_holds : (w : World) (place : ℕ) (act : Act) (starts : Option ℕ) (found : Option Daemon) → slice_get w.daemons place ≡ found → Holds m IsSound next posts hosts w → Holds m IsSound next posts hosts (acting w place act starts found)
+  acting_holds w place act starts None is holds = holds
+  acting_holds w place act starts (Some d) is holds =
+      with_acted_holds m IsSound next posts hosts w place d is (cut_short starts (acted w.sent place d act)) holds (cut_acts starts (acts m IsSound next posts hosts w holds place d is act))
+
+  -- that it stopped in
+  pub cutting_holds : (w : World) (place : ℕ) (act : Act) (done : Bool) (starts : ℕ) (found : Option Daemon) → slice_get w.daemons place ≡ found → Holds m IsSound next posts hosts w
+      → Holds m IsSound next posts hosts (cutting w place act done starts found)
+  cutting_holds w place act true starts found is holds = acting_holds w place act (Some starts) found is holds
+  cutting_holds w place act false starts found is holds = holds

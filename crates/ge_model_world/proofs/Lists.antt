@@ -1,5 +1,5 @@
 -- Elements of lists.
-use Rattle.std.proofs.Common.{◌≡◌, ◌⊎◌, inl, inr, ⊎_elim, Less, Equal, Greater, ℕ, zero, suc, ◌+◌, ◌≤◌, Bool, true, false, cond, List, [], ◌∷◌, ◌++◌, map, length, Some, refl, ap, sym, ◌∙◌, subst, arith}
+use Rattle.std.proofs.Common.{◌≡◌, ◌⊎◌, inl, inr, ⊎_elim, Less, Equal, Greater, ℕ, zero, suc, ◌+◌, ◌≤◌, Bool, true, false, cond, List, [], ◌∷◌, ◌++◌, map, length, take, Some, refl, ap, sym, ◌∙◌, subst, arith}
 use Rattle.std.specs.Prelude.{◌==◌, ◌||◌, nat_eq, nat_lt, slice_get, slice_set, filter}
 use Rattle.std.specs.List.{AllByRecursion, IsDistinct, list_any}
 use Rattle.std.specs.BTreeMap.{is_at}
@@ -148,6 +148,18 @@ module _ where
       by : Has x xs ⊎ Has x ys → ⊥
       by (inl left) = all_has x xs one.0 left
       by (inr right) = apart x here right
+
+  -- a front of numbers that differ
+  pub has_take : (k : ℕ) (xs : List ℕ) (n : ℕ) → Has n (take k xs) → Has n xs
+  has_take zero xs n h = elim h [ ]
+  has_take (suc k) [] n h = elim h [ ]
+  has_take (suc k) (x ∷ xs) n h = ⊎_elim (λ same. has_same same) (λ later. there (has_take k xs n later)) (first_or h)
+
+  pub distinct_take : (k : ℕ) (xs : List ℕ) → IsDistinct nat_eq xs → IsDistinct nat_eq (take k xs)
+  unfolding IsDistinct
+  distinct_take zero xs one = tt
+  distinct_take (suc k) [] one = tt
+  distinct_take (suc k) (x ∷ xs) one = (no_other x (take k xs) (λ h. all_has x xs one.0 (has_take k xs x h)), distinct_take k xs one.1)
 
   pub distinct_none : IsDistinct nat_eq []
   unfolding IsDistinct

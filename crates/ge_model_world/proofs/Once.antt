@@ -16,7 +16,7 @@ use Rattle.ge_model_world.specs.declared.rows.Step.{Step}
 use Rattle.ge_model_world.specs.Masters.{Master}
 use Rattle.ge_model_world.specs.declared.rows.World.{World}
 use Rattle.ge_model_world.specs.declared.rows.Arrival.TheVariants.{Command, Report as Reports}
-use Rattle.ge_model_world.specs.declared.rows.Step.TheVariants.{Handle, Stop, Ask, Daemon as Acts, Send}
+use Rattle.ge_model_world.specs.declared.rows.Step.TheVariants.{Handle, Stop, Ask, Daemon as Acts, Send, Cut}
 use Rattle.ge_model_world.specs.Worlds.{gone, finish_by, finished_by, with_entry, report_event, arrival_event, answer_list, sent_for, handling, stopped, step_of, new_world, world_of}
 use Rattle.ge_model_world.specs.Laws.{Has, Post, Laws, AreApart, AreHosts, IsTold, IsEndOf, KeepsOnce}
 use Rattle.ge_model_world.proofs.Lists.{has_at, has_map, get_last, distinct_none}
@@ -24,7 +24,7 @@ use Rattle.ge_model_world.proofs.Got.{Got, got_none, got_answer}
 use Rattle.ge_model_world.proofs.Kept.{Holds}
 use Rattle.ge_model_world.proofs.Entries.{entry_holds}
 use Rattle.ge_model_world.proofs.Sent.{sent_holds, asked_holds, sending_holds}
-use Rattle.ge_model_world.proofs.Acted.{acting_holds}
+use Rattle.ge_model_world.proofs.Acted.{acting_holds, cutting_holds}
 
 module _ (m : Master) (IsSound : Cluster → Type 0) (next : Cluster → ℕ) (posts : Cluster → List Post) (IsHost : List ℕ → Type 0) (laws : Laws m IsSound next posts IsHost) (hosts : List (List ℕ)) (different : AreApart hosts) (are_hosts : AreHosts IsHost hosts) where
   -- ---- events
@@ -100,8 +100,9 @@ module _ (m : Master) (IsSound : Cluster → Type 0) (next : Cluster → ℕ) (p
   step_holds w (Handle x) holds = handling_holds w x (arrival_event m w.reports x) refl holds
   step_holds w (Stop x done) holds = stopped_holds w x done (arrival_event m w.reports x) refl holds
   step_holds w (Ask place moment) holds = asked_holds m IsSound next posts IsHost laws hosts different are_hosts w place moment (slice_get w.daemons place) refl holds
-  step_holds w (Acts place act) holds = acting_holds m IsSound next posts hosts w place act (slice_get w.daemons place) refl holds
+  step_holds w (Acts place act) holds = acting_holds m IsSound next posts hosts w place act None (slice_get w.daemons place) refl holds
   step_holds w (Send place serial) holds = sending_holds m IsSound next posts IsHost laws hosts different are_hosts w place serial (slice_get w.daemons place) refl holds
+  step_holds w (Cut place act done starts) holds = cutting_holds m IsSound next posts hosts w place act done starts (slice_get w.daemons place) refl holds
 
   pub steps_hold : (w : World) (steps : List Step) → Holds m IsSound next posts hosts w → Holds m IsSound next posts hosts (fold (step_of m) w steps)
   steps_hold w [] holds = holds

@@ -1,5 +1,5 @@
 -- The steps of a world: one master, its daemons, and all that was ever sent between them.
-use Rattle.std.specs.Prelude.{ℕ, ◌==◌, not, Bool, true, false, if◌then◌else◌, List, [], ◌∷◌, ◌++◌, map, filter, fold, length, Option, Some, None, option_map, Result, Ok, Err, codes}
+use Rattle.std.specs.Prelude.{ℕ, ◌==◌, not, Bool, true, false, if◌then◌else◌, List, [], ◌∷◌, ◌++◌, map, filter, fold, length, take, Option, Some, None, option_map, Result, Ok, Err, codes}
 use Rattle.std.specs.List.{list_any, slice_get, slice_set}
 use Rattle.ge_collections.specs.Keyed.{at_number}
 use Rattle.ge_model_rows.specs.ClusterRows.{Cluster}
@@ -24,7 +24,7 @@ use Rattle.ge_model_world.specs.declared.rows.Arrival.TheVariants.{Command, Repo
 use Rattle.ge_model_world.specs.declared.rows.Act.{Act}
 use Rattle.ge_model_world.specs.declared.rows.Act.TheVariants.{Deliver, Finish}
 use Rattle.ge_model_world.specs.declared.rows.Step.{Step}
-use Rattle.ge_model_world.specs.declared.rows.Step.TheVariants.{Handle, Stop, Ask, Daemon as Acts, Send}
+use Rattle.ge_model_world.specs.declared.rows.Step.TheVariants.{Handle, Stop, Ask, Daemon as Acts, Send, Cut}
 use Rattle.ge_model_world.specs.Masters.{Master}
 
 -- root's request at a moment: daemons ask and report as root
@@ -72,6 +72,11 @@ abbrev pub acted : List (ℕ × Message) → ℕ → Daemon → Act → Acted
 acted sent place d (Deliver k) = delivered place d (slice_get sent k)
 acted sent place d (Finish serial exit cpu mem io) = (if may_end exit cpu mem io then after_end d serial (Ended exit cpu mem io) else d, [])
 
+-- a daemon after an act that it stopped in when its new state was kept: of the starts the first were made. It stops in none.
+abbrev pub cut_short : Option ℕ → Acted → Acted
+cut_short None a = a
+cut_short (Some starts) a = (a.0, take starts a.1)
+
 -- the report of a kept end
 abbrev pub report_of : ℕ → ℕ → Option Stage → List Report
 report_of daemon serial None = []
@@ -85,9 +90,14 @@ starts_at place serials = map (λ serial. (place, serial)) serials
 abbrev pub with_acted : World → ℕ → Acted → World
 with_acted w place a = record w { daemons = slice_set w.daemons place a.0; started = w.started ++ starts_at place a.1 }
 
-abbrev pub acting : World → ℕ → Act → Option Daemon → World
-acting w place act None = w
-acting w place act (Some d) = with_acted w place (acted w.sent place d act)
+abbrev pub acting : World → ℕ → Act → Option ℕ → Option Daemon → World
+acting w place act starts None = w
+acting w place act starts (Some d) = with_acted w place (cut_short starts (acted w.sent place d act))
+
+-- the world where a daemon stops inside an act, with its new state or without, and opens again
+abbrev pub cutting : World → ℕ → Act → Bool → ℕ → Option Daemon → World
+cutting w place act true starts o = acting w place act (Some starts) o
+cutting w place act false starts o = w
 
 abbrev pub sending : World → ℕ → ℕ → Option Daemon → World
 sending w place serial None = w
@@ -153,8 +163,9 @@ module _ (m : Master) where
   step_of w (Handle x) = handling w x (arrival_event w.reports x)
   step_of w (Stop x done) = stopped w done (arrival_event w.reports x)
   step_of w (Ask place moment) = asking w place moment (slice_get w.daemons place)
-  step_of w (Acts place act) = acting w place act (slice_get w.daemons place)
+  step_of w (Acts place act) = acting w place act None (slice_get w.daemons place)
   step_of w (Send place serial) = sending w place serial (slice_get w.daemons place)
+  step_of w (Cut place act done starts) = cutting w place act done starts (slice_get w.daemons place)
 
   -- a world before its first step, with a new daemon for each host
   abbrev pub new_world : List (List ℕ) → World

@@ -1,5 +1,6 @@
 //! The world of a master and its execution daemons: one master, a daemon for each host, and all messages that were ever sent
-//! between them. A message may be lost, come late, again and to the wrong daemon, and the master may stop inside an event.
+//! between them. A message may be lost, come late, again and to the wrong daemon, the master may stop inside an event, and a daemon
+//! inside an act.
 //!
 //! Definitions and laws alone. The types are those that code keeps too.
 //!

@@ -146,4 +146,7 @@ pub enum Step {
     Daemon(u32, Act),
     /// The daemon at a place sends the report of the end that it keeps of a serial.
     Send(u32, u64),
+    /// The daemon at a place stops inside an act, before its new state is kept or after, and opens again. Where it is kept, the
+    /// first of the act's starts were made, so many as the number says.
+    Cut(u32, Act, bool, u64),
 }

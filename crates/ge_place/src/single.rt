@@ -23,7 +23,7 @@ fn fits_alone(search: &Search<'_>, counts: &Counted) -> bool
     match counts.capacity.checked_sub(u128::from(counts.amount)) {
         Some(room) => !search
             .booked
-            .exceeds(&counts.limit, search.from, search.until, room),
+            .is_above(&counts.limit, search.from, search.until, room),
         None => false,
     }
 }

@@ -1,5 +1,5 @@
 -- What each end of a connection leaves.
-use Rattle.std.proofs.Common.{◌≡◌, ℕ, ◌<◌, ◌≤◌, Bool, true, false, List, ◌++◌, length, take, drop, Option, refl, ap, ◌∙◌, sym, subst, ⊎_elim, arith}
+use Rattle.std.proofs.Common.{◌≡◌, ℕ, ◌<◌, ◌≤◌, Bool, true, false, List, ◌++◌, length, take, drop, Option, refl, ap, ◌∙◌, sym, subst, inr, ⊎_elim, arith}
 use Rattle.std.specs.Prelude.{nat_le}
 use Rattle.std.proofs.lemmas.Bool.Decides.{nat_tests}
 use Rattle.std.proofs.lemmas.List.{length-append, length-take-le, take-append-drop, take-append-le}
@@ -10,7 +10,7 @@ use Rattle.ge_model_rows.specs.EventRows.{Event, Planned}
 use Rattle.ge_model_journal.specs.Disk.{Content}
 use Rattle.ge_model_wire.specs.Frames.{frames_of}
 use Rattle.ge_model_program.specs.Answered.{FrameMarks, answered}
-use Rattle.ge_model_program.specs.Links.{HoldsOneOf, LeftInHand, EndsAs}
+use Rattle.ge_model_program.specs.Links.{HoldsAfter, HoldsOneOf, LeftInHand, EndsAs}
 use Rattle.ge_model_program.specs.declared.LinkEnd.{LinkEnd}
 use Rattle.ge_model_program.specs.declared.LinkEnd.TheVariants as end
 use Rattle.ge_model_program.proofs.Ending.{whole-left}
@@ -33,16 +33,22 @@ module _ (plan : Cluster → Event → Planned) (start : Cluster) (clock : Answe
   not-less size all whole later below same has =
       omega (arith, below, ap length same, ap length has, length-append whole later, length-take-le size all (omega (arith, below)))
 
-  module _ (Leaves : ℕ → Cluster → Cluster → Type 0) (old now : Option (List ℕ)) (later : Option Answers) where
+  module _ (Leaves : List FrameMarks → List FrameMarks → Cluster → Cluster → Type 0) (old now : Option (List ℕ)) (later : Option Answers) where
+    -- the master holds the cluster after all of them
+    with-all : (reached : Cluster) (stopping : Bool)
+        → (left : LeftInHand plan start clock bytes Leaves old now later) × HoldsAfter plan start clock bytes Leaves (left.in_hand.marks ++ left.in_hand.hand) reached stopping
+        → (left : LeftInHand plan start clock bytes Leaves old now later) × HoldsOneOf plan start clock bytes Leaves left.in_hand reached stopping
+    with-all reached stopping left = (left.0, inr left.1)
+
     -- at each end there are frames that are answered, and perhaps one in hand
     pub left-of : (how : LinkEnd) (reached : Cluster) (stopping : Bool) → EndsAs plan start clock bytes Leaves old now later how reached stopping
         → (left : LeftInHand plan start clock bytes Leaves old now later) × HoldsOneOf plan start clock bytes Leaves left.in_hand reached stopping
-    left-of end.Done reached stopping e = whole-left plan start clock bytes Leaves old now later reached stopping e.0.whole
-    left-of end.Stopped reached stopping e = whole-left plan start clock bytes Leaves old now later reached stopping e.0
-    left-of end.Read reached stopping e = whole-left plan start clock bytes Leaves old now later reached stopping e.0
-    left-of end.Write reached stopping e = e
-    left-of (end.Frame place) reached stopping e = whole-left plan start clock bytes Leaves old now later reached stopping e.0.whole
-    left-of end.Long reached stopping e = whole-left plan start clock bytes Leaves old now later reached stopping e.0
+    left-of end.Done reached stopping e = with-all reached stopping (whole-left plan start clock bytes Leaves old now later reached stopping e.0.whole)
+    left-of end.Stopped reached stopping e = with-all reached stopping (whole-left plan start clock bytes Leaves old now later reached stopping e.0)
+    left-of end.Read reached stopping e = with-all reached stopping (whole-left plan start clock bytes Leaves old now later reached stopping e.0)
+    left-of end.Write reached stopping e = with-all reached stopping e
+    left-of (end.Frame place) reached stopping e = with-all reached stopping (whole-left plan start clock bytes Leaves old now later reached stopping e.0.whole)
+    left-of end.Long reached stopping e = with-all reached stopping (whole-left plan start clock bytes Leaves old now later reached stopping e.0)
     left-of end.Memory reached stopping e = e
 
     module _ (l : LeftInHand plan start clock bytes Leaves old now later) where

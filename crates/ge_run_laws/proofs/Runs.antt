@@ -47,14 +47,14 @@ module _ (plan : Cluster → Event → Planned) (start : Cluster) (events : List
       (has-front plan start events k (take run.n run.marks) (drop run.n run.marks) w.later (wrote ∙ ap (λ (ms : List Bool). written plan start events (take k ms) ++ w.later) (sym joined))) in
       for-one-of a b _ _ (HasEvents plan start events (take k run.marks)) (run.images at) has (has-first plan start events k run.marks)
 
-  module _ (ended last : Type 0) where
-    pub runs-stand : RunsStand plan start events home old new a b ended last batch before later ledger (EachFrontStands plan start events home old new a b)
+  module _ (ended : Type 0) where
+    pub runs-stand : RunsStand plan start events home old new a b ended batch before later ledger (EachFrontStands plan start events home old new a b)
     runs-stand = record {
       to = to-stands;
       cut = λ run k at w. for-one a b _ (HasEvents plan start events (take k run.marks)) (run.images at) (has-first plan start events k run.marks);
       all = λ run k at w. for-one a b _ (HasEvents plan start events (take k run.marks)) (run.images at) (has-first plan start events k run.marks);
-      full = λ run k at w. for-one a b _ (HasEvents plan start events (take k (run.marks ++ run.more))) (run.images at)
-          (has-front plan start events k run.marks run.more w.later (gained-front old new _ _ run.wrote w));
+      full = λ run k at w. for-one a b _ (HasEvents plan start events (take k (run.next.marks ++ run.next.more))) (run.images at)
+          (has-front plan start events k run.next.marks run.next.more w.later (gained-front old new _ _ run.next.wrote w));
     }
 
     -- where the plan never answers as want of memory is answered
@@ -68,7 +68,7 @@ module _ (plan : Cluster → Event → Planned) (start : Cluster) (events : List
           ap (written plan start events) (sym (take-append-drop run.n run.marks)) ∙ more.1 ∙ ap (λ bytes. bytes ++ more.0) wrote ∙ append_assoc (written plan start events seen) w.later more.0 in
           for-one-of a b _ _ (HasEvents plan start events seen) (run.images at) (has-read plan tells start events seen front w.later wrote) (has-read plan tells start events seen run.marks (w.later ++ more.0) whole)
 
-      pub readings-stand : RunsStand plan start events home old new a b ended last batch before later ledger (λ marks. EachReadingStands plan start events home old new a b)
+      pub readings-stand : RunsStand plan start events home old new a b ended batch before later ledger (λ marks. EachReadingStands plan start events home old new a b)
       readings-stand = record {
         to = read-to;
         cut = λ run seen at w. for-one a b _ (HasEvents plan start events seen) (run.images at)
@@ -77,7 +77,7 @@ module _ (plan : Cluster → Event → Planned) (start : Cluster) (events : List
         all = λ run seen at w. for-one a b _ (HasEvents plan start events seen) (run.images at)
             (has-read plan tells start events seen run.marks w.later (gained-front old new _ _ run.wrote w));
         full = λ run seen at w. for-one a b _ (HasEvents plan start events seen) (run.images at)
-            (has-read plan tells start events seen run.marks w.later (gained-front old new _ _ run.wrote w));
+            (has-read plan tells start events seen run.next.marks w.later (gained-front old new _ _ run.next.wrote w));
       }
 
 -- A whole replay, whatever its status.
@@ -90,10 +90,10 @@ module _ (batch status : ℕ) (script : List ℕ) (rest : Option (List ℕ)) (re
       run : Replays status (Some script) rest reads reads_now (opened_view x) y start (WereStill status x) (ledger_in state) batch
       run = replay.ran start state stands means
 
-      at : (ended last : Type 0) → RunsStand plan_of start (events_of script) (WereStill status x) x.output y.output y.a y.b ended last batch (opened_view x).syncs y.syncs (ledger_in state)
+      at : (ended : Type 0) → RunsStand plan_of start (events_of script) (WereStill status x) x.output y.output y.a y.b ended batch (opened_view x).syncs y.syncs (ledger_in state)
           (λ marks. EachReadingStands plan_of start (events_of script) (WereStill status x) x.output y.output y.a y.b)
-      at ended last = readings-stand plan_of start (events_of script) (WereStill status x) x.output y.output y.a y.b batch (opened_view x).syncs y.syncs (ledger_in state) ended last tells
+      at ended = readings-stand plan_of start (events_of script) (WereStill status x) x.output y.output y.a y.b batch (opened_view x).syncs y.syncs (ledger_in state) ended tells
 
       by : (t : Bool) → (status == 7) ≡ t → EachReadingStands plan_of start (events_of script) (WereStill status x) x.output y.output y.a y.b
-      by true is = (at (Unit {0}) (Unit {0})).cut (run.cut (eqb-true status 7 is))
-      by false other = (at (Unit {0}) (Unit {0})).to (run.part (λ is. eqb-false status 7 other is))
+      by true is = (at (Unit {0})).cut (run.cut (eqb-true status 7 is))
+      by false other = (at (Unit {0})).to (run.part (λ is. eqb-false status 7 other is))

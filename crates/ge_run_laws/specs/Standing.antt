@@ -37,9 +37,9 @@ module _ (plan : Cluster → Event → Planned) (start : Cluster) (events : List
     abbrev pub EachReadingStands : Type 0
     EachReadingStands = (seen : List Bool) → Stand seen
 
-    -- what holds of the marks of a run, at each of its exits; ended and last: why a run may have ended where it did
-    pub record RunsStand (ended last : Type 0) (batch before later : ℕ) (ledger : Ledger) (Stands : List Bool → Type 0) : Type 0 where
+    -- what holds of the marks of a run, at each of its exits; ended: why a run may have ended where it did
+    pub record RunsStand (ended : Type 0) (batch before later : ℕ) (ledger : Ledger) (Stands : List Bool → Type 0) : Type 0 where
       pub to : (run : RanTo plan start events home old new a b batch before later ledger) → Stands run.marks
       pub cut : (run : RanCut plan start events home old new a b batch before later ledger) → Stands run.marks
       pub all : (run : RanAll plan start events home old new a b batch before later ledger ended) → Stands run.marks
-      pub full : (run : RanFull plan start events home old new a b batch before later ledger last) → Stands (run.marks ++ run.more)
+      pub full : (run : RanFull plan start events home old new a b batch before later ledger) → Stands (run.next.marks ++ run.next.more)

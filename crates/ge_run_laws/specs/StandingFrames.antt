@@ -12,8 +12,12 @@ use Rattle.ge_model_program.specs.Runs.{EachStandsForOneOf}
 use Rattle.ge_run_laws.specs.Standing.{WroteWhole, EachStandsForSome}
 
 -- what a master leaves the areas with: where they were at home, every pair stands for the one cluster or the other
-abbrev pub LeavesHome : Type 0 → List Content → List Content → ℕ → Cluster → Cluster → Type 0
-LeavesHome home a b frames c d = home → EachStandsForOneOf a b c d
+abbrev pub LeavesHome : Type 0 → List Content → List Content → List FrameMarks → List FrameMarks → Cluster → Cluster → Type 0
+LeavesHome home a b marks hand c d = home → EachStandsForOneOf a b c d
+
+-- the same after connections with so many frames
+abbrev pub LeavesDoor : Type 0 → List Content → List Content → ℕ → Cluster → Cluster → Type 0
+LeavesDoor home a b frames c d = home → EachStandsForOneOf a b c d
 
 -- a fact of the cluster that a master holds, and of each for which the areas may stand
 abbrev pub InAll : Type 0 → List Content → List Content → Cluster → (Cluster → Type 0) → Type 0

@@ -27,7 +27,7 @@ ghost use Rattle.ge_model_program.specs.View.{said_of, View};
 ghost use Rattle.ge_run_laws.specs.Standing.{EachFrontStands, EachReadingStands};
 ghost use Rattle.ge_run_laws.specs.Standing.{EachStandsForSome, RunsStand};
 ghost use Rattle.ge_run_laws.specs.StandingFrames.{FramesStand, HasLinks, InAll};
-ghost use Rattle.ge_run_laws.specs.StandingFrames.{LeavesHome, LinksStand};
+ghost use Rattle.ge_run_laws.specs.StandingFrames.{LeavesDoor, LeavesHome, LinksStand};
 
 use ge_laws::plans_never_want_memory;
 
@@ -39,16 +39,16 @@ use ge_laws::plans_never_want_memory;
 /// stand, have it (`linked`); connections in turn hand it on to the next (`served`), and so does the door (`doors`).
 ///
 /// `Home` is the fact that areas were at home when the run began: that they stood for its cluster and nothing was pending.
-pub fn acknowledged_events_stand<Home, Ended, Last>()
+pub fn acknowledged_events_stand<Home, Ended>()
     ensures runs { (plan : Cluster → Event → Planned) (start : Cluster) (events : List Event)
         (old new : Option (List ℕ)) (a b : List Content)
         (batch before later : ℕ) (ledger : Ledger)
-        → RunsStand plan start events Home old new a b Ended Last batch before later ledger
+        → RunsStand plan start events Home old new a b Ended batch before later ledger
         (EachFrontStands plan start events Home old new a b) }
     ensures readings { (start : Cluster) (events : List Event)
         (old new : Option (List ℕ)) (a b : List Content)
         (batch before later : ℕ) (ledger : Ledger)
-        → RunsStand plan_of start events Home old new a b Ended Last batch before later ledger
+        → RunsStand plan_of start events Home old new a b Ended batch before later ledger
         (λ marks. EachReadingStands plan_of start events Home old new a b) }
     ensures replayed { (batch status : ℕ) (script : List ℕ) (rest : Option (List ℕ))
         (reads reads_now : ℕ) (x y : View) (start : Cluster) (state : State)
@@ -62,15 +62,16 @@ pub fn acknowledged_events_stand<Home, Ended, Last>()
         (later : Option Answers) (how : LinkEnd) (reached : Cluster) (stopping : Bool)
         → EndsAs plan start clock bytes (LeavesHome Home a b) old now later how reached stopping
         → FramesStand plan start clock bytes old now (InAll Home a b reached) }
-    ensures served { (plan : Cluster → Event → Planned) (start : Cluster) (clock : Answers)
-        (coming : List (List ℕ)) (links : List ClosedLink) (left : Cluster) (later : Answers)
-        (stopped : Bool) → Served plan start clock coming links left later stopped
+    ensures served { (plan : Cluster → Event → Planned) (l : Ledger) (start : Cluster)
+        (clock : Answers) (coming : List (List ℕ)) (links : List ClosedLink) (kept : Ledger)
+        (left : Cluster) (later : Answers) (stopped : Bool)
+        → Served plan l start clock coming links kept left later stopped
         → LinksStand plan start clock coming links left later }
-    ensures doors { (plan : Cluster → Event → Planned) (start : Cluster)
+    ensures doors { (plan : Cluster → Event → Planned) (origin : Ledger) (start : Cluster)
         (coming : List (List ℕ)) (closed : List ClosedLink) (clock : Answers)
         (coming_now : Option (List (List ℕ))) (closed_now : Option (List ClosedLink))
         (a b : List Content) (status count : ℕ) (later_now : Option Answers) (reached : Cluster)
-        → ServedTo plan start coming closed clock coming_now closed_now (LeavesHome Home a b)
+        → ServedTo plan origin start coming closed clock coming_now closed_now (LeavesDoor Home a b)
         status count later_now reached → Home
         → EachStandsForSome a b (HasLinks plan start clock coming closed closed_now) }
 {

@@ -11,14 +11,13 @@ use Rattle.ge_model_wire.specs.Payloads.{event_in_payload}
 use Rattle.ge_model_program.specs.Moments.{frame_moment, is_due, runs_before, frame_events}
 use Rattle.ge_model_program.specs.Answered.{FrameMarks, marks_of, own_reply, framed, framed_reply, frame_trace}
 use Rattle.ge_model_program.specs.StandsFor.{StandsForOneOf}
-use Rattle.ge_spool.specs.Settled.{generation_of}
 use Rattle.ge_master.specs.Areas.{Areas, HasFailed}
 use Rattle.ge_master.specs.Homes.{Parts}
 use Rattle.ge_master.specs.Handling.{Handles, HandlesBatch, RepliesAs, traced_compacts}
 use Rattle.ge_master.specs.declared.faults.Stop.{Stop}
 use Rattle.ge_master.specs.declared.faults.Stop.TheVariants as stop
 use Rattle.ge_master.proofs.AtHome.{home-stands}
-use Rattle.ge_serve.proofs.Kept.{ends-images, end-too-long, three-syncs, kept-generation}
+use Rattle.ge_serve.proofs.Kept.{ends-images, three-syncs}
 use Rattle.ge_serve.specs.Replies.{RepliesWith, AnswersFrame}
 
 module _ (plan : Cluster → Event → Planned) where
@@ -46,11 +45,10 @@ module _ (plan : Cluster → Event → Planned) where
       moment = moment;
       ticks = ticks;
       marks = record { run = true; own = true };
-      replies = inl (refl, refl);
+      replies = inl (refl, refl, refl);
       images = λ home c d of_c of_d. inl (home-stands old before home c d of_c of_d);
       home = λ home. home;
       syncs = omega arith;
-      generation = omega arith;
     }
 
     module _ (new : Parts) (after : Areas) (events : List Event) (made : events ≡ frame_events old.cluster moment payload) where
@@ -60,9 +58,9 @@ module _ (plan : Cluster → Event → Planned) where
           let m = frame-marks old.cluster moment payload h.marks (h.counted ∙ ap length made) in
           (m.0, subst (λ t. Handles t old new result before after) (ap (λ es. traced plan old.cluster es h.marks) made ∙ m.1) h.handled)
 
-      stop-replies : (s : Stop) (t : Traced) → RepliesAs t old.spool (Err s) (HasFailed before after) → RepliesWith t old new (Err s) (HasFailed before after) (generation_of old.spool)
+      stop-replies : (s : Stop) (t : Traced) → RepliesAs t old.spool (Err s) (HasFailed before after) → RepliesWith t old new (Err s) (HasFailed before after)
       stop-replies stop.Disk t answer = (answer.0, tt)
-      stop-replies (stop.Full place) t answer = (tt, end-too-long old.spool t place answer)
+      stop-replies (stop.Full place) t answer = (tt, answer)
       stop-replies stop.Spent t answer = (tt, tt)
       stop-replies stop.Dead t answer = absurd answer
 
@@ -79,7 +77,6 @@ module _ (plan : Cluster → Event → Planned) where
             images = λ home. ends-images before.a after.a before.b after.b (StandsForOneOf old.cluster t.cluster) f.1.grows.0 f.1.grows.1 (f.1.any_moment home);
             home = λ home. tt;
             syncs = three-syncs (traced_compacts old.spool t) before.syncs after.syncs f.1.syncs;
-            generation = tt;
           }
 
       -- the events were handled, but memory was wanted for the reply
@@ -91,11 +88,10 @@ module _ (plan : Cluster → Event → Planned) where
             moment = moment;
             ticks = ticks;
             marks = f.0;
-            replies = inr (f.1.left.cluster, f.1.left.stopping);
+            replies = inr (f.1.left.cluster, f.1.left.stopping, f.1.left.ledger, f.1.answer.1);
             images = λ home. ends-images before.a after.a before.b after.b (StandsForOneOf old.cluster t.cluster) f.1.grows.0 f.1.grows.1 (f.1.any_moment home);
             home = f.1.home;
             syncs = three-syncs (traced_compacts old.spool t) before.syncs after.syncs f.1.syncs;
-            generation = kept-generation t old.spool new.spool f.1.left.journal;
           }
 
       framed-one : (replies : List Reply) (reply : Reply) (text : List ℕ) → own_reply replies ≡ reply ∷ [] → text ≡ rendered reply → framed (own_reply replies) ≡ reply_frame text
@@ -111,9 +107,8 @@ module _ (plan : Cluster → Event → Planned) where
             moment = moment;
             ticks = ticks;
             marks = f.0;
-            replies = (framed-one t.replies reply text (ap own_reply (sym f.1.answer.0) ∙ own) is, (f.1.left.cluster, f.1.left.stopping));
+            replies = (framed-one t.replies reply text (ap own_reply (sym f.1.answer.0) ∙ own) is, (f.1.left.cluster, f.1.left.stopping, f.1.left.ledger, f.1.answer.1));
             images = λ home. ends-images before.a after.a before.b after.b (StandsForOneOf old.cluster t.cluster) f.1.grows.0 f.1.grows.1 (f.1.any_moment home);
             home = f.1.home;
             syncs = three-syncs (traced_compacts old.spool t) before.syncs after.syncs f.1.syncs;
-            generation = kept-generation t old.spool new.spool f.1.left.journal;
           }

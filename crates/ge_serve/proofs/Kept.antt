@@ -1,18 +1,10 @@
--- What handling a trace leaves of the areas, the journal, the master and the counts of faults, as callers of the master put it together.
-use Rattle.std.proofs.Common.{◌≡◌, ◌⊎◌, ℕ, ◌+◌, ◌-◌, ◌^◌, ◌<◌, ◌≤◌, min, cond, Bool, true, false, List, [], ◌∷◌, length, ap, ◌∙◌, sym, subst, inl, inr, ⊎_elim, arith}
+-- What handling a trace leaves of the areas, the master and the counts of faults, as callers of the master put it together.
+use Rattle.std.proofs.Common.{◌≡◌, ℕ, ◌+◌, ◌≤◌, Bool, true, false, List, [], ◌∷◌, length, ap, ◌∙◌, sym, inl, inr, ⊎_elim, arith}
 use Rattle.std.specs.Prelude.{◌||◌}
-use Rattle.std.proofs.lemmas.Bool.{cases_lt}
-use Rattle.ge_limits.specs.Limits as limit
 use Rattle.ge_outside.specs.Faults.{Rose}
 use Rattle.ge_model_journal.specs.Disk.{Content, IsImageNow, IsImageSince}
-use Rattle.ge_model_program.specs.Traced.{Traced}
-use Rattle.ge_model_program.specs.StandsFor.{cluster_bytes}
-use Rattle.ge_model_program.specs.Runs.{IsTooLong}
-use Rattle.ge_spool.specs.Settled.{generation_of}
-use Rattle.ge_spool.specs.declared.spool.Spool.{Spool}
 use Rattle.ge_master.specs.Areas.{Areas, HasFailed}
-use Rattle.ge_master.specs.Storing.{last_generation, record_end, IsStored, stored_syncs}
-use Rattle.ge_master.specs.Handling.{traced_size, HadNoRoom, KeepsTrace}
+use Rattle.ge_master.specs.Storing.{stored_syncs}
 
 -- what a stop may leave now is what it may have left since some moment before
 now-since : (told : List Content) (start : ℕ) (image : List ℕ) → start ≤ length told → IsImageNow told image → IsImageSince start told image
@@ -33,27 +25,6 @@ stops-as before after stops going is = sym (is ∙ ap (λ s. s || stops) going)
 pub three-syncs : (compacting : Bool) (before after : ℕ) → after ≤ before + stored_syncs compacting → after ≤ before + 3
 three-syncs true before after few = few
 three-syncs false before after few = omega (arith, few)
-
-stored-generation : (compacting : Bool) (old new : Spool) (size snapshot_size : ℕ) → IsStored compacting old new size snapshot_size → generation_of new ≤ generation_of old + 1
-stored-generation true old new size snapshot_size is = omega (arith, is.generation)
-stored-generation false old new size snapshot_size is = omega (arith, is.generation)
-
--- what is kept raises the generation by one at most
-pub kept-generation : (t : Traced) (old new : Spool) → KeepsTrace t old new → generation_of new ≤ generation_of old + 1
-kept-generation t old new (inl same) = omega (arith, ap generation_of same.1)
-kept-generation t old new (inr is) = stored-generation _ old new _ _ is
-
-by-generation : (s : Spool) (t : Traced) (place : ℕ) → HadNoRoom s t place → (generation_of s < last_generation) ⊎ (last_generation ≤ generation_of s)
-    → IsTooLong t.cluster ⊎ (last_generation ≤ generation_of s)
-by-generation s t place none (inl below) =
-    let end : place ≡ 19 + length (cluster_bytes t.cluster) =
-    none.end ∙ ap (λ k. cond k (19 + length (cluster_bytes t.cluster)) (min (record_end s (traced_size t)) (2 ^ 64 - 1))) (none.compacting below) in
-    inl (subst (λ n. limit.area_bytes < n) end none.past)
-by-generation s t place none (inr last) = inr last
-
--- where the area would end past its limit, the cluster is too long, but in the last generation
-pub end-too-long : (s : Spool) (t : Traced) (place : ℕ) → HadNoRoom s t place → IsTooLong t.cluster ⊎ (last_generation ≤ generation_of s)
-end-too-long s t place none = by-generation s t place none (cases_lt (generation_of s) last_generation)
 
 -- what rose since later rose since earlier
 pub rose-since : (first second last : ℕ) → first ≤ second → Rose second last → Rose first last

@@ -12,19 +12,20 @@ use Rattle.ge_model_rows.specs.EventRows.{Event, Planned}
 use Rattle.ge_model_core.specs.Plan.{plan_of}
 use Rattle.ge_model_wire.specs.Frames.{frames_of}
 use Rattle.ge_model_program.specs.Served.{frames_in, Served}
-use Rattle.ge_model_program.specs.Doors.{OnDoor, AllGivenBack, OneInHand, ServedTo}
+use Rattle.ge_model_program.specs.Keeping.{Ledger}
+use Rattle.ge_model_program.specs.Doors.{OnDoor, AllGivenBack, OneInHand, IsFullInHand, ServedTo}
 use Rattle.ge_model_program.proofs.Ending.{map-hand}
 use Rattle.ge_model_program.proofs.LinksOn.{served-more}
-use Rattle.ge_spool.specs.Settled.{generation_of}
 use Rattle.ge_master.specs.Areas.{Areas, HasFailed}
 use Rattle.ge_master.specs.Homes.{Parts, IsHome}
+use Rattle.ge_master.specs.Ledgers.{ledger_of}
 use Rattle.ge_serve.proofs.Kept.{rose-since, failed-since}
 use Rattle.ge_master.specs.declared.faults.Stop.TheVariants as stop
-use Rattle.ge_serve.specs.Leaving.{Leaves, Keeps}
-use Rattle.ge_serve.specs.Serves.{status_of_fault, FaultBlames, LeavesWith, IsServeStatus, OneServed, NoneAccepted, OneKept, Serves}
+use Rattle.ge_serve.specs.Leaving.{Leaves, LeavesHand}
+use Rattle.ge_serve.specs.Serves.{status_of_fault, FaultBlames, IsServeStatus, OneServed, NoneAccepted, OneKept, Serves}
 use Rattle.ge_serve.specs.declared.statuses.ServeFault.{ServeFault}
 use Rattle.ge_serve.specs.declared.statuses.ServeFault.TheVariants as fault
-use Rattle.ge_serve.proofs.Leavings.{keeps-start, later-too-long}
+use Rattle.ge_serve.proofs.Leavings.{leaves-start}
 
 pub on-door : (coming : Option (List (List ℕ))) (closed : Option (List ClosedLink)) (clock : Option Answers) (P Q : List (List ℕ) → List ClosedLink → Answers → Type 0)
     → ((cs : List (List ℕ)) (links : List ClosedLink) (answers : Answers) → P cs links answers → Q cs links answers) → OnDoor coming closed clock P → OnDoor coming closed clock Q
@@ -73,83 +74,81 @@ door-fault fault.Door disks doors is blames = blames
 door-fault fault.Memory disks doors is blames = absurd (omega (arith, is))
 
 module _ (plan : Cluster → Event → Planned) (start : Parts) (before : Areas) (cs : List (List ℕ)) (links : List ClosedLink) (answers : Answers) where
-  -- what is left of the areas, at a status other than 5
-  with-status : (status : ℕ) (new : Parts) (after : Areas) (coming_now : Option (List (List ℕ))) (closed_now : Option (List ClosedLink)) (later : Option Answers) (stopped : Bool) → (status ≡ 5 → ⊥)
-      → (all : AllGivenBack plan start.cluster cs links answers coming_now closed_now (Keeps before after (IsHome start before) start.spool new.spool) later new.cluster stopped)
-      → LeavesWith status before after (IsHome start before) (generation_of start.spool) (frames_in all.given.came) new.cluster new.cluster
-  with-status status new after coming_now closed_now later stopped other all = (all.areas.0, λ is. absurd (other is))
-
   module _ (mid new : Parts) (now after : Areas) (coming_mid coming_now : Option (List (List ℕ))) (closed_mid closed_now : Option (List ClosedLink)) (clock_mid later : Option Answers) (f : ServeFault)
-      (all : AllGivenBack plan start.cluster cs links answers coming_mid closed_mid (Keeps before now (IsHome start before) start.spool mid.spool) clock_mid mid.cluster false) where
+      (all : AllGivenBack plan (ledger_of start.spool) start.cluster cs links answers coming_mid closed_mid (Leaves before now (IsHome start before)) clock_mid mid.cluster false)
+      (kept : all.kept ≡ ledger_of mid.spool) where
     -- the door failed before another was accepted
     at-door : NoneAccepted mid new now after all.given.others (links ++ all.given.links) all.later coming_now closed_now later f
-        → AllGivenBack plan start.cluster cs links answers coming_now closed_now (LeavesWith (status_of_fault f) before after (IsHome start before) (generation_of start.spool)) later new.cluster false
+        → AllGivenBack plan (ledger_of start.spool) start.cluster cs links answers coming_now closed_now (Leaves before after (IsHome start before)) later new.cluster false
     at-door none = record {
       later = all.later;
+      kept = all.kept;
       given = record {
         came = all.given.came;
         others = all.given.others;
         links = all.given.links;
         coming_is = all.given.coming_is;
         closed_is = none.closed_is;
-        served = subst (λ (p : Parts). Served plan start.cluster answers all.given.came all.given.links p.cluster all.later false) (sym none.same) all.given.served;
+        served = subst (λ (p : Parts). Served plan (ledger_of start.spool) start.cluster answers all.given.came all.given.links all.kept p.cluster all.later false) (sym none.same) all.given.served;
       };
       still_coming = none.still_coming;
       ticks = none.ticks;
-      areas = (
-        subst (λ (x : Areas). Leaves before x (IsHome start before) (frames_in all.given.came) new.cluster new.cluster) (sym none.untouched)
-            (subst (λ (p : Parts). Leaves before now (IsHome start before) (frames_in all.given.came) p.cluster p.cluster) (sym none.same) all.areas.0),
-        λ is. absurd (omega (arith, is, ap status_of_fault none.door)),
-      );
+      areas = subst (λ (x : Areas). Leaves before x (IsHome start before) (frames_in all.given.came) new.cluster new.cluster) (sym none.untouched)
+          (subst (λ (p : Parts). Leaves before now (IsHome start before) (frames_in all.given.came) p.cluster p.cluster) (sym none.same) all.areas);
     }
 
     -- another was accepted, and isn't given back
     in-hand : (IsHome start before → IsHome mid now) → OneKept plan mid now after all.given.others (links ++ all.given.links) all.later coming_now closed_now f
-        → OneInHand plan start.cluster cs links answers coming_now closed_now (LeavesWith (status_of_fault f) before after (IsHome start before) (generation_of start.spool))
-    in-hand go one = record {
-      left = mid.cluster;
-      later = all.later;
-      given = record {
-        came = all.given.came;
-        others = all.given.others;
-        links = all.given.links;
-        coming_is = all.given.coming_is;
-        closed_is = one.closed_is;
-        served = all.given.served;
-      };
-      bytes = one.bytes;
-      others = one.others;
-      accepted = one.coming_is;
-      still_coming = one.still_coming;
-      hand = map-hand plan mid.cluster all.later one.bytes (LeavesWith (status_of_fault f) now after (IsHome mid now) (generation_of mid.spool))
-          (λ frames c d. LeavesWith (status_of_fault f) before after (IsHome start before) (generation_of start.spool) (frames_in all.given.came + frames) c d)
-          (λ n c d few x. (
-            record { images = λ home. x.0.images (go home); syncs = omega (arith, all.areas.0.syncs, x.0.syncs) },
-            λ is. later-too-long (generation_of mid.spool + n) (generation_of start.spool + (frames_in all.given.came + n)) d (omega (arith, all.areas.1)) (x.1 is),
-          ))
-          one.hand;
-    }
+        → (one : OneInHand plan (ledger_of start.spool) start.cluster cs links answers coming_now closed_now (Leaves before after (IsHome start before)))
+        × (status_of_fault f ≡ 5 → IsFullInHand plan (ledger_of start.spool) start.cluster cs links answers coming_now closed_now (Leaves before after (IsHome start before)) one)
+    in-hand go one = (
+      record {
+        kept = ledger_of mid.spool;
+        left = mid.cluster;
+        later = all.later;
+        given = record {
+          came = all.given.came;
+          others = all.given.others;
+          links = all.given.links;
+          coming_is = all.given.coming_is;
+          closed_is = one.closed_is;
+          served = subst (λ (l : Ledger). Served plan (ledger_of start.spool) start.cluster answers all.given.came all.given.links l mid.cluster all.later false) kept all.given.served;
+        };
+        bytes = one.bytes;
+        others = one.others;
+        accepted = one.coming_is;
+        still_coming = one.still_coming;
+        hand = map-hand plan mid.cluster all.later one.bytes (LeavesHand plan mid now after one.bytes all.later)
+            (λ marks hand c d. Leaves before after (IsHome start before) (frames_in all.given.came + length (marks ++ hand)) c d)
+            (λ marks hand c d few x. record { images = λ home. x.images (go home); syncs = omega (arith, all.areas.syncs, x.syncs) }) one.hand;
+      },
+      one.full,
+    )
 
 -- So many connections were served and given back, where the door and the clock tell; the last of them may have stopped the master.
 pub record HasGivenBack (plan : Cluster → Event → Planned) (start : Parts) (before : Areas) (coming : Option (List (List ℕ))) (closed : Option (List ClosedLink)) (clock : Option Answers)
     (mid : Parts) (now : Areas) (coming_mid : Option (List (List ℕ))) (closed_mid : Option (List ClosedLink)) (clock_mid : Option Answers) (count : ℕ) : Type 0 where
   pub told : OnDoor coming closed clock (λ cs links answers.
-      (all : AllGivenBack plan start.cluster cs links answers coming_mid closed_mid (Keeps before now (IsHome start before) start.spool mid.spool) clock_mid mid.cluster mid.stopping) × (length all.given.links ≡ count))
+      (all : AllGivenBack plan (ledger_of start.spool) start.cluster cs links answers coming_mid closed_mid (Leaves before now (IsHome start before)) clock_mid mid.cluster mid.stopping)
+      × (length all.given.links ≡ count) × (all.kept ≡ ledger_of mid.spool))
 
 none-yet : (plan : Cluster → Event → Planned) (start : Parts) (before : Areas) (coming : Option (List (List ℕ))) (closed : Option (List ClosedLink)) (clock : Option Answers) → start.stopping ≡ false
     → OnDoor coming closed clock (λ cs links answers.
-    (all : AllGivenBack plan start.cluster cs links answers coming closed (Keeps before before (IsHome start before) start.spool start.spool) clock start.cluster start.stopping) × (length all.given.links ≡ 0))
+    (all : AllGivenBack plan (ledger_of start.spool) start.cluster cs links answers coming closed (Leaves before before (IsHome start before)) clock start.cluster start.stopping)
+    × (length all.given.links ≡ 0) × (all.kept ≡ ledger_of start.spool))
 none-yet plan start before None closed clock going = tt
 none-yet plan start before (Some coming) None clock going = tt
 none-yet plan start before (Some coming) (Some closed) None going = tt
 none-yet plan start before (Some coming) (Some closed) (Some clock) going = (
   record {
     later = clock;
-    given = record { came = []; others = coming; links = []; coming_is = refl; closed_is = ap (λ x. Some x) (sym (append-nil closed)); served = (refl, refl, going) };
+    kept = ledger_of start.spool;
+    given = record { came = []; others = coming; links = []; coming_is = refl; closed_is = ap (λ x. Some x) (sym (append-nil closed)); served = (refl, refl, going, refl) };
     still_coming = refl;
     ticks = refl;
-    areas = keeps-start start before;
+    areas = leaves-start start before;
   },
+  refl,
   refl,
 )
 
@@ -179,19 +178,13 @@ module _ (plan : Cluster → Event → Planned) (start : Parts) (before : Areas)
       (so_far : HasGivenBack plan start before coming closed clock mid now coming_mid closed_mid clock_mid turns) where
     -- as many were served as were to be, or the last of them stopped the master
     all-done : (count : ℕ) → turns ≤ count → (turns ≡ count) ⊎ (mid.stopping ≡ true)
-        → OnDoor coming closed clock (λ cs links answers. ServedTo plan start.cluster cs links answers coming_mid closed_mid (LeavesWith 0 before now (IsHome start before) (generation_of start.spool)) 0 count clock_mid mid.cluster)
+        → OnDoor coming closed clock (λ cs links answers. ServedTo plan (ledger_of start.spool) start.cluster cs links answers coming_mid closed_mid (Leaves before now (IsHome start before)) 0 count clock_mid mid.cluster)
     all-done count few over = on-door coming closed clock _ _ (λ cs links answers s.
         inl (
           refl,
           record {
             stopped = mid.stopping;
-            all = record {
-              later = s.0.later;
-              given = s.0.given;
-              still_coming = s.0.still_coming;
-              ticks = s.0.ticks;
-              areas = with-status plan start before cs links answers 0 mid now coming_mid closed_mid clock_mid mid.stopping (λ five. omega (arith, five)) s.0;
-            };
+            all = s.0;
             few = omega (arith, s.1, few);
             enough = ⊎_elim (λ full. inl (s.1 ∙ full)) (λ stops. inr stops) over;
           },
@@ -200,9 +193,11 @@ module _ (plan : Cluster → Event → Planned) (start : Parts) (before : Areas)
     module _ (going : mid.stopping ≡ false) (go : IsHome start before → IsHome mid now) (new : Parts) (after : Areas) (coming_now : Option (List (List ℕ))) (closed_now : Option (List ClosedLink))
         (later : Option Answers) where
       so-going : OnDoor coming closed clock (λ cs links answers.
-          (all : AllGivenBack plan start.cluster cs links answers coming_mid closed_mid (Keeps before now (IsHome start before) start.spool mid.spool) clock_mid mid.cluster false) × (length all.given.links ≡ turns))
+          (all : AllGivenBack plan (ledger_of start.spool) start.cluster cs links answers coming_mid closed_mid (Leaves before now (IsHome start before)) clock_mid mid.cluster false)
+          × (length all.given.links ≡ turns) × (all.kept ≡ ledger_of mid.spool))
       so-going = subst (λ (k : Bool). OnDoor coming closed clock (λ cs links answers.
-          (all : AllGivenBack plan start.cluster cs links answers coming_mid closed_mid (Keeps before now (IsHome start before) start.spool mid.spool) clock_mid mid.cluster k) × (length all.given.links ≡ turns)))
+          (all : AllGivenBack plan (ledger_of start.spool) start.cluster cs links answers coming_mid closed_mid (Leaves before now (IsHome start before)) clock_mid mid.cluster k)
+          × (length all.given.links ≡ turns) × (all.kept ≡ ledger_of mid.spool)))
           going so_far.told
 
       -- one more was served and given back
@@ -216,30 +211,34 @@ module _ (plan : Cluster → Event → Planned) (start : Parts) (before : Areas)
             sum_by-append (λ (bytes : List ℕ). length (frames_of bytes)) all.given.came (one.bytes ∷ []) ∙ ap (λ n. frames_in all.given.came + n) (omega arith) in (
               record {
                 later = one.answers;
+                kept = ledger_of new.spool;
                 given = record {
                   came = all.given.came ++ one.bytes ∷ [];
                   others = one.others;
                   links = all.given.links ++ one.link ∷ [];
                   coming_is = all.given.coming_is ∙ ap (λ xs. all.given.came ++ xs) one.coming_is ∙ sym (append_assoc all.given.came (one.bytes ∷ []) one.others);
                   closed_is = one.closed_is ∙ ap (λ xs. Some xs) (append_assoc links all.given.links (one.link ∷ []));
-                  served = served-more plan all.given.came all.given.links start.cluster mid.cluster new.cluster answers all.later one.answers one.bytes one.link new.stopping all.given.served one.leaves;
+                  served = served-more plan all.given.came all.given.links (ledger_of start.spool) (ledger_of mid.spool) (ledger_of new.spool) start.cluster mid.cluster new.cluster answers all.later one.answers one.bytes one.link new.stopping
+                      (subst (λ (l : Ledger). Served plan (ledger_of start.spool) start.cluster answers all.given.came all.given.links l mid.cluster all.later false) s.2 all.given.served) one.leaves;
                 };
                 still_coming = one.still_coming;
                 ticks = one.ticks;
-                areas = (record { images = λ home. one.areas.0.images (go home); syncs = omega (arith, all.areas.0.syncs, one.areas.0.syncs, count) }, omega (arith, all.areas.1, one.areas.1, count));
+                areas = record { images = λ home. one.areas.images (go home); syncs = omega (arith, all.areas.syncs, one.areas.syncs, count) };
               },
               omega (arith, s.1, length-append all.given.links (one.link ∷ [])),
+              refl,
             )) so-going;
       }
 
       -- a fault ended the turn
       failed : (f : ServeFault) (count : ℕ)
           → OnDoor coming_mid closed_mid clock_mid (λ cs links answers. NoneAccepted mid new now after cs links answers coming_now closed_now later f ⊎ OneKept plan mid now after cs links answers coming_now closed_now f)
-          → OnDoor coming closed clock (λ cs links answers. ServedTo plan start.cluster cs links answers coming_now closed_now (LeavesWith (status_of_fault f) before after (IsHome start before) (generation_of start.spool)) (status_of_fault f) count later new.cluster)
+          → OnDoor coming closed clock (λ cs links answers. ServedTo plan (ledger_of start.spool) start.cluster cs links answers coming_now closed_now (Leaves before after (IsHome start before)) (status_of_fault f) count later new.cluster)
       failed f count step = on-door coming closed clock _ _ (λ cs links answers s.
           let all = s.0 in
-          ⊎_elim (λ none. inr (inl (ap status_of_fault none.door, at-door plan start before cs links answers mid new now after coming_mid coming_now closed_mid closed_now clock_mid later f all none)))
-          (λ one. inr (inr (not_done f, in-hand plan start before cs links answers mid new now after coming_mid coming_now closed_mid closed_now clock_mid later f all go one)))
+          ⊎_elim (λ none. inr (inl (ap status_of_fault none.door, at-door plan start before cs links answers mid new now after coming_mid coming_now closed_mid closed_now clock_mid later f all s.2 none)))
+          (λ one.
+          let hand = in-hand plan start before cs links answers mid new now after coming_mid coming_now closed_mid closed_now clock_mid later f all s.2 go one in inr (inr (not_done f, hand.0, hand.1)))
           (door-told coming_mid closed_mid clock_mid
           (λ cs links answers. NoneAccepted mid new now after cs links answers coming_now closed_now later f ⊎ OneKept plan mid now after cs links answers coming_now closed_now f) all.given.others (links ++ all.given.links) all.later all.still_coming all.given.closed_is all.ticks step)) so-going
 

@@ -6,22 +6,25 @@ use Rattle.ge_outside.specs.Faults.{Rose}
 use Rattle.ge_model_rows.specs.ClusterRows.{Cluster}
 use Rattle.ge_model_rows.specs.EventRows.{Event, Planned}
 use Rattle.ge_model_program.specs.Links.{OnTold, LeftInHand, EndsAs}
-use Rattle.ge_model_program.specs.Served.{IsGivenBack}
+use Rattle.ge_model_program.specs.Answered.{FrameMarks}
+use Rattle.ge_model_program.specs.FramesKept.{IsFull}
+use Rattle.ge_model_program.specs.Served.{IsGivenBack, KeepsFrames}
 use Rattle.ge_model_program.specs.Doors.{OnDoor}
 use Rattle.ge_model_program.specs.declared.LinkEnd.{LinkEnd}
 use Rattle.ge_model_program.specs.declared.LinkEnd.TheVariants as end
 use Rattle.ge_model_program.proofs.Ending.{map-hand, map-ends, hand-of, later-told}
-use Rattle.ge_spool.specs.Settled.{generation_of}
 use Rattle.ge_master.specs.Areas.{Areas}
 use Rattle.ge_master.specs.Homes.{Parts, IsHome}
+use Rattle.ge_master.specs.Ledgers.{ledger_of}
 use Rattle.ge_master.specs.declared.faults.Stop.{Stop}
 use Rattle.ge_master.specs.declared.faults.Stop.TheVariants as stop
 use Rattle.ge_master.proofs.AtHome.{home-stands}
-use Rattle.ge_serve.specs.Leaving.{Keeps, LeavesAt, OnFull, IsTooLongFrom}
+use Rattle.ge_serve.specs.Leaving.{LeavesHand, KeepsAt, LeavesAt, OnFull}
 use Rattle.ge_serve.specs.Ends.{LinkBlames}
-use Rattle.ge_serve.specs.Serves.{is_memory, status_of_stop, status_of_fault, FaultBlames, LeavesWith, OneServed, NoneAccepted, OneKept}
+use Rattle.ge_serve.specs.Serves.{is_memory, status_of_stop, status_of_fault, FaultBlames, OneServed, NoneAccepted, OneKept}
 use Rattle.ge_serve.specs.declared.statuses.ServeFault.{ServeFault}
 use Rattle.ge_serve.specs.declared.statuses.ServeFault.TheVariants as fault
+use Rattle.ge_serve.proofs.Leavings.{at-leaves}
 
 -- where a door and a clock tell, what follows from a connection that was accepted and served
 opened : (coming coming_now : Option (List (List ℕ))) (closed : Option (List ClosedLink)) (clock : Option Answers) (rest written : Option (List ℕ)) (Q : List ℕ → Answers → Type 0)
@@ -84,21 +87,33 @@ stop-blames stop.Spent dead reads writes disks doors lives blames = tt
 stop-blames stop.Dead dead reads writes disks doors lives blames = absurd (never_gone dead lives blames)
 
 -- only an area that is full gives the status 5
-full-at : (s : Stop) (P : Type 0) → status_of_stop s ≡ 5 → OnFull s P → P
+full-at : (s : Stop) (P : ℕ → Type 0) → status_of_stop s ≡ 5 → OnFull s P → (place : ℕ) × P place
 full-at stop.Disk P is full = absurd (omega (arith, is))
-full-at (stop.Full place) P is full = full
+full-at (stop.Full place) P is full = (place, full)
 full-at stop.Spent P is full = absurd (omega (arith, is))
 full-at stop.Dead P is full = absurd (omega (arith, is))
+
+-- an end otherwise than for want of memory keeps all frames
+all-kept : (plan : Cluster → Event → Planned) (old : Parts) (before : Areas) (bytes : List ℕ) (answers : Answers) (after : Areas) (new : Parts) (marks hand : List FrameMarks) (c d : Cluster) (e : LinkEnd)
+    → is_memory e ≡ false → KeepsAt plan old before after bytes answers e new marks hand c d
+    → KeepsFrames plan (ledger_of old.spool) old.cluster answers bytes (ledger_of new.spool) marks hand c d
+all-kept plan old before bytes answers after new marks hand c d end.Done is keeps = keeps.1
+all-kept plan old before bytes answers after new marks hand c d end.Stopped is keeps = keeps.1
+all-kept plan old before bytes answers after new marks hand c d end.Read is keeps = keeps.1
+all-kept plan old before bytes answers after new marks hand c d end.Write is keeps = keeps.1
+all-kept plan old before bytes answers after new marks hand c d (end.Frame place) is keeps = keeps.1
+all-kept plan old before bytes answers after new marks hand c d end.Long is keeps = keeps.1
+all-kept plan old before bytes answers after new marks hand c d end.Memory is keeps = absurd (never_both is)
 
 -- coming_now and rest, written: what the door and the connection tell when it was accepted; coming_end and written_now: when the turn ends
 module _ (plan : Cluster → Event → Planned) (old new : Parts) (before after : Areas) (coming coming_now coming_end : Option (List (List ℕ))) (closed closed_now : Option (List ClosedLink)) (clock : Option Answers)
     (rest written written_now : Option (List ℕ)) (later : Option Answers) (opens : Opens coming coming_now rest written) (still : coming_end ≡ coming_now) where
   -- the master stopped in the midst of a connection
   pub kept-stop : (s : Stop) → closed_now ≡ closed
-      → OnTold rest clock (λ bytes answers. LeftInHand plan old.cluster answers bytes (LeavesAt s before after (IsHome old before) old.spool) written written_now later)
+      → OnTold rest clock (λ bytes answers. LeftInHand plan old.cluster answers bytes (LeavesAt plan old before after bytes answers s) written written_now later)
       → OnDoor coming closed clock (λ cs links answers. NoneAccepted old new before after cs links answers coming_end closed_now later (fault.Stopped s) ⊎ OneKept plan old before after cs links answers coming_end closed_now (fault.Stopped s))
   kept-stop s kept served =
-      opened coming coming_now closed clock rest written (λ bytes answers. LeftInHand plan old.cluster answers bytes (LeavesAt s before after (IsHome old before) old.spool) written written_now later)
+      opened coming coming_now closed clock rest written (λ bytes answers. LeftInHand plan old.cluster answers bytes (LeavesAt plan old before after bytes answers s) written written_now later)
       (λ cs links answers. NoneAccepted old new before after cs links answers coming_end closed_now later (fault.Stopped s) ⊎ OneKept plan old before after cs links answers coming_end closed_now (fault.Stopped s))
       opens served (λ bytes others links answers closed_is clock_is comes fresh left.
       inr (record {
@@ -107,17 +122,18 @@ module _ (plan : Cluster → Event → Planned) (old new : Parts) (before after 
         coming_is = refl;
         still_coming = still ∙ comes;
         closed_is = kept ∙ closed_is;
-        hand = map-hand plan old.cluster answers bytes (LeavesAt s before after (IsHome old before) old.spool) (LeavesWith (status_of_fault (fault.Stopped s)) before after (IsHome old before) (generation_of old.spool))
-            (λ n c d few x. (x.0, λ is. full-at s (IsTooLongFrom (generation_of old.spool + n) d) is x.1)) left.in_hand;
+        hand = map-hand plan old.cluster answers bytes (LeavesAt plan old before after bytes answers s) (LeavesHand plan old before after bytes answers) (λ marks hand c d few x. x.0) left.in_hand;
+        full = λ is. full-at s (λ place. IsFull plan (ledger_of old.spool) old.cluster answers bytes left.in_hand.marks left.in_hand.hand place) is left.in_hand.areas.2;
       }))
 
-  module _ (end : LinkEnd) (served : OnTold rest clock (λ bytes answers. EndsAs plan old.cluster answers bytes (Keeps before after (IsHome old before) old.spool new.spool) written written_now later end new.cluster new.stopping)) where
+  module _ (end : LinkEnd)
+      (served : OnTold rest clock (λ bytes answers. EndsAs plan old.cluster answers bytes (KeepsAt plan old before after bytes answers end new) written written_now later end new.cluster new.stopping)) where
     -- the connection ended, and isn't given back
     pub kept-end : (f : ServeFault) → (status_of_fault f ≡ 5 → ⊥) → closed_now ≡ closed
         → OnDoor coming closed clock (λ cs links answers. NoneAccepted old new before after cs links answers coming_end closed_now later f ⊎ OneKept plan old before after cs links answers coming_end closed_now f)
     kept-end f other kept =
         opened coming coming_now closed clock rest written
-        (λ bytes answers. EndsAs plan old.cluster answers bytes (Keeps before after (IsHome old before) old.spool new.spool) written written_now later end new.cluster new.stopping)
+        (λ bytes answers. EndsAs plan old.cluster answers bytes (KeepsAt plan old before after bytes answers end new) written written_now later end new.cluster new.stopping)
         (λ cs links answers. NoneAccepted old new before after cs links answers coming_end closed_now later f ⊎ OneKept plan old before after cs links answers coming_end closed_now f)
         opens served (λ bytes others links answers closed_is clock_is comes fresh ends.
         inr (record {
@@ -126,9 +142,10 @@ module _ (plan : Cluster → Event → Planned) (old new : Parts) (before after 
           coming_is = refl;
           still_coming = still ∙ comes;
           closed_is = kept ∙ closed_is;
-          hand = map-hand plan old.cluster answers bytes (Keeps before after (IsHome old before) old.spool new.spool) (LeavesWith (status_of_fault f) before after (IsHome old before) (generation_of old.spool))
-              (λ n c d few x. (x.0, λ is. absurd (other is)))
-              (hand-of plan old.cluster answers bytes (Keeps before after (IsHome old before) old.spool new.spool) written written_now later new.cluster new.stopping end ends);
+          hand = map-hand plan old.cluster answers bytes (KeepsAt plan old before after bytes answers end new) (LeavesHand plan old before after bytes answers)
+              (λ marks hand c d few x. at-leaves plan old before bytes answers after new marks hand c d end x)
+              (hand-of plan old.cluster answers bytes (KeepsAt plan old before after bytes answers end new) written written_now later new.cluster new.stopping end ends);
+          full = λ is. absurd (other is);
         }))
 
     -- it was given back
@@ -137,14 +154,16 @@ module _ (plan : Cluster → Event → Planned) (old new : Parts) (before after 
         → OnDoor coming closed clock (λ cs links answers. OneServed plan old new before after cs links answers coming_end closed_now later)
     given reads reads_now writes writes_now disks gone no_reads no_writes is blames rest_now closes home =
         opened coming coming_now closed clock rest written
-        (λ bytes answers. EndsAs plan old.cluster answers bytes (Keeps before after (IsHome old before) old.spool new.spool) written written_now later end new.cluster new.stopping)
+        (λ bytes answers. EndsAs plan old.cluster answers bytes (KeepsAt plan old before after bytes answers end new) written written_now later end new.cluster new.stopping)
         (λ cs links answers. OneServed plan old new before after cs links answers coming_end closed_now later)
         opens served (λ bytes others links answers closed_is clock_is comes fresh ends.
-        let Kept : ℕ → Cluster → Cluster → Type 0 = Keeps before after (IsHome old before) old.spool new.spool in
+        let Kept : List FrameMarks → List FrameMarks → Cluster → Cluster → Type 0 = KeepsAt plan old before after bytes answers end new in
+        let Said : List FrameMarks → List FrameMarks → Cluster → Cluster → Type 0 = KeepsFrames plan (ledger_of old.spool) old.cluster answers bytes (ledger_of new.spool) in
         let link = closed-told links closed_now rest_now written_now (reads_now + writes_now) (subst (λ (x : Option (List ClosedLink)). Closes x closed_now rest_now written_now (reads_now + writes_now)) closed_is closes) in
         let told = later-told plan old.cluster answers bytes Kept written written_now later new.cluster new.stopping end ends in
         let hand = hand-of plan old.cluster answers bytes Kept written written_now later new.cluster new.stopping end ends in
-        let said = map-ends plan old.cluster answers bytes Kept (λ n c d. Unit {0}) (λ n c d few x. tt) written written_now later new.cluster new.stopping end ends in
+        let left = at-leaves plan old before bytes answers after new hand.marks hand.hand _ _ end hand.areas in
+        let said = map-ends plan old.cluster answers bytes Kept Said (λ marks hand c d few x. all-kept plan old before bytes answers after new marks hand c d end is x) written written_now later new.cluster new.stopping end ends in
         record {
           bytes = bytes;
           others = others;
@@ -156,16 +175,13 @@ module _ (plan : Cluster → Event → Planned) (old new : Parts) (before after 
           ticks = told.1;
           leaves = record {
             end = end;
-            ends = subst (λ (x : Option Answers). EndsAs plan old.cluster answers bytes (λ n c d. Unit {0}) (Some []) (Some link.1) x end new.cluster new.stopping) told.1
-                (subst (λ (x : Option (List ℕ)). EndsAs plan old.cluster answers bytes (λ n c d. Unit {0}) (Some []) x later end new.cluster new.stopping) link.2
-                (subst (λ (x : Option (List ℕ)). EndsAs plan old.cluster answers bytes (λ n c d. Unit {0}) x written_now later end new.cluster new.stopping) fresh said));
+            ends = subst (λ (x : Option Answers). EndsAs plan old.cluster answers bytes Said (Some []) (Some link.1) x end new.cluster new.stopping) told.1
+                (subst (λ (x : Option (List ℕ)). EndsAs plan old.cluster answers bytes Said (Some []) x later end new.cluster new.stopping) link.2
+                (subst (λ (x : Option (List ℕ)). EndsAs plan old.cluster answers bytes Said x written_now later end new.cluster new.stopping) fresh said));
             given = given-back end reads reads_now writes writes_now disks gone no_reads no_writes is blames;
           };
-          areas = (
-            record {
-              images = λ at_home c d of_c of_d. inl (home-stands new after (home at_home) c d of_c of_d);
-              syncs = omega (arith, hand.areas.0.syncs, hand.few);
-            },
-            omega (arith, hand.areas.1, hand.few),
-          );
+          areas = record {
+            images = λ at_home c d of_c of_d. inl (home-stands new after (home at_home) c d of_c of_d);
+            syncs = omega (arith, left.syncs, hand.few);
+          };
         })

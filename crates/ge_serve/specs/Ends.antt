@@ -9,10 +9,10 @@ use Rattle.ge_model_program.specs.declared.LinkEnd.TheVariants as end
 use Rattle.ge_wire.specs.declared.faults.WireFault.{WireFault}
 use Rattle.ge_wire.specs.declared.faults.WireFault.TheVariants as fault
 use Rattle.ge_master.specs.Areas.{Areas}
-use Rattle.ge_master.specs.Homes.{Parts, IsHome}
+use Rattle.ge_master.specs.Homes.{Parts}
 use Rattle.ge_master.specs.declared.faults.Stop.{Stop}
 use Rattle.ge_master.specs.declared.faults.Stop.TheVariants as stop
-use Rattle.ge_serve.specs.Leaving.{Keeps, LeavesAt}
+use Rattle.ge_serve.specs.Leaving.{KeepsAt, LeavesAt}
 
 -- the end that a fault of reading makes
 abbrev pub end_of_fault : WireFault → LinkEnd
@@ -26,9 +26,9 @@ end_of_fault fault.NoMemory = end.Memory
 abbrev pub LinkEndsAs : (plan : Cluster → Event → Planned) (old new : Parts) (before after : Areas) (bytes : List ℕ) (clock : Answers) (written now : Option (List ℕ)) (later : Option Answers)
     → Result LinkEnd Stop → Type 0
 LinkEndsAs plan old new before after bytes clock written now later (Ok end) =
-    EndsAs plan old.cluster clock bytes (Keeps before after (IsHome old before) old.spool new.spool) written now later end new.cluster new.stopping
+    EndsAs plan old.cluster clock bytes (KeepsAt plan old before after bytes clock end new) written now later end new.cluster new.stopping
 LinkEndsAs plan old new before after bytes clock written now later (Err stop) =
-    LeftInHand plan old.cluster clock bytes (LeavesAt stop before after (IsHome old before) old.spool) written now later
+    LeftInHand plan old.cluster clock bytes (LeavesAt plan old before after bytes clock stop) written now later
 
 -- an answer that blames a device has a reason, and a master is dead that was so before
 abbrev pub LinkBlames : Result LinkEnd Stop → (reads writes disks gone : Type 0) → Type 0

@@ -1,11 +1,17 @@
 -- What the areas are left with after frames of a connection.
-use Rattle.std.specs.Prelude.{◌⊎◌, ℕ, ◌+◌, ◌*◌, ◌≤◌}
+use Rattle.std.specs.Prelude.{◌≡◌, ◌⊎◌, ℕ, ◌+◌, ◌*◌, ◌≤◌, List, ◌++◌, length}
+use Rattle.ge_outside.specs.Clocks.{Answers}
 use Rattle.ge_model_rows.specs.ClusterRows.{Cluster}
-use Rattle.ge_model_program.specs.Runs.{EachStandsForOneOf, IsTooLong}
-use Rattle.ge_spool.specs.Settled.{generation_of}
-use Rattle.ge_spool.specs.declared.spool.Spool.{Spool}
+use Rattle.ge_model_rows.specs.EventRows.{Event, Planned}
+use Rattle.ge_model_wire.specs.Frames.{frames_of}
+use Rattle.ge_model_program.specs.Answered.{FrameMarks}
+use Rattle.ge_model_program.specs.FramesKept.{frames_ledger, FramesFit, IsFull}
+use Rattle.ge_model_program.specs.Runs.{EachStandsForOneOf}
+use Rattle.ge_model_program.specs.declared.LinkEnd.{LinkEnd}
+use Rattle.ge_model_program.specs.declared.LinkEnd.TheVariants as end
 use Rattle.ge_master.specs.Areas.{Areas}
-use Rattle.ge_master.specs.Storing.{last_generation}
+use Rattle.ge_master.specs.Homes.{Parts, IsHome}
+use Rattle.ge_master.specs.Ledgers.{ledger_of}
 use Rattle.ge_master.specs.declared.faults.Stop.{Stop}
 use Rattle.ge_master.specs.declared.faults.Stop.TheVariants.{Disk, Full, Spent, Dead}
 
@@ -15,21 +21,43 @@ pub record Leaves (before after : Areas) (home : Type 0) (frames : ℕ) (c d : C
   pub images : home → EachStandsForOneOf after.a after.b c d
   pub syncs : after.syncs ≤ before.syncs + 3 * frames
 
--- the same where the journal goes on: each frame raises its generation by one at most
-abbrev pub Keeps : Areas → Areas → Type 0 → Spool → Spool → ℕ → Cluster → Cluster → Type 0
-Keeps before after home old new frames c d = Leaves before after home frames c d × (generation_of new ≤ generation_of old + frames)
-
--- a cluster is too long for an area, but in the last generation, which none follows
-abbrev pub IsTooLongFrom : ℕ → Cluster → Type 0
-IsTooLongFrom generation c = IsTooLong c ⊎ (last_generation ≤ generation)
-
--- a fact where an area was full
-abbrev pub OnFull : Stop → Type 0 → Type 0
+-- a fact of the place where an area was full
+abbrev pub OnFull : Stop → (ℕ → Type 0) → Type 0
 OnFull Disk P = Unit {0}
-OnFull (Full place) P = P
+OnFull (Full place) P = P place
 OnFull Spent P = Unit {0}
 OnFull Dead P = Unit {0}
 
--- the same where the master stopped: an area was full since the other cluster is too long for it
-abbrev pub LeavesAt : Stop → Areas → Areas → Type 0 → Spool → ℕ → Cluster → Cluster → Type 0
-LeavesAt stop before after home old frames c d = Leaves before after home frames c d × OnFull stop (IsTooLongFrom (generation_of old + frames) d)
+-- old: the master when the connection began; bytes and clock: what it has to read, and what the clock is to answer
+module _ (plan : Cluster → Event → Planned) (old : Parts) (before after : Areas) (bytes : List ℕ) (clock : Answers) where
+  -- frames with these marks are kept, by a journal that goes on, and each fits
+  abbrev pub FitSoFar : List FrameMarks → Type 0
+  FitSoFar marks = FramesFit plan (ledger_of old.spool) old.cluster clock (frames_of bytes) marks
+
+  abbrev pub HasKept : Parts → List FrameMarks → Type 0
+  HasKept new marks = (ledger_of new.spool ≡ frames_ledger plan (ledger_of old.spool) old.cluster clock (frames_of bytes) marks) × FitSoFar marks
+
+  abbrev pub LeavesHand : List FrameMarks → List FrameMarks → Cluster → Cluster → Type 0
+  LeavesHand marks hand c d = Leaves before after (IsHome old before) (length (marks ++ hand)) c d
+
+  -- the areas with a journal that keeps all frames, those in hand too
+  abbrev pub Keeps : Parts → List FrameMarks → List FrameMarks → Cluster → Cluster → Type 0
+  Keeps new marks hand c d = LeavesHand marks hand c d × HasKept new (marks ++ hand)
+
+  -- with one that keeps all frames, or all but those in hand
+  abbrev pub KeepsSome : Parts → List FrameMarks → List FrameMarks → Cluster → Cluster → Type 0
+  KeepsSome new marks hand c d = LeavesHand marks hand c d × (HasKept new marks ⊎ HasKept new (marks ++ hand))
+
+  -- at each end: where memory ran out, the frame in hand may not be handled
+  abbrev pub KeepsAt : LinkEnd → Parts → List FrameMarks → List FrameMarks → Cluster → Cluster → Type 0
+  KeepsAt end.Done = Keeps
+  KeepsAt end.Stopped = Keeps
+  KeepsAt end.Read = Keeps
+  KeepsAt end.Write = Keeps
+  KeepsAt (end.Frame place) = Keeps
+  KeepsAt end.Long = Keeps
+  KeepsAt end.Memory = KeepsSome
+
+  -- where the master stopped: at Full there is no room for the frame in hand, and the place is where the area would end
+  abbrev pub LeavesAt : Stop → List FrameMarks → List FrameMarks → Cluster → Cluster → Type 0
+  LeavesAt stop marks hand c d = LeavesHand marks hand c d × FitSoFar marks × OnFull stop (λ place. IsFull plan (ledger_of old.spool) old.cluster clock bytes marks hand place)

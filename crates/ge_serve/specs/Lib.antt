@@ -5,6 +5,7 @@ pub mod Serves
 pub use Rattle.ge_master.specs.Areas
 pub use Rattle.ge_master.specs.Handling
 pub use Rattle.ge_master.specs.Homes
+pub use Rattle.ge_master.specs.Ledgers
 pub use Rattle.ge_master.specs.Masters
 pub use Rattle.ge_master.specs.OpeningMasters
 pub use Rattle.ge_master.specs.Storing

@@ -4,22 +4,25 @@ use Rattle.ge_outside.specs.Clocks.{Answers, Ticks}
 use Rattle.ge_model_rows.specs.ClusterRows.{Cluster}
 use Rattle.ge_model_rows.specs.EventRows.{Event, Planned}
 use Rattle.ge_model_program.specs.Traced.{Traced}
+use Rattle.ge_model_program.specs.Keeping.{FitsBatch, HasNoRoom, next_ledger}
 use Rattle.ge_model_program.specs.Runs.{EachStandsForOneOf}
 use Rattle.ge_model_wire.specs.Frames.{reply_frame}
 use Rattle.ge_model_program.specs.Answered.{FrameMarks, own_reply, framed, frame_trace}
-use Rattle.ge_spool.specs.Settled.{generation_of}
 use Rattle.ge_master.specs.Areas.{Areas, HasFailed}
 use Rattle.ge_master.specs.Homes.{Parts, IsHome}
+use Rattle.ge_master.specs.Ledgers.{ledger_of}
 use Rattle.ge_master.specs.declared.faults.Stop.{Stop}
 use Rattle.ge_master.specs.declared.faults.Stop.TheVariants.{Disk, Full, Spent, Dead}
-use Rattle.ge_serve.specs.Leaving.{IsTooLongFrom, OnFull}
+use Rattle.ge_serve.specs.Leaving.{OnFull}
 
--- the master is as it was, or as a trace leaves it
+-- the master is as it was, or as a trace leaves it that fits, and so is what its journal keeps
 abbrev pub IsAsBefore : Parts → Parts → Type 0
-IsAsBefore old new = (new.cluster ≡ old.cluster) × (new.stopping ≡ old.stopping)
+IsAsBefore old new = (new.cluster ≡ old.cluster) × (new.stopping ≡ old.stopping) × (ledger_of new.spool ≡ ledger_of old.spool)
 
 abbrev pub IsAfter : Traced → Parts → Parts → Type 0
-IsAfter t old new = (new.cluster ≡ t.cluster) × (new.stopping ≡ (old.stopping || t.stopped))
+IsAfter t old new =
+    (new.cluster ≡ t.cluster) × (new.stopping ≡ (old.stopping || t.stopped)) × (ledger_of new.spool ≡ next_ledger (ledger_of old.spool) t)
+    × FitsBatch (ledger_of old.spool) t
 
 -- a disk is blamed for a reason, and a master that lives is not dead
 abbrev pub BlamesDisk : Stop → Type 0 → Type 0
@@ -29,10 +32,10 @@ BlamesDisk Spent reason = Unit {0}
 BlamesDisk Dead reason = ⊥
 
 -- the text of the reply to the frame's own event, or nothing for want of memory
-abbrev pub RepliesWith : Traced → Parts → Parts → Result (Option (List ℕ)) Stop → Type 0 → ℕ → Type 0
-RepliesWith t old new (Ok (Some text)) reason generation = (framed (own_reply t.replies) ≡ reply_frame text) × IsAfter t old new
-RepliesWith t old new (Ok None) reason generation = IsAsBefore old new ⊎ IsAfter t old new
-RepliesWith t old new (Err stop) reason generation = BlamesDisk stop reason × OnFull stop (IsTooLongFrom generation t.cluster)
+abbrev pub RepliesWith : Traced → Parts → Parts → Result (Option (List ℕ)) Stop → Type 0 → Type 0
+RepliesWith t old new (Ok (Some text)) reason = (framed (own_reply t.replies) ≡ reply_frame text) × IsAfter t old new
+RepliesWith t old new (Ok None) reason = IsAsBefore old new ⊎ IsAfter t old new
+RepliesWith t old new (Err stop) reason = BlamesDisk stop reason × OnFull stop (λ place. HasNoRoom (ledger_of old.spool) t place)
 
 -- The frame takes one answer of the clock, and its events are handled as one batch.
 pub record AnswersFrame (plan : Cluster → Event → Planned) (old new : Parts) (payload : List ℕ) (clock later : Option Answers) (result : Result (Option (List ℕ)) Stop)
@@ -40,8 +43,7 @@ pub record AnswersFrame (plan : Cluster → Event → Planned) (old new : Parts)
   pub moment : ℕ
   pub ticks : Ticks clock later moment
   pub marks : FrameMarks
-  pub replies : RepliesWith (frame_trace plan old.cluster moment payload marks) old new result (HasFailed before after) (generation_of old.spool)
+  pub replies : RepliesWith (frame_trace plan old.cluster moment payload marks) old new result (HasFailed before after)
   pub images : IsHome old before → EachStandsForOneOf after.a after.b old.cluster (frame_trace plan old.cluster moment payload marks).cluster
   pub home : IsHome old before → OnOk result (IsHome new after)
   pub syncs : after.syncs ≤ before.syncs + 3
-  pub generation : OnOk result (generation_of new.spool ≤ generation_of old.spool + 1)

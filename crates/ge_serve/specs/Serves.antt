@@ -8,17 +8,18 @@ use Rattle.ge_model_rows.specs.ClusterRows.{Cluster}
 use Rattle.ge_model_rows.specs.EventRows.{Event, Planned}
 use Rattle.ge_model_core.specs.Plan.{plan_of}
 use Rattle.ge_model_wire.specs.Frames.{frames_of}
+use Rattle.ge_model_program.specs.FramesKept.{IsFull}
 use Rattle.ge_model_program.specs.Links.{InHand}
 use Rattle.ge_model_program.specs.Served.{LinkLeaves}
 use Rattle.ge_model_program.specs.Doors.{OnDoor, ServedTo}
 use Rattle.ge_model_program.specs.declared.LinkEnd.{LinkEnd}
 use Rattle.ge_model_program.specs.declared.LinkEnd.TheVariants as end
-use Rattle.ge_spool.specs.Settled.{generation_of}
 use Rattle.ge_master.specs.Areas.{Areas, HasFailed}
 use Rattle.ge_master.specs.Homes.{Parts, IsHome}
+use Rattle.ge_master.specs.Ledgers.{ledger_of}
 use Rattle.ge_master.specs.declared.faults.Stop.{Stop}
 use Rattle.ge_master.specs.declared.faults.Stop.TheVariants as stop
-use Rattle.ge_serve.specs.Leaving.{Leaves, Keeps, IsTooLongFrom}
+use Rattle.ge_serve.specs.Leaving.{Leaves, LeavesHand}
 use Rattle.ge_serve.specs.declared.statuses.ServeFault.{ServeFault}
 use Rattle.ge_serve.specs.declared.statuses.ServeFault.TheVariants as fault
 
@@ -53,10 +54,6 @@ FaultBlames (fault.Stopped stop.Dead) disks doors = ⊥
 FaultBlames fault.Door disks doors = doors
 FaultBlames fault.Memory disks doors = Unit {0}
 
--- What the areas are left with at a status: at 5 the other cluster is too long for one of them.
-abbrev pub LeavesWith : ℕ → Areas → Areas → Type 0 → ℕ → ℕ → Cluster → Cluster → Type 0
-LeavesWith status before after home generation frames c d = Leaves before after home frames c d × (status ≡ 5 → IsTooLongFrom (generation + frames) d)
-
 -- old and new: the master before and after a turn; coming, closed and clock: what the door and the clock told before it
 
 -- the first connection to come was served and given back
@@ -70,8 +67,8 @@ pub record OneServed (plan : Cluster → Event → Planned) (old new : Parts) (b
   pub still_coming : coming_now ≡ Some others
   pub closed_is : closed_now ≡ Some (closed ++ link ∷ [])
   pub ticks : later ≡ Some answers
-  pub leaves : LinkLeaves plan old.cluster clock bytes link new.cluster answers new.stopping
-  pub areas : Keeps before after (IsHome old before) old.spool new.spool (length (frames_of bytes)) new.cluster new.cluster
+  pub leaves : LinkLeaves plan (ledger_of old.spool) old.cluster clock bytes link (ledger_of new.spool) new.cluster answers new.stopping
+  pub areas : Leaves before after (IsHome old before) (length (frames_of bytes)) new.cluster new.cluster
 
 -- none was accepted, since the door failed
 pub record NoneAccepted (old new : Parts) (before after : Areas) (coming : List (List ℕ)) (closed : List ClosedLink) (clock : Answers) (coming_now : Option (List (List ℕ)))
@@ -83,7 +80,7 @@ pub record NoneAccepted (old new : Parts) (before after : Areas) (coming : List 
   pub same : new ≡ old
   pub untouched : after ≡ before
 
--- one was accepted and not given back
+-- one was accepted and not given back; at 5 there is no room for its frame in hand
 pub record OneKept (plan : Cluster → Event → Planned) (old : Parts) (before after : Areas) (coming : List (List ℕ)) (closed : List ClosedLink) (clock : Answers) (coming_now : Option (List (List ℕ)))
     (closed_now : Option (List ClosedLink)) (f : ServeFault) : Type 0 where
   pub bytes : List ℕ
@@ -91,9 +88,10 @@ pub record OneKept (plan : Cluster → Event → Planned) (old : Parts) (before 
   pub coming_is : coming ≡ bytes ∷ others
   pub still_coming : coming_now ≡ Some others
   pub closed_is : closed_now ≡ Some closed
-  pub hand : InHand plan old.cluster clock bytes (LeavesWith (status_of_fault f) before after (IsHome old before) (generation_of old.spool))
+  pub hand : InHand plan old.cluster clock bytes (LeavesHand plan old before after bytes clock)
+  pub full : status_of_fault f ≡ 5 → (place : ℕ) × IsFull plan (ledger_of old.spool) old.cluster clock bytes hand.marks hand.hand place
 
--- Exit statuses: 0 done, 5 a cluster is too long for an area, 8 an area failed, 9 the door failed, 10 want of memory.
+-- Exit statuses: 0 done, 5 an area has no room for a frame, 8 an area failed, 9 the door failed, 10 want of memory.
 abbrev pub IsServeStatus : ℕ → Type 0
 IsServeStatus status = IsTrue (list_any (λ s. s == status) (0 ∷ 5 ∷ 8 ∷ 9 ∷ 10 ∷ []))
 
@@ -102,7 +100,7 @@ IsServeStatus status = IsTrue (list_any (λ s. s == status) (0 ∷ 5 ∷ 8 ∷ 9
 pub record Serves (status count : ℕ) (old new : Parts) (before after : Areas) (coming coming_now : Option (List (List ℕ))) (closed closed_now : Option (List ClosedLink)) (clock later : Option Answers)
     (doors doors_now : ℕ) : Type 0 where
   pub statuses : IsServeStatus status
-  pub served : OnDoor coming closed clock (λ coming closed clock. ServedTo plan_of old.cluster coming closed clock coming_now closed_now
-      (LeavesWith status before after (IsHome old before) (generation_of old.spool)) status count later new.cluster)
+  pub served : OnDoor coming closed clock (λ coming closed clock. ServedTo plan_of (ledger_of old.spool) old.cluster coming closed clock coming_now closed_now
+      (Leaves before after (IsHome old before)) status count later new.cluster)
   pub disk : status ≡ 8 → HasFailed before after
   pub door : status ≡ 9 → Rose doors doors_now

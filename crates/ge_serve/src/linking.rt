@@ -38,8 +38,8 @@ fn end_of(fault: WireFault) -> LinkEnd
 /// `Long` where 2^40 bytes were read, and `Stopped` where an accepted `qconf -km` was answered. `Read` and `Write` come
 /// only where a read of the connection or a write to it failed, and `Memory` where there was none. At each of these the
 /// master goes on, and at each exit a stop leaves the cluster after the frames whose replies were written whole, or that
-/// with the events in hand. A `Stop` is the master's; one that is dead answers `Dead` at once. The master must not have been
-/// asked to stop.
+/// with the events in hand. A `Stop` is the master's: at `Full` an area has no room for what the frame in hand changes, and
+/// would end at the place. One that is dead answers `Dead` at once. The master must not have been asked to stop.
 pub fn serve_link<D: Disk, N: Link, C: Clock>(
     alloc: Global,
     m: &mut Master,

@@ -99,10 +99,10 @@ fn is_over(m: &Master, served: u32, count: u32) -> bool
 /// Serves so many connections of a door one after the other, or fewer where a `qconf -km` is accepted: after that none is
 /// accepted. Each is given back when it has ended, however that was, but where memory ran out, which ends all.
 ///
-/// The status is 0 where that is done, 5 where a cluster is too long for an area, 8 where an area failed, 9 where the door
-/// failed, and 10 where there is no memory. The connections that were given back, in order, lead from the cluster that the
-/// master held to one that is left, and at each exit every pair of what a stop may leave of the areas stands for that; where
-/// one was accepted and not given back, for what [`serve_link`] may leave that began with it.
+/// The status is 0 where that is done, 5 where an area has no room for what the frame in hand changes, 8 where an area failed,
+/// 9 where the door failed, and 10 where there is no memory. The connections that were given back, in order, lead from the
+/// cluster that the master held to one that is left, and at each exit every pair of what a stop may leave of the areas stands
+/// for that; where one was accepted and not given back, for what [`serve_link`] may leave that began with it.
 pub fn serve<D: Disk, L: Door, C: Clock>(
     alloc: Global,
     m: &mut Master,

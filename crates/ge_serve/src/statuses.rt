@@ -7,7 +7,7 @@ use ge_master::Stop;
 /// All was done.
 pub(crate) const DONE: u8 = 0;
 
-/// The cluster is too long for an area.
+/// An area has no room for what was changed.
 const FULL: u8 = 5;
 
 /// An area failed.

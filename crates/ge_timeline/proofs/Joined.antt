@@ -11,8 +11,9 @@ use Rattle.ge_model_place.specs.Bookings.{plain_sum, begins_inside, raised, peak
 use Rattle.ge_model_place.proofs.Peaks.{within_peak}
 use Rattle.ge_timeline.specs.declared.points.Point.{Point}
 use Rattle.ge_timeline.specs.StepFunctions.{IsRising, level, greatest, moments, points_in}
-use Rattle.ge_timeline.proofs.Levels.{level_within, level_met}
-use Rattle.ge_timeline.specs.Looks.{changes, window_peak, LooksFew}
+use Rattle.ge_timeline.proofs.Levels.{level_within, level_met, rises_from_places}
+use Rattle.ge_timeline.proofs.Once.{once_no_more, rising_once}
+use Rattle.ge_timeline.specs.Looks.{changes, window_peak, once, FewLooks, LooksFew}
 use Rattle.ge_timeline.specs.Shown.{number_in, HasNoMore, Draws, ShowsPoints, ShowsLimit, Shows}
 
 raised_within : (bookings : List Booking) (limit : LimitId) (from until most n : ℕ) (bs : List Booking) → most ≤ n → ((moment : ℕ) → from ≤ moment → moment < until → plain_sum bookings limit moment ≤ n)
@@ -88,8 +89,8 @@ count_all (x ∷ xs) =
     let one = sum_by-cons (λ (m : ℕ). cond true 1 0) x xs in
     omega (arith, rest, one)
 
-pub few_looks : (changed : List ℕ) (points : List Point) (from until old new : ℕ) → HasNoMore (moments points) changed → (t : ℕ) × (2 ^ t ≤ 2 * length points + 1) × (new ≤ old + t + points_in from until points + 2) → LooksFew changed from until (new - old)
-few_looks changed points from until old new more looks =
+few_among : (changed : List ℕ) (points : List Point) (from until old new : ℕ) → HasNoMore (moments points) changed → (t : ℕ) × (2 ^ t ≤ 2 * length points + 1) × (new ≤ old + t + points_in from until points + 2) → FewLooks changed from until (new - old)
+few_among changed points from until old new more looks =
     let all = more (λ m. true) in
     let here = count_all (moments points) in
     let there = count_all changed in
@@ -100,5 +101,7 @@ few_looks changed points from until old new more looks =
     let most = looks.2 in
     (looks.0, omega (arith, all, here, there, long, halves), omega (arith, inside, same, most))
 
-pub no_looks : (changed : List ℕ) (from until old new : ℕ) → new ≡ old → LooksFew changed from until (new - old)
-no_looks changed from until old new same = (0, omega arith, omega (arith, same))
+pub few_looks : (changed : List ℕ) (points : List Point) (from until old new : ℕ) → IsRising points → HasNoMore (moments points) changed → (t : ℕ) × (2 ^ t ≤ 2 * length points + 1) × (new ≤ old + t + points_in from until points + 2)
+    → LooksFew changed from until (new - old)
+few_looks changed points from until old new rising more looks =
+    few_among (once changed) points from until old new (once_no_more (moments points) changed (rising_once (moments points) (rises_from_places points rising)) more) looks

@@ -61,7 +61,7 @@ rises_at (p ∷ ps) i zero d r h l = absurd (omega (arith, h))
 rises_at (p ∷ ps) zero (suc j) d r h l = above_at p.at ps j d r.0 (omega (arith, l))
 rises_at (p ∷ ps) (suc i) (suc j) d r h l = rises_at ps i j d r.1 (omega (arith, h)) (omega (arith, l))
 
-rises_from_places : (ps : List Point) → IsRising ps → Rises (moments ps)
+pub rises_from_places : (ps : List Point) → IsRising ps → Rises (moments ps)
 rises_from_places [] f = tt
 rises_from_places (p ∷ ps) f =
     (above_from_places p.at ps 0 (λ k d h l. f 0 (suc k) d (omega arith) (omega (arith, l))), rises_from_places ps (λ i j d h l. f (suc i) (suc j) d (omega (arith, h)) (omega (arith, l))))

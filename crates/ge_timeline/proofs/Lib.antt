@@ -9,3 +9,4 @@ pub mod Parted
 pub mod Putting
 pub mod Renewed
 pub mod Summing
+pub mod Once

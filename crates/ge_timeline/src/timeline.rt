@@ -114,6 +114,24 @@ fn peak_over<L: Ledger>(
     timeline.peak(limit, from, until, &mut steps)
 }
 
+// Whether the greatest sum of a window is above a bound, with a counter of its own.
+fn exceeds_over<L: Ledger>(
+    timeline: &Timeline,
+    blank: Blank,
+    limit: &LimitId,
+    from: u64,
+    until: u64,
+    bound: u128,
+) -> bool
+    requires name { blank.name ≡ L.name }
+    requires parts { blank.parts ≡ L.parts }
+    requires one { blank.parts ≡ 1 }
+    ensures { result ≡ nat_lt bound (window_peak timeline.now limit.now from until) }
+{
+    let mut steps = Steps::<L>::open(blank);
+    timeline.exceeds(limit, from, until, bound, &mut steps)
+}
+
 impl Timeline {
     /// No bookings.
     pub fn new(alloc: Global) -> Result<Timeline, AllocError>
@@ -198,8 +216,8 @@ impl Timeline {
     }
 
     /// The greatest sum of a limit at the moments from `from` until before `until`, 0 where there is none. It takes no
-    /// memory. Each look at a point is counted in `steps`: where the sum of the limit changes at n moments, k of them
-    /// inside the window, there are at most t + k + 2, for a t with 2^t of at most 2 n + 1.
+    /// memory. Each look at a point is counted in `steps`: where the sum of the limit changes at n different moments, k of
+    /// them inside the window, there are at most t + k + 2, for a t with 2^t of at most 2 n + 1.
     pub fn peak<L: Ledger>(
         &self,
         limit: &LimitId,
@@ -227,18 +245,34 @@ impl Timeline {
         peak_over::<Brand>(self, Blank::new(1), limit, from, until)
     }
 
-    /// Whether the greatest sum of a limit at the moments from `from` until before `until` is above a bound. It ends at the first
-    /// such sum that is found, and takes no memory.
-    pub fn exceeds(&self, limit: &LimitId, from: u64, until: u64, bound: u128) -> bool
-        ensures { result ≡ nat_lt bound (window_peak self.now limit.now from until) }
+    /// Whether the greatest sum of a limit at the moments from `from` until before `until` is above a bound. It ends at the
+    /// first such sum that is found, and takes no memory. Looks at points are counted in `steps`, no more than `peak` takes.
+    pub fn exceeds<L: Ledger>(
+        &self,
+        limit: &LimitId,
+        from: u64,
+        until: u64,
+        bound: u128,
+        steps: &mut Steps<L>,
+    ) -> bool
+        ensures above { result ≡ nat_lt bound (window_peak self.now limit.now from until) }
+        ensures cost { LooksFew (changes self.now limit.now) from until (steps.new - steps.old) }
     {
         match self.index.number_of(limit) {
             Some(number) => match self.functions.get(number) {
-                Some(points) => exceeds(points.as_slice(), from, until, bound),
+                Some(points) => exceeds(points.as_slice(), from, until, bound, steps),
                 None => false,
             },
             None => false,
         }
+    }
+
+    /// Whether the greatest sum of a limit at the moments from `from` until before `until` is above a bound, with no look
+    /// counted. It takes no memory.
+    pub fn is_above(&self, limit: &LimitId, from: u64, until: u64, bound: u128) -> bool
+        ensures { result ≡ nat_lt bound (window_peak self.now limit.now from until) }
+    {
+        exceeds_over::<Brand>(self, Blank::new(1), limit, from, until, bound)
     }
 
     /// The least moment after another at which a booking ends; one that never ends doesn't count. It takes no memory.

@@ -1,4 +1,5 @@
 pub mod Told
+pub mod Asked
 pub mod Held
 pub mod Traces
 pub mod SoFar

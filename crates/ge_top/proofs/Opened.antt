@@ -1,5 +1,5 @@
 -- A replay over a master that was opened, and a run where no master was opened.
-use Rattle.std.proofs.Common.{◌≡◌, ℕ, ◌+◌, ◌-◌, ◌^◌, ◌<◌, ◌≤◌, List, [], ◌∷◌, ◌++◌, length, Option, Some, None, IfSome, inl, inr, ⊎_elim, arith}
+use Rattle.std.proofs.Common.{◌≡◌, ℕ, ◌+◌, ◌-◌, ◌<◌, ◌≤◌, List, [], ◌∷◌, ◌++◌, length, Option, Some, IfSome, inl, inr, ⊎_elim, arith}
 use Rattle.ge_outside.specs.Faults.{Rose}
 use Rattle.ge_model_rows.specs.ClusterRows.{Cluster}
 use Rattle.ge_model_rows.specs.EventRows.{Event}
@@ -90,17 +90,13 @@ module _ (start : Cluster) (events : List Event) (home at_rest : Type 0) (old ne
     syncs = syncs-before batch (length ran.marks) first before later opened ran.syncs;
   }
 
-  full-before : (last : Type 0) → RanFull plan_of start events home old new a b batch before later ledger last → RanFull plan_of start events at_rest old new a b batch first later ledger last
-  full-before last ran = record {
-    marks = ran.marks;
-    more = ran.more;
-    few = ran.few;
-    within = ran.within;
-    wrote = ran.wrote;
-    fits = ran.fits;
+  full-before : RanFull plan_of start events home old new a b batch before later ledger → RanFull plan_of start events at_rest old new a b batch first later ledger
+  full-before ran = record {
+    next = ran.next;
+    place = ran.place;
+    room = ran.room;
     images = λ rest. ran.images (brings rest);
-    too_long = ran.too_long;
-    syncs = syncs-before batch (length (ran.marks ++ ran.more)) first before later opened ran.syncs;
+    syncs = syncs-before batch (length (ran.next.marks ++ ran.next.more)) first before later opened ran.syncs;
   }
 
 -- A replay over areas that were opened, seen from before that.
@@ -126,7 +122,7 @@ module _ (status : ℕ) (script rest : Option (List ℕ)) (reads_before reads_af
     part = λ is. on-some _ _ script (λ bytes. to-before start (events_of bytes) home at_rest x.output y.output y.a y.b batch (x.syncs + 6) syncs y.syncs ledger opened brings) (ran.part is);
     cut = λ is. on-some _ _ script (λ bytes. cut-before start (events_of bytes) home at_rest x.output y.output y.a y.b batch (x.syncs + 6) syncs y.syncs ledger opened brings) (ran.cut is);
     full = λ is. on-some _ _ script
-        (λ bytes. full-before start (events_of bytes) home at_rest x.output y.output y.a y.b batch (x.syncs + 6) syncs y.syncs ledger opened brings (2 ^ 64 - 1 ≤ ledger.generation + length bytes)) (ran.full is);
+        (λ bytes. full-before start (events_of bytes) home at_rest x.output y.output y.a y.b batch (x.syncs + 6) syncs y.syncs ledger opened brings) (ran.full is);
     causes = record {
       ended = ran.causes.ended;
       long = ran.causes.long;

@@ -1,17 +1,18 @@
 -- What areas are left as that stand for nothing.
-use Rattle.std.proofs.Common.{◌≡◌, ℕ, List, [], ◌∷◌, Result, Ok, Err, refl, ap, ◌∙◌, inl, inr}
+use Rattle.std.proofs.Common.{◌≡◌, ℕ, List, [], ◌∷◌, Result, Ok, Err, refl, ap, inl, inr}
 use Rattle.ge_model_rows.specs.ClusterRows.{Cluster, opening_cluster}
 use Rattle.ge_model_journal.specs.Disk.{Content, read_bytes, told_synced}
 use Rattle.ge_model_journal.specs.Area.{head}
-use Rattle.ge_model_journal.specs.Journal.{first_state, choice, meaning, meaning_by, counted_area}
+use Rattle.ge_model_journal.specs.Journal.{first_state, choice, meaning, meaning_by}
 use Rattle.ge_model_journal.specs.Writing.{first_opened, second_opened}
 use Rattle.ge_model_journal.specs.declared.Choice.{Choice}
 use Rattle.ge_model_journal.specs.declared.Choice.TheVariants.{Neither, Chosen, Wrong as WrongHeader}
-use Rattle.ge_model_program.specs.StandsFor.{held, or_bad, or_frame, stands_for}
+use Rattle.ge_model_program.specs.StandsFor.{held, stands_for}
 use Rattle.ge_model_program.specs.declared.Wrong.{Wrong}
 use Rattle.ge_model_program.specs.View.{View, IsKept, AreKept, both_bytes}
 use Rattle.ge_spool.specs.declared.faults.OpenFault.TheVariants as fault
 use Rattle.ge_serve.specs.OpeningMasters.{OpensMaster}
+use Rattle.ge_serve.proofs.Standing.{stands-for}
 use Rattle.ge_top.proofs.Opened.{areas_in, if_said}
 
 -- nothing stands for the cluster before the first command
@@ -24,8 +25,7 @@ unfolding meaning
 none-means a b is = ap (λ c. meaning_by c a b) is
 
 none-stands : (a b : List ℕ) → choice (head a) (head b) ≡ Neither → stands_for a b ≡ Ok opening_cluster
-none-stands a b is =
-    ap (or_frame (counted_area (choice (head a) (head b)))) (none-means a b is) ∙ ap (or_bad (counted_area (choice (head a) (head b)))) first-held
+none-stands a b is = stands-for a b first_state opening_cluster (none-means a b is) first-held
 
 no-refusal : (r : Result Cluster Wrong) (c : Cluster) (wrong : Wrong) → r ≡ Ok c → r ≡ Err wrong → ⊥
 no-refusal r c wrong stands refused = cc

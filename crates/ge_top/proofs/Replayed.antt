@@ -1,5 +1,5 @@
 -- A replay at each of its exits.
-use Rattle.std.proofs.Common.{◌≡◌, ◌⊎◌, ℕ, ◌+◌, ◌-◌, ◌^◌, ◌<◌, ◌≤◌, Bool, true, List, length, Option, Some, None, Err, IfSome, refl, sym, subst, inl, inr, ⊎_elim, arith}
+use Rattle.std.proofs.Common.{◌≡◌, ◌⊎◌, ℕ, ◌-◌, ◌<◌, ◌≤◌, List, Option, Some, None, Err, IfSome, refl, sym, subst, inl, inr, ⊎_elim, arith}
 use Rattle.ge_limits.specs.Limits as limit
 use Rattle.ge_outside.specs.Faults.{Rose}
 use Rattle.ge_model_rows.specs.ClusterRows.{Cluster}
@@ -30,7 +30,7 @@ module _ (script rest : Option (List ℕ)) (reads_before reads_after : ℕ) (x y
   Cut bytes = RanCut plan_of start (events_of bytes) home x.output y.output y.a y.b batch x.syncs y.syncs ledger
 
   abbrev Full : List ℕ → Type 0
-  Full bytes = RanFull plan_of start (events_of bytes) home x.output y.output y.a y.b batch x.syncs y.syncs ledger (2 ^ 64 - 1 ≤ ledger.generation + length bytes)
+  Full bytes = RanFull plan_of start (events_of bytes) home x.output y.output y.a y.b batch x.syncs y.syncs ledger
 
   -- how much was read
   abbrev Below : Type 0
@@ -43,7 +43,7 @@ module _ (script rest : Option (List ℕ)) (reads_before reads_after : ℕ) (x y
   whole-part bytes ran = all-to plan_of start (events_of bytes) home x.output y.output y.a y.b batch x.syncs y.syncs ledger (IsReadToEnd rest) ran
 
   full-part : (bytes : List ℕ) → Full bytes → Part bytes
-  full-part bytes ran = full-to plan_of start (events_of bytes) home x.output y.output y.a y.b batch x.syncs y.syncs ledger (2 ^ 64 - 1 ≤ ledger.generation + length bytes) ran
+  full-part bytes ran = full-to plan_of start (events_of bytes) home x.output y.output y.a y.b batch x.syncs y.syncs ledger ran
 
   -- what is answered whole was read to its end, or stops the master
   whole-ended : IfSome script Whole → EndsOrStops script rest

@@ -20,7 +20,7 @@ use Rattle.ge_serve.specs.Masters.{cluster_of, spool_of, parts_of}
 use Rattle.ge_serve.specs.OpeningMasters.{OpensMaster}
 use Rattle.ge_serve.specs.Master.{Master}
 use Rattle.ge_top.specs.Ends.{OpensNoneAs}
-use Rattle.ge_top.specs.Ledgers.{ledger_of}
+use Rattle.ge_serve.specs.Ledgers.{ledger_of}
 use Rattle.ge_top.proofs.Fitting.{ledger-settled}
 use Rattle.ge_top.proofs.Images.{ends-images}
 use Rattle.ge_top.proofs.Opened.{areas_in, said, if_said, still-quiet, causes-before, replays-before}

@@ -1,9 +1,9 @@
 -- How far a replay has come, and what each exit leaves.
-use Rattle.std.proofs.Common.{◌≡◌, ◌⊎◌, ℕ, suc, ◌+◌, ◌*◌, ◌<◌, ◌≤◌, Bool, true, false, List, [], ◌∷◌, ◌++◌, length, take, Option, Ok, refl, ap, ◌∙◌, sym, subst, append_assoc, arith, inl, inr, ⊎_elim, flat_map}
-use Rattle.std.proofs.lemmas.List.{length-append, append-nil}
+use Rattle.std.proofs.Common.{◌≡◌, ◌⊎◌, ℕ, suc, ◌+◌, ◌*◌, ◌<◌, ◌≤◌, Bool, true, false, List, [], ◌∷◌, ◌++◌, length, take, drop, Option, Ok, refl, ap, ◌∙◌, sym, subst, append_assoc, arith, inl, inr, ⊎_elim, flat_map}
+use Rattle.std.proofs.lemmas.List.{length-append, append-nil, drop-drop}
 use Rattle.std.proofs.lemmas.List.Concat.{flat_map-append}
 use Rattle.std.proofs.Math.Nat.{suc-mul}
-use Rattle.std.proofs.Math.Seq.{take-append-add, take-length, take-append_seam}
+use Rattle.std.proofs.Math.Seq.{take-append-add, take-length, take-append_seam, drop-append_seam}
 use Rattle.ge_outside.specs.Streams.{Gains, GainsPrefix, Gains-append}
 use Rattle.ge_model_rows.specs.ClusterRows.{Cluster}
 use Rattle.ge_model_rows.specs.EntryRows.{Entry}
@@ -12,10 +12,10 @@ use Rattle.ge_model_journal.specs.Disk.{Content}
 use Rattle.ge_model_core.specs.Render.{rendered}
 use Rattle.ge_model_program.specs.Traced.{Traced, onto, ends_at, traced}
 use Rattle.ge_model_program.specs.StandsFor.{stands_for, StandsForOneOf}
-use Rattle.ge_model_program.specs.Runs.{written_of, EachStandsFor, EachStandsForOneOf, IsTooLong, Syncs, RanTo, RanCut, RanAll, RanFull}
-use Rattle.ge_model_program.specs.Keeping.{Ledger, FitsBatch, IsNextLedger, BatchesFit}
+use Rattle.ge_model_program.specs.Runs.{written_of, EachStandsFor, EachStandsForOneOf, Syncs, RanTo, RanCut, RanAll, RanFull}
+use Rattle.ge_model_program.specs.Keeping.{Ledger, FitsBatch, HasNoRoom, next_ledger, ledger_after, BatchesFit}
 use Rattle.ge_serve.proofs.Staged.{onto-onto, onto-end}
-use Rattle.ge_top.proofs.Fitting.{nothing-fits, last-fits, full-fits}
+use Rattle.ge_top.proofs.Fitting.{nothing-fits, last-fits, full-fits, full-ledger}
 use Rattle.ge_top.proofs.Held.{Gains-nothing}
 use Rattle.ge_top.proofs.TracedBatches.{traced-batch, traced-alone}
 
@@ -23,35 +23,22 @@ use Rattle.ge_top.proofs.TracedBatches.{traced-batch, traced-alone}
 one_more : (k size : ℕ) → (k + 1) * size ≡ k * size + size
 one_more k size = let next : k + 1 ≡ suc k = omega arith in ap (λ n. n * size) next ∙ suc-mul k size
 
--- A batch more is begun, with these events of those that are left: all before it were full.
-begun-more : (k size marks more : ℕ) (left batch rest : List Event) → (k * size ≤ marks) ⊎ (left ≡ []) → left ≡ batch ++ rest → 0 < length batch → more ≡ length batch
-    → (k + 1) * size < marks + more + size
-begun-more k size marks more left batch rest (inl full) split some counted = omega (arith, one_more k size, full, some, counted)
-begun-more k size marks more left batch rest (inr none) split some counted =
-    absurd (omega (arith, ap length none, ap length split, length-append batch rest, some))
-
--- it is full, or the last
-full-more : (k size marks more : ℕ) (left batch rest : List Event) → (k * size ≤ marks) ⊎ (left ≡ []) → left ≡ batch ++ rest → 0 < length batch → more ≡ length batch
-    → (length batch ≡ size) ⊎ (rest ≡ []) → ((k + 1) * size ≤ marks + more) ⊎ (rest ≡ [])
-full-more k size marks more left batch rest (inl full) split some counted (inl all) = inl (omega (arith, one_more k size, full, counted, all))
-full-more k size marks more left batch rest (inr none) split some counted (inl all) =
-    absurd (omega (arith, ap length none, ap length split, length-append batch rest, some))
-full-more k size marks more left batch rest full split some counted (inr last) = inr last
-
 module _ (plan : Cluster → Event → Planned) (start : Cluster) (events : List Event) (old : Option (List ℕ)) (size before : ℕ) (origin : Ledger) where
-  -- The replies so far are written, and what the rest gives from the cluster that was reached is what is missing. All batches fit where those of
-  -- the rest do, from the ledger that was reached.
+  -- The replies to the events of full batches are written, and what the rest gives from the cluster that was reached is what is missing. All
+  -- batches fit where those of the rest do, from the ledger that was reached.
   pub record HasRun (now : Option (List ℕ)) (later : ℕ) (ledger : Ledger) (reached : Cluster) (rest : List Event) : Type 0 where
     pub marks : List Bool
     pub replies : List Reply
     pub entries : List Entry
     pub counted : length marks + length rest ≡ length events
+    pub dropped : drop (length marks) events ≡ rest
     pub goes_on : (more : List Bool) → traced plan start events (marks ++ more) ≡ onto replies entries (traced plan reached rest more)
     pub wrote : Gains old now (flat_map rendered replies)
     pub batches : ℕ
     pub begun : batches * size < length marks + size
-    pub full : (batches * size ≤ length marks) ⊎ (rest ≡ [])
+    pub full : length marks ≡ batches * size
     pub few : later ≤ before + 3 * batches
+    pub keeps : (more : List Bool) (k j : ℕ) → j ≡ batches + k → ledger_after plan size j origin start events (marks ++ more) ≡ ledger_after plan size k ledger reached rest more
     pub fits : (more : List Bool) (k : ℕ) → ((j : ℕ) → BatchesFit plan size j ledger reached rest more) → BatchesFit plan size k origin start events (marks ++ more)
 
   -- the trace so far
@@ -63,6 +50,12 @@ module _ (plan : Cluster → Event → Planned) (start : Cluster) (events : List
       ends : (c : Cluster) (rest : List Event) → onto run.replies run.entries (traced plan c rest []) ≡ onto run.replies run.entries (ends_at false c)
       ends c [] = refl
       ends c (e ∷ rest) = refl
+
+  -- and what the journal keeps of it
+  ledger-so-far : (now : Option (List ℕ)) (later : ℕ) (ledger : Ledger) (reached : Cluster) (rest : List Event) (run : HasRun now later ledger reached rest)
+      → ledger_after plan size run.batches origin start events run.marks ≡ ledger
+  ledger-so-far now later ledger reached rest run =
+      ap (ledger_after plan size run.batches origin start events) (sym (append-nil run.marks)) ∙ run.keeps [] 0 run.batches (omega arith)
 
   -- and it fits
   fits-so-far : (now : Option (List ℕ)) (later : ℕ) (ledger : Ledger) (reached : Cluster) (rest : List Event) (run : HasRun now later ledger reached rest) (k : ℕ)
@@ -92,7 +85,7 @@ module _ (plan : Cluster → Event → Planned) (start : Cluster) (events : List
     syncs-with = record {
       batches = run.batches + 1;
       begun = subst (λ n. (run.batches + 1) * size < n + size) (sym (length-append run.marks ms))
-          (begun-more run.batches size (length run.marks) (length ms) left batch rest run.full split some counted);
+          (omega (arith, one_more run.batches size, run.full, some, counted));
       few = omega (arith, run.few, took);
     }
 
@@ -116,30 +109,43 @@ module _ (plan : Cluster → Event → Planned) (start : Cluster) (events : List
           syncs = syncs-with;
         }
 
-    -- the master stopped since the cluster after the batch is too long
-    pub too-full : (home : Type 0) (a b : List Content) (last_generation : Type 0) → (home → EachStandsFor a b reached)
-        → IsTooLong new ⊎ last_generation → RanFull plan start events home old now a b size before last origin last_generation
-    too-full home a b last_generation images long =
+    -- there is no room for the batch, which is full or the last
+    pub too-full : (home : Type 0) (a b : List Content) (place : ℕ) → HasNoRoom ledger (traced plan reached batch ms) place → (length batch ≡ size) ⊎ (rest ≡ []) → (home → EachStandsFor a b reached)
+        → RanFull plan start events home old now a b size before last origin
+    too-full home a b place room whole images =
         let there = so-far now later ledger reached left run in
+        let trace : traced plan reached batch ms ≡ traced plan (traced plan start events run.marks).cluster (drop (length run.marks) events) ms =
+        sym (traced-alone plan reached batch rest ms counted) ∙ ap (λ (es : List Event). traced plan reached es ms) (sym (run.dropped ∙ split))
+        ∙ ap (λ (t : Traced). traced plan t.cluster (drop (length run.marks) events) ms) (sym there) in
         record {
-          marks = run.marks;
-          more = ms;
-          few = omega (arith, counted, few);
-          within = within;
-          wrote = subst (λ (t : Traced). Gains old now (written_of t)) (sym there) run.wrote;
-          fits = fits-so-far now later ledger reached left run;
+          next = record {
+            marks = run.marks;
+            more = ms;
+            batches = run.batches;
+            full = run.full;
+            going = ap (λ (t : Traced). t.stopped) there;
+            some = omega (arith, counted, some);
+            few = omega (arith, counted, few);
+            within = within;
+            whole = ⊎_elim (λ full. inl (counted ∙ full))
+                (λ none. inr (omega (arith, length-append run.marks ms, run.counted, ap length split, length-append batch rest, counted, ap length none))) whole;
+            wrote = subst (λ (t : Traced). Gains old now (written_of t)) (sym there) run.wrote;
+            fits = fits-so-far now later ledger reached left run;
+          };
+          place = place;
+          room = subst (λ (l : Ledger). HasNoRoom l (traced plan (traced plan start events run.marks).cluster (drop (length run.marks) events) ms) place) (sym (ledger-so-far now later ledger reached left run))
+              (subst (λ (t : Traced). HasNoRoom ledger t place) trace room);
           images = λ at_home. λ c d of_c of_d. images at_home c d of_c of_d ∙ ap (λ (t : Traced). Ok t.cluster) (sym there);
-          too_long = ⊎_elim (λ h. inl (subst IsTooLong (sym new-is) h)) (λ h. inr h) long;
           syncs = syncs-with;
         }
 
     -- the replies are those of the batch, which is kept
     module _ (replies : List Reply) (same : replies ≡ (traced plan reached batch ms).replies) (next : Ledger) (fitted : FitsBatch ledger (traced plan reached batch ms))
-        (is_next : IsNextLedger ledger (traced plan reached batch ms) next) where
+        (is_next : next ≡ next_ledger ledger (traced plan reached batch ms)) where
       fits-with : (k : ℕ) → BatchesFit plan size k origin start events (run.marks ++ ms)
       fits-with k =
           run.fits ms k
-          (λ j. subst (λ es. BatchesFit plan size j ledger reached es ms) (sym split) (last-fits plan size ledger next reached batch rest ms counted fitted is_next few j))
+          (λ j. subst (λ es. BatchesFit plan size j ledger reached es ms) (sym split) (last-fits plan size ledger reached batch rest ms counted fitted few j))
 
       bytes-are : written_of (traced plan start events (run.marks ++ ms)) ≡ flat_map rendered run.replies ++ flat_map rendered replies
       bytes-are = ap written_of with-batch ∙ flat_map-append rendered run.replies (traced plan reached batch ms).replies ∙ ap (λ rs. flat_map rendered run.replies ++ flat_map rendered rs) (sym same)
@@ -215,15 +221,25 @@ module _ (plan : Cluster → Event → Planned) (start : Cluster) (events : List
         wrote = subst (λ (xs : List ℕ). Gains old after xs) (sym (flat_map-append rendered run.replies replies)) (Gains-append old now after (flat_map rendered run.replies) (flat_map rendered replies) run.wrote gains);
         batches = run.batches + 1;
         begun = syncs-with.begun;
-        full = subst (λ n. ((run.batches + 1) * size ≤ n) ⊎ (rest ≡ [])) (sym (length-append run.marks ms))
-            (full-more run.batches size (length run.marks) (length ms) left batch rest run.full split some counted (inl filled));
+        full = omega (arith, length-append run.marks ms, one_more run.batches size, run.full, counted, filled);
         few = syncs-with.few;
+        dropped = ap (λ n. drop n events) (length-append run.marks ms ∙ ap (λ n. length run.marks + n) counted) ∙ sym (drop-drop (length batch) (length run.marks) events)
+            ∙ ap (λ es. drop (length batch) es) (run.dropped ∙ split) ∙ drop-append_seam batch rest;
+        keeps = λ more k j is.
+            let one : k + 1 ≡ suc k = omega arith in
+            ap (ledger_after plan size j origin start events) (append_assoc run.marks ms more)
+            ∙ run.keeps (ms ++ more) (k + 1) j (omega (arith, is))
+            ∙ ap (λ n. ledger_after plan size n ledger reached left (ms ++ more)) one
+            ∙ ap (λ es. ledger_after plan size (suc k) ledger reached es (ms ++ more)) split
+            ∙ full-ledger plan size ledger reached batch rest ms counted filled more k
+            ∙ (λ i. ledger_after plan size k (sym is_next i) (sym cluster i) rest more);
         fits = λ more k from_here.
             subst (λ xs. BatchesFit plan size k origin start events xs) (sym (append_assoc run.marks ms more))
             (run.fits (ms ++ more) k
             (λ j.
             subst (λ es. BatchesFit plan size j ledger reached es (ms ++ more)) (sym split)
-            (full-fits plan size ledger next reached batch rest ms counted fitted is_next filled more (λ i. subst (λ c. BatchesFit plan size i next c rest more) cluster (from_here i)) j)));
+            (full-fits plan size ledger reached batch rest ms counted filled more fitted
+            (λ i. subst (λ l. BatchesFit plan size i l (traced plan reached batch ms).cluster rest more) is_next (subst (λ c. BatchesFit plan size i next c rest more) cluster (from_here i))) j)));
       }
 
   -- nothing is in hand
@@ -268,8 +284,10 @@ module _ (plan : Cluster → Event → Planned) (start : Cluster) (events : List
     wrote = Gains-nothing old;
     batches = 0;
     begun = omega (arith, some);
-    full = inl (omega arith);
+    full = omega arith;
     few = omega arith;
+    dropped = refl;
+    keeps = λ more k j is. let same : j ≡ k = omega (arith, is) in ap (λ n. ledger_after plan size n origin start events more) same;
     fits = λ more k from_here. from_here k;
   }
 
@@ -288,19 +306,20 @@ all-to plan start events home old new a b size before later ledger ended ran = r
   syncs = ran.syncs;
 }
 
--- where a cluster is too long, all before it that is answered is kept
-pub full-to : (plan : Cluster → Event → Planned) (start : Cluster) (events : List Event) (home : Type 0) (old new : Option (List ℕ)) (a b : List Content) (size before later : ℕ) (ledger : Ledger) (last : Type 0)
-    → RanFull plan start events home old new a b size before later ledger last → RanTo plan start events home old new a b size before later ledger
-full-to plan start events home old new a b size before later ledger last ran =
-    let first : take (length ran.marks) (ran.marks ++ ran.more) ≡ ran.marks = take-append_seam ran.marks ran.more in
+-- where there is no room for a batch, all before it that is answered is kept
+pub full-to : (plan : Cluster → Event → Planned) (start : Cluster) (events : List Event) (home : Type 0) (old new : Option (List ℕ)) (a b : List Content) (size before later : ℕ) (ledger : Ledger)
+    → RanFull plan start events home old new a b size before later ledger → RanTo plan start events home old new a b size before later ledger
+full-to plan start events home old new a b size before later ledger ran =
+    let next = ran.next in
+    let first : take (length next.marks) (next.marks ++ next.more) ≡ next.marks = take-append_seam next.marks next.more in
     record {
-      marks = ran.marks ++ ran.more;
-      n = length ran.marks;
-      answered = omega (arith, length-append ran.marks ran.more);
-      in_hand = omega (arith, length-append ran.marks ran.more, ran.few);
-      within = ran.within;
-      wrote = subst (λ (xs : List Bool). Gains old new (written_of (traced plan start events xs))) (sym first) ran.wrote;
-      fits = λ k. subst (λ (xs : List Bool). BatchesFit plan size k ledger start events xs) (sym first) (ran.fits k);
+      marks = next.marks ++ next.more;
+      n = length next.marks;
+      answered = omega (arith, length-append next.marks next.more);
+      in_hand = omega (arith, length-append next.marks next.more, next.few);
+      within = next.within;
+      wrote = subst (λ (xs : List Bool). Gains old new (written_of (traced plan start events xs))) (sym first) next.wrote;
+      fits = λ k. subst (λ (xs : List Bool). BatchesFit plan size k ledger start events xs) (sym first) (next.fits k);
       images = λ at_home. λ c d of_c of_d.
           inl (subst (λ (xs : List Bool). stands_for c d ≡ Ok (traced plan start events xs).cluster) (sym first) (ran.images at_home c d of_c of_d));
       syncs = ran.syncs;

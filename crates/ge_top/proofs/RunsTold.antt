@@ -1,5 +1,5 @@
 -- How far a replay has come whose script is read in pieces, where its source tells what it holds.
-use Rattle.std.proofs.Common.{◌≡◌, ◌⊎◌, ℕ, ◌+◌, ◌-◌, ◌^◌, ◌<◌, ◌≤◌, Bool, true, false, List, [], ◌++◌, length, Option, Some, None, IfSome, refl, ap, ◌∙◌, sym, subst, inl, inr, ⊎_elim, flat_map, arith}
+use Rattle.std.proofs.Common.{◌≡◌, ◌⊎◌, ℕ, ◌+◌, ◌-◌, ◌<◌, ◌≤◌, Bool, true, false, List, [], ◌++◌, length, Option, Some, None, IfSome, refl, ap, ◌∙◌, sym, subst, inl, inr, ⊎_elim, flat_map}
 use Rattle.std.specs.Prelude.{option_map}
 use Rattle.ge_outside.specs.Streams.{Gains, GainsPrefix}
 use Rattle.ge_model_rows.specs.ClusterRows.{Cluster}
@@ -9,22 +9,12 @@ use Rattle.ge_model_grammar.specs.Events.{events_of}
 use Rattle.ge_model_grammar.specs.Sources.{IsReadToEnd}
 use Rattle.ge_model_core.specs.Render.{rendered}
 use Rattle.ge_model_program.specs.Traced.{traced}
-use Rattle.ge_model_program.specs.Runs.{EachStandsFor, EachStandsForOneOf, IsTooLong, RanTo, RanCut, RanAll, RanFull}
-use Rattle.ge_model_program.specs.Keeping.{Ledger, FitsBatch, IsNextLedger}
-use Rattle.ge_script.specs.Pieces.{total_of}
+use Rattle.ge_model_program.specs.Runs.{EachStandsFor, EachStandsForOneOf, RanTo, RanCut, RanAll, RanFull}
+use Rattle.ge_model_program.specs.Keeping.{Ledger, FitsBatch, HasNoRoom, next_ledger as ledger_next}
 use Rattle.ge_top.specs.NextEvents.{GivesSome, HasNoMore}
 use Rattle.ge_top.proofs.Runs.{HasRun, HasRun-none, nothing-in-hand, all-answered, in-hand, too-full, cut-short, stopped-here, last-here, goes-on}
 use Rattle.ge_top.proofs.TakenEvents.{gives-split, none-behind}
 use Rattle.ge_top.proofs.Told.{no_some, same_some}
-
--- what was given of a script is no more than it has
-pub given-within : (script rest : Option (List ℕ)) (count given : ℕ) (bytes : List ℕ) → total_of count rest ≡ option_map length script → script ≡ Some bytes → given ≤ count
-    → given ≤ length bytes
-given-within script rest count given bytes total is few = within rest (total ∙ ap (λ (o : Option (List ℕ)). option_map length o) is)
-  where
-    within : (left : Option (List ℕ)) → total_of count left ≡ Some (length bytes) → given ≤ length bytes
-    within None same = absurd (no_some (length bytes) same)
-    within (Some left) same = let all : count + length left ≡ length bytes = same_some (count + length left) (length bytes) same in omega (arith, all, few)
 
 module _ (plan : Cluster → Event → Planned) (start : Cluster) (old : Option (List ℕ)) (size before : ℕ) (origin : Ledger) where
   abbrev RunOf : Option (List ℕ) → Option (List Event) → Option (List ℕ) → ℕ → Ledger → Cluster → Type 0
@@ -98,20 +88,18 @@ module _ (plan : Cluster → Event → Planned) (start : Cluster) (old : Option 
         let split = gives-split left next batch events gives same in
         in-hand plan start (events_of bytes) old size before origin now after later last ledger reached new batch split.0 events r split.2 ms counted some few took cluster home a b images)
 
-    -- the cluster after it is too long
-    pub told-full : (home : Type 0) (a b : List Content) (rest : Option (List ℕ)) (count given first generation : ℕ) → total_of count rest ≡ option_map length script → given ≤ count
-        → generation ≤ first + given → IsTooLong new ⊎ (2 ^ 64 - 1 ≤ generation) → (home → EachStandsFor a b reached)
-        → IfSome script (λ bytes. RanFull plan start (events_of bytes) home old now a b size before last origin (2 ^ 64 - 1 ≤ first + length bytes))
-    told-full home a b rest count given first generation total within so_far long images =
-        on-run script left now later ledger reached (λ bytes. RanFull plan start (events_of bytes) home old now a b size before last origin (2 ^ 64 - 1 ≤ first + length bytes)) run
+    -- there is no room for it
+    pub told-full : (home : Type 0) (a b : List Content) (rest : Option (List ℕ)) (place : ℕ) → HasNoRoom ledger (traced plan reached batch ms) place → (length batch ≡ size) ⊎ HasNoMore next rest
+        → (home → EachStandsFor a b reached) → IfSome script (λ bytes. RanFull plan start (events_of bytes) home old now a b size before last origin)
+    told-full home a b rest place room whole images =
+        on-run script left now later ledger reached (λ bytes. RanFull plan start (events_of bytes) home old now a b size before last origin) run
         (λ bytes events is same r.
         let split = gives-split left next batch events gives same in
         too-full plan start (events_of bytes) old size before origin now after later last ledger reached new batch split.0 events r split.2 ms counted some few took cluster home a b
-        (2 ^ 64 - 1 ≤ first + length bytes) images
-        (⊎_elim (λ h. inl h) (λ h. inr (omega (arith, h, so_far, given-within script rest count given bytes total is within))) long))
+        place room (⊎_elim (λ full. inl full) (λ none. inr (none-behind next rest split.0 none split.1)) whole) images)
 
     module _ (replies : List Reply) (same_replies : replies ≡ (traced plan reached batch ms).replies) (next_ledger : Ledger)
-        (fitted : FitsBatch ledger (traced plan reached batch ms)) (is_next : IsNextLedger ledger (traced plan reached batch ms) next_ledger) (home : Type 0) (a b : List Content) (images : home → EachStandsFor a b new) where
+        (fitted : FitsBatch ledger (traced plan reached batch ms)) (is_next : next_ledger ≡ ledger_next ledger (traced plan reached batch ms)) (home : Type 0) (a b : List Content) (images : home → EachStandsFor a b new) where
       -- a write of its replies failed
       pub told-cut : GainsPrefix now after (flat_map rendered replies) → IfSome script (λ bytes. RanCut plan start (events_of bytes) home old after a b size before last origin)
       told-cut gains =
@@ -142,7 +130,7 @@ module _ (plan : Cluster → Event → Planned) (start : Cluster) (old : Option 
 
     -- the run goes on
     pub told-goes-on : (replies : List Reply) → replies ≡ (traced plan reached batch ms).replies → (next_ledger : Ledger) → FitsBatch ledger (traced plan reached batch ms)
-        → IsNextLedger ledger (traced plan reached batch ms) next_ledger → length batch ≡ size → (traced plan reached batch ms).stopped ≡ false
+        → next_ledger ≡ ledger_next ledger (traced plan reached batch ms) → length batch ≡ size → (traced plan reached batch ms).stopped ≡ false
         → Gains now after (flat_map rendered replies) → RunSoFar script next after last next_ledger new
     told-goes-on replies same_replies next_ledger fitted is_next full going gains =
         run-more script left next batch now after later last ledger next_ledger reached new run gives

@@ -1,8 +1,7 @@
 -- Serving that opens the areas, at each of its exits.
-use Rattle.std.proofs.Common.{◌≡◌, ◌⊎◌, ℕ, ◌+◌, ◌*◌, ◌≤◌, Bool, true, List, [], ◌∷◌, ◌++◌, length, Option, Some, None, Result, Ok, Err, IfSome, refl, ap, ◌∙◌, sym, subst, inl, inr, ⊎_elim, arith}
+use Rattle.std.proofs.Common.{◌≡◌, ◌⊎◌, ℕ, ◌≤◌, List, [], ◌∷◌, Option, Some, None, Result, Ok, Err, IfSome, refl, ap, ◌∙◌, sym, subst, inl, inr, ⊎_elim, arith}
 use Rattle.std.specs.Prelude.{IsErr}
 use Rattle.std.proofs.lemmas.Bool.{false≢true}
-use Rattle.std.proofs.lemmas.List.Sums.{sum_by-append, sum_by-cons}
 use Rattle.ge_outside.specs.Clocks.{Answers}
 use Rattle.ge_outside.specs.Doors.{ClosedLink}
 use Rattle.ge_model_rows.specs.ClusterRows.{Cluster}
@@ -11,15 +10,13 @@ use Rattle.ge_model_core.specs.Plan.{plan_of}
 use Rattle.ge_model_journal.specs.Journal.{State, meaning}
 use Rattle.ge_model_program.specs.StandsFor.{stands_for}
 use Rattle.ge_model_program.specs.declared.Wrong.{Wrong}
-use Rattle.ge_model_program.specs.View.{View, said_of, both_bytes, IsStill, IsKept}
+use Rattle.ge_model_program.specs.View.{View, said_of, both_bytes, IsKept}
 use Rattle.ge_model_program.specs.Statuses.{IsOneStatusOf}
 use Rattle.ge_model_program.proofs.Answered.{first-or-other, no-status}
-use Rattle.ge_model_wire.specs.Frames.{frames_of}
-use Rattle.ge_model_program.specs.Served.{frames_in}
-use Rattle.ge_model_program.specs.Doors.{OnDoor, OneInHand, ServedTo}
+use Rattle.ge_model_program.specs.Doors.{OnDoor, ServedTo}
+use Rattle.ge_model_program.specs.Keeping.{Ledger, ledger_in}
 use Rattle.ge_model_program.proofs.Mapped.{map-served}
 use Rattle.ge_spool.specs.Opening.{Tells}
-use Rattle.ge_spool.specs.Settled.{generation_of}
 use Rattle.ge_spool.specs.declared.faults.OpenFault.{OpenFault}
 use Rattle.ge_spool.specs.declared.faults.OpenFault.TheVariants as fault
 use Rattle.ge_serve.specs.Areas.{Areas, HasFailed}
@@ -28,11 +25,13 @@ use Rattle.ge_serve.specs.Masters.{cluster_of, spool_of, parts_of}
 use Rattle.ge_serve.specs.OpeningMasters.{OpensMaster}
 use Rattle.ge_serve.specs.Master.{Master}
 use Rattle.ge_serve.proofs.Kept.{failed-since}
-use Rattle.ge_serve.specs.Leaving.{IsTooLongFrom}
-use Rattle.ge_serve.specs.Serves.{LeavesWith, IsServeStatus, Serves}
+use Rattle.ge_serve.specs.Ledgers.{ledger_of}
+use Rattle.ge_serve.specs.Leaving.{Leaves}
+use Rattle.ge_serve.specs.Serves.{IsServeStatus, Serves}
 use Rattle.ge_serve.proofs.SoFar.{on-door}
 use Rattle.ge_top.specs.Ends.{OpensNoneAs}
-use Rattle.ge_top.specs.ServingAreas.{opened_areas, LeavesOpened, NoneBegun, ServesAreas, AreServable}
+use Rattle.ge_top.specs.ServingAreas.{LeavesOpened, NoneBegun, ServesAreas, AreServable}
+use Rattle.ge_top.proofs.Fitting.{ledger-settled}
 use Rattle.ge_top.proofs.Images.{ends-images}
 use Rattle.ge_top.proofs.Opened.{said, if_said, still-quiet}
 use Rattle.ge_top.proofs.Refused.{frame-kept, body-kept}
@@ -68,16 +67,13 @@ module _ (count status : ℕ) (x y : Areas) (coming coming_now : Option (List (L
             let opened = opens.opened stood.0 stood.1 in
             let cluster : start ≡ cluster_of m = same-ok _ _ _ opened.stood stood.2 in
             let state_is : state ≡ opened.home.state = same-ok _ _ _ opened.journal meant.2 in
-            let generation : generation_of (spool_of m) ≡ state.generation = opened.home.settled.generation ∙ ap (λ (s : State). s.generation) (sym state_is) in
+            let ledger : ledger_of (spool_of m) ≡ ledger_in state = ledger-settled (spool_of m) mid.a mid.b opened.home.state opened.home.settled ∙ ap ledger_in (sym state_is) in
             on-door coming closed clock _ _ (λ cs links answers served. (
               new.cluster,
-              inl (subst (λ (c : Cluster). ServedTo plan_of c cs links answers coming_now closed_now (LeavesOpened status x y state.generation) status count later new.cluster) (sym cluster)
-                  (map-served plan_of (cluster_of m) cs links answers coming_now closed_now (LeavesWith status mid y (IsHome (parts_of m) mid) (generation_of (spool_of m)))
-                  (LeavesOpened status x y state.generation)
-                  (λ n c d left. (
-                    record { images = λ still. left.0.images opened.home; syncs = omega (arith, opens.syncs, left.0.syncs) },
-                    λ five. subst (λ (g : ℕ). IsTooLongFrom (g + n) d) generation (left.1 five),
-                  )) status count later new.cluster served)),
+              inl (subst (λ (c : Cluster). ServedTo plan_of (ledger_in state) c cs links answers coming_now closed_now (LeavesOpened x y) status count later new.cluster) (sym cluster)
+                  (subst (λ (l : Ledger). ServedTo plan_of l (cluster_of m) cs links answers coming_now closed_now (LeavesOpened x y) status count later new.cluster) ledger
+                  (map-served plan_of (ledger_of (spool_of m)) (cluster_of m) cs links answers coming_now closed_now (Leaves mid y (IsHome (parts_of m) mid)) (LeavesOpened x y)
+                  (λ n c d left. record { images = λ still. left.images opened.home; syncs = omega (arith, opens.syncs, left.syncs) }) status count later new.cluster served))),
             )) ran.served;
         refused = λ is. absurd (not_four is);
         kept = λ is. absurd (not_four is);
@@ -93,12 +89,12 @@ module _ (count status : ℕ) (x y : Areas) (coming coming_now : Option (List (L
 -- no master was opened
 module _ (count : ℕ) (x y : Areas) (coming : Option (List (List ℕ))) (closed : Option (List ClosedLink)) (clock : Option Answers) (doors : ℕ) where
   -- the areas were not refused, and hold what they held
-  none-begun : (f : OpenFault) (status : ℕ) → OpensMaster (Err f) x y → IsOneStatusOf (8 ∷ 10 ∷ []) status → (status ≡ 5 → ⊥)
+  none-begun : (f : OpenFault) (status : ℕ) → OpensMaster (Err f) x y → IsOneStatusOf (8 ∷ 10 ∷ []) status
       → (start : Cluster) (state : State) → said_of stands_for x.a x.b ≡ Some (Ok start)
       → OnDoor coming closed clock (λ cs links answers. (reached : Cluster)
-      × (ServedTo plan_of start cs links answers coming closed (LeavesOpened status x y state.generation) status count clock reached
-      ⊎ NoneBegun status x y start state.generation cs links answers coming closed clock))
-  none-begun f status opens one other start state stands =
+      × (ServedTo plan_of (ledger_in state) start cs links answers coming closed (LeavesOpened x y) status count clock reached
+      ⊎ NoneBegun status x y start cs links answers coming closed clock))
+  none-begun f status opens one start state stands =
       let stood = said stands_for x.a x.b (Ok start) stands in
       door-given coming closed clock _ (λ cs links answers comes are ticks. (
         start,
@@ -107,14 +103,11 @@ module _ (count : ℕ) (x y : Areas) (coming : Option (List (List ℕ))) (closed
           still_coming = comes;
           closed_is = are;
           ticks = ticks;
-          areas = (
-            record {
-              images = λ still c d of_c of_d. inl (ends-images x.a y.a x.b y.b (λ c d. stands_for c d ≡ Ok start) opens.grows.0 opens.grows.1
-                  (opens.any_moment (read_bytes x.a) (read_bytes x.b) (still-quiet x.a still.0) (still-quiet x.b still.1) start stood.2) c d of_c of_d);
-              syncs = omega (arith, opens.syncs);
-            },
-            λ is. absurd (other is),
-          );
+          areas = record {
+            images = λ still c d of_c of_d. inl (ends-images x.a y.a x.b y.b (λ c d. stands_for c d ≡ Ok start) opens.grows.0 opens.grows.1
+                (opens.any_moment (read_bytes x.a) (read_bytes x.b) (still-quiet x.a still.0) (still-quiet x.b still.1) start stood.2) c d of_c of_d);
+            syncs = omega (arith, opens.syncs);
+          };
         }),
       ))
 
@@ -137,10 +130,10 @@ module _ (count : ℕ) (x y : Areas) (coming : Option (List (List ℕ))) (closed
   }
 
   unopened : (f : OpenFault) (status : ℕ) → OpensMaster (Err f) x y → IsServeStatus status → IsOneStatusOf (8 ∷ 10 ∷ []) status → IsOneStatusOf (4 ∷ 8 ∷ 10 ∷ []) status
-      → (status ≡ 4 → ⊥) → (status ≡ 5 → ⊥) → (status ≡ 9 → ⊥) → (status ≡ 8 → HasFailed x y) → ServesAreas count status x y coming coming closed closed clock clock doors doors
-  unopened f status opens is one among four five nine disk = record {
+      → (status ≡ 4 → ⊥) → (status ≡ 9 → ⊥) → (status ≡ 8 → HasFailed x y) → ServesAreas count status x y coming coming closed closed clock clock doors doors
+  unopened f status opens is one among four nine disk = record {
     statuses = inr is;
-    served = λ start state stands means. none-begun f status opens one five start state stands;
+    served = λ start state stands means. none-begun f status opens one start state stands;
     refused = λ is. absurd (four is);
     kept = λ is. absurd (four is);
     not_opened = if_said stands_for x.a x.b (λ stood. IsErr stood → IsOneStatusOf (4 ∷ 8 ∷ 10 ∷ []) status) (λ tells_a tells_b. λ refused. among);
@@ -153,7 +146,7 @@ module _ (count : ℕ) (x y : Areas) (coming : Option (List (List ℕ))) (closed
   pub serves-unopened : (f : OpenFault) (status : ℕ) → OpensNoneAs f status → OpensMaster (Err f) x y → ServesAreas count status x y coming coming closed closed clock clock doors doors
   serves-unopened fault.Disk status is opens =
       subst (λ (s : ℕ). ServesAreas count s x y coming coming closed closed clock clock doors doors) (sym is)
-      (unopened fault.Disk 8 opens refl refl refl (λ is. omega (arith, is)) (λ is. omega (arith, is)) (λ is. omega (arith, is)) (λ is. opens.blames))
+      (unopened fault.Disk 8 opens refl refl refl (λ is. omega (arith, is)) (λ is. omega (arith, is)) (λ is. opens.blames))
   serves-unopened (fault.Frame area place) status is opens =
       subst (λ (s : ℕ). ServesAreas count s x y coming coming closed closed clock clock doors doors) (sym is) (refused-areas _ (frame-kept (seen x) (seen y) area place opens) opens.opened)
   serves-unopened (fault.Bad area place) status is opens =
@@ -161,7 +154,7 @@ module _ (count : ℕ) (x y : Areas) (coming : Option (List (List ℕ))) (closed
       (refused-areas _ (body-kept (seen x) (seen y) area place opens) (λ tells_a tells_b. (opens.opened tells_a tells_b).0))
   serves-unopened fault.Memory status is opens =
       subst (λ (s : ℕ). ServesAreas count s x y coming coming closed closed clock clock doors doors) (sym is)
-      (unopened fault.Memory 10 opens refl refl refl (λ is. omega (arith, is)) (λ is. omega (arith, is)) (λ is. omega (arith, is)) (λ is. absurd (omega (arith, is))))
+      (unopened fault.Memory 10 opens refl refl refl (λ is. omega (arith, is)) (λ is. omega (arith, is)) (λ is. absurd (omega (arith, is))))
 
 -- a run with these words doesn't end as a faulty command line
 pub serves-not-two : (count status : ℕ) (x y : Areas) (coming coming_now : Option (List (List ℕ))) (closed closed_now : Option (List ClosedLink)) (clock later : Option Answers) (doors doors_now : ℕ)
@@ -171,19 +164,7 @@ serves-not-two count status x y coming coming_now closed closed_now clock later 
 
 -- without faults all are served, or memory is wanted
 module _ (count status : ℕ) (x y : Areas) (coming coming_now : Option (List (List ℕ))) (closed closed_now : Option (List ClosedLink)) (clock later : Option Answers) (doors doors_now : ℕ)
-    (able : AreServable x y coming closed clock doors doors_now) (serves : ServesAreas count status x y coming coming_now closed closed_now clock later doors doors_now) where
-  -- the connection in hand leads to no cluster that is too long
-  hand-fits : OneInHand plan_of able.start able.connections able.back able.answers coming_now closed_now (LeavesOpened status x y able.state.generation) → status ≡ 5 → ⊥
-  hand-fits one five =
-      let before : frames_in able.connections ≡ frames_in one.given.came + frames_in one.given.others =
-      ap frames_in one.given.coming_is ∙ sum_by-append (λ (bytes : List ℕ). length (frames_of bytes)) one.given.came one.given.others in
-      let behind : frames_in one.given.others ≡ length (frames_of one.bytes) + frames_in one.others =
-      ap frames_in one.accepted ∙ sum_by-cons (λ (bytes : List ℕ). length (frames_of bytes)) one.bytes one.others in
-      ⊎_elim
-      (λ long. able.fits one.given.came one.others one.bytes (one.given.coming_is ∙ ap (λ (xs : List (List ℕ)). one.given.came ++ xs) one.accepted) one.given.links one.left one.later one.given.served
-      (one.hand.marks ++ one.hand.hand) long)
-      (λ last. omega (arith, last, able.early, one.hand.few, before, behind)) (one.hand.areas.1 five)
-
+    (able : AreServable x y coming coming_now closed closed_now clock doors doors_now) (serves : ServesAreas count status x y coming coming_now closed closed_now clock later doors doors_now) where
   -- what is said of a door and a clock, where they tell
   as-told : (P : List (List ℕ) → List ClosedLink → Answers → Type 0) → OnDoor coming closed clock P → P able.connections able.back able.answers
   as-told P p =
@@ -197,11 +178,11 @@ module _ (count status : ℕ) (x y : Areas) (coming coming_now : Option (List (L
   not-full five =
       let here = as-told
       (λ cs links answers. (reached : Cluster)
-      × (ServedTo plan_of able.start cs links answers coming_now closed_now (LeavesOpened status x y able.state.generation) status count later reached
-      ⊎ NoneBegun status x y able.start able.state.generation cs links answers coming_now closed_now later))
+      × (ServedTo plan_of (ledger_in able.state) able.start cs links answers coming_now closed_now (LeavesOpened x y) status count later reached
+      ⊎ NoneBegun status x y able.start cs links answers coming_now closed_now later))
       (serves.served able.start able.state able.stands able.means) in
       ⊎_elim
-      (λ to. ⊎_elim (λ done. omega (arith, done.0, five)) (λ rest. ⊎_elim (λ door. omega (arith, door.0, five)) (λ hand. hand-fits hand.1 five) rest) to)
+      (λ to. ⊎_elim (λ done. omega (arith, done.0, five)) (λ rest. ⊎_elim (λ door. omega (arith, door.0, five)) (λ hand. able.fits hand.1 (hand.2 five)) rest) to)
       (λ none. never_full (subst (IsOneStatusOf (8 ∷ 10 ∷ [])) five none.why)) here.1
 
   never_refused : IsErr {E = Wrong} (Ok able.start) → ⊥

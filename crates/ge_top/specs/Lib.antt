@@ -4,5 +4,4 @@ pub mod NextEvents
 pub mod Tallies
 pub mod Ends
 pub mod Shows
-pub mod Ledgers
 pub mod ServingAreas

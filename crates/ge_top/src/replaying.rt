@@ -1,5 +1,5 @@
 // A script over the two areas, batch by batch.
-ghost use Rattle.std.specs.Prelude.{◌≡◌, ◌<◌, ◌≤◌, ◌+◌, ◌-◌, ◌^◌, length, false, IfSome, OnOk};
+ghost use Rattle.std.specs.Prelude.{◌≡◌, ◌<◌, ◌≤◌, ◌+◌, false, IfSome, OnOk};
 ghost use Rattle.ge_limits.specs.Limits.{script_bytes};
 ghost use Rattle.ge_outside.specs.Faults.{Rose};
 ghost use Rattle.ge_model_grammar.specs.Events.{events_of};
@@ -12,8 +12,7 @@ ghost use Rattle.ge_model_program.specs.Replaying.{Replays};
 ghost use Rattle.ge_serve.specs.Areas.{HasFailed, areas_of};
 ghost use Rattle.ge_serve.specs.Homes.{IsHome};
 ghost use Rattle.ge_serve.specs.Masters.{HasLength, cluster_of, spool_of, parts_of, is_gone, is_stopping};
-ghost use Rattle.ge_spool.specs.Settled.{generation_of};
-ghost use Rattle.ge_top.specs.Ledgers.{ledger_of};
+ghost use Rattle.ge_serve.specs.Ledgers.{ledger_of};
 ghost use Rattle.ge_top.specs.Ends.{OnWritten, OnCut, OnFull, OnLong, OnBelow, Blames};
 
 use crate::batches::next_batch;
@@ -78,8 +77,7 @@ pub(crate) fn answer_batches<S: Source, K: Sink, D: Disk>(
         (IsHome (parts_of m.old) (areas_of D.told D.syncs D.disk_faults a.old b.old))
         (K.written output.old) (K.written output.new) (D.told a.new) (D.told b.new)
         batch (D.syncs a.old + D.syncs b.old) (D.syncs a.new + D.syncs b.new)
-        (ledger_of (spool_of m.old))
-        (2 ^ 64 - 1 ≤ generation_of (spool_of m.old) + length script))) }
+        (ledger_of (spool_of m.old)))) }
     ensures long { OnLong result
         (IfRead (S.rest input.old) (S.rest input.new) (λ count. script_bytes ≤ count)) }
     ensures below { OnBelow result
@@ -124,9 +122,10 @@ pub(crate) fn answer_batches<S: Source, K: Sink, D: Disk>(
 
 /// Replays a script over a master that lives: reads it in pieces, answers its events, so many at a time, and writes the replies
 /// to a batch once what it changes stands in the areas. The status is 0 where all is done, 3 where the script has no end within
-/// 2^40 bytes, 5 where a cluster is too long for an area, 6 and 7 where a read of the input and a write of the output failed, 8
-/// where an area failed, and 10 where there is no memory. At each exit the replies to the first n events are written, and every
-/// pair of what a stop may leave of the areas stands for the cluster after n or after m events, m - n being a batch at most.
+/// 2^40 bytes, 5 where an area has no room for what the next batch changes, 6 and 7 where a read of the input and a write of
+/// the output failed, 8 where an area failed, and 10 where there is no memory. At each exit the replies to the first n events
+/// are written, and every pair of what a stop may leave of the areas stands for the cluster after n or after m events, m - n
+/// being a batch at most.
 pub fn replay<S: Source, K: Sink, D: Disk>(
     alloc: Global,
     m: &mut Master,

@@ -16,7 +16,7 @@ pub(crate) const LONG: u8 = 3;
 /// The areas stand for nothing.
 pub(crate) const NO_SPOOL: u8 = 4;
 
-/// The cluster is too long for an area.
+/// An area has no room for what was changed.
 pub(crate) const FULL: u8 = 5;
 
 /// A read of the input failed.

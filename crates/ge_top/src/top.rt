@@ -62,7 +62,7 @@ pub fn gridmaster<S: Source, K: Sink, D: Disk, L: Door, C: Clock>(
         (view_of K.written K.write_faults D.told D.disk_faults D.syncs output.new a.new b.new) }
     ensures replay_answered { (batch : ℕ)
         → word_of (map string_bytes words.now.items) ≡ Some (Replay batch)
-        → AreFaultless (S.rest input.old) (S.read_faults input.old) (S.read_faults input.new)
+        → AreFaultless batch (S.rest input.old) (S.read_faults input.old) (S.read_faults input.new)
         (view_of K.written K.write_faults D.told D.disk_faults D.syncs output.old a.old b.old)
         (view_of K.written K.write_faults D.told D.disk_faults D.syncs output.new a.new b.new)
         → (result ≡ 0) ⊎ (result ≡ 10) }
@@ -117,8 +117,8 @@ pub fn gridmaster<S: Source, K: Sink, D: Disk, L: Door, C: Clock>(
         → AreServable
         (areas_of D.told D.syncs D.disk_faults a.old b.old)
         (areas_of D.told D.syncs D.disk_faults a.new b.new)
-        (L.coming door.old) (L.closed door.old) (C.answers clock.old)
-        (L.door_faults door.old) (L.door_faults door.new)
+        (L.coming door.old) (L.coming door.new) (L.closed door.old) (L.closed door.new)
+        (C.answers clock.old) (L.door_faults door.old) (L.door_faults door.new)
         → (result ≡ 0) ⊎ (result ≡ 10) }
     ensures served_alone { (count : ℕ)
         → word_of (map string_bytes words.now.items) ≡ Some (Serve count)

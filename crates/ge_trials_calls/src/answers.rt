@@ -7,9 +7,9 @@
 
 use crate::sites::{Site, site_of};
 use crate::{
-    access, amounts, cutting, groups, naming, queues, refusals, requests, values, writing,
+    access, amounts, cutting, groups, named, naming, queues, refusals, requests, values, writing,
 };
-use ge_pieces::{before, behind};
+use ge_pieces::{before, behind, is_in};
 use ge_rows::Text;
 use ge_trials_rows::{Rows, bytes, tell_rows};
 use std::alloc::{AllocError, Global};
@@ -68,6 +68,8 @@ fn answer(
         access::answer(alloc, &site.cluster, name, given)
     } else if is_named(kind, b"requests") {
         requests::answer(alloc, &site.cluster, name, given)
+    } else if is_named(kind, b"named") {
+        named::answer(alloc, site, name, given)
     } else {
         queues::answer(alloc, site, name, given)
     }
@@ -89,11 +91,11 @@ impl Rows for Asked<'_> {
 
 // Whether the pages of a kind begin with a script.
 fn has_script(kind: &[u8]) -> bool {
-    is_named(kind, b"access") || is_named(kind, b"requests") || is_named(kind, b"instances")
+    is_in(kind, &[b"access", b"requests", b"instances", b"named"])
 }
 
-/// A page of rows: `amounts`, `cuts`, `names`, `numbers`, `refusals`, `values`, `groups`, `access`, `requests` or `instances`. One of
-/// the last three begins with a script that makes the site, and with a line `~` behind that.
+/// A page of rows: `amounts`, `cuts`, `names`, `numbers`, `refusals`, `values`, `groups`, `access`, `requests`, `instances` or
+/// `named`. One of the last four begins with a script that makes the site, and with a line `~` behind that.
 pub(crate) fn rows_page(alloc: Global, kind: &[u8], body: &[u8]) -> Result<Vec<u8>, AllocError> {
     if has_script(kind) {
         let site = site_of(alloc, before(b'~', body))?;

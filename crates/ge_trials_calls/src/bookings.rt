@@ -118,8 +118,8 @@ fn push_most(
     let limit = limit_of(alloc, limit)?;
     let (from, until) = (digits_worth(from), digits_worth(until));
     let most = timeline.greatest(&limit, from, until);
-    let above = timeline.exceeds(&limit, from, until, most);
-    let above_less = timeline.exceeds(&limit, from, until, most.saturating_sub(1));
+    let above = timeline.is_above(&limit, from, until, most);
+    let above_less = timeline.is_above(&limit, from, until, most.saturating_sub(1));
     append_decimal(text, most)?;
     text.extend_from_slice(format!(in alloc; " {above} {above_less}\n")?.as_bytes())
 }

@@ -15,6 +15,7 @@ mod cutting;
 mod events;
 mod figures;
 mod groups;
+mod named;
 mod naming;
 mod planning;
 mod queues;
@@ -48,6 +49,7 @@ fn has_rows(kind: &[u8]) -> bool {
             b"access",
             b"requests",
             b"instances",
+            b"named",
         ],
     )
 }
@@ -70,6 +72,8 @@ pub fn told(alloc: Global, kind: &[u8], body: &[u8]) -> Option<Result<Vec<u8>, A
         Some(texts::texts_page(alloc, body))
     } else if is_word(kind, b"table") {
         Some(tables::table_page(alloc, body))
+    } else if is_word(kind, b"holds") {
+        Some(tables::holds_page(alloc, body))
     } else if is_word(kind, b"bytes") {
         Some(canonical::bytes_page(alloc, body))
     } else if is_word(kind, b"cluster") {

@@ -2,6 +2,7 @@
 
 use crate::figures::push_line;
 use crate::planning::cluster_behind;
+use ge_jobs::{holds_of, set_hold};
 use ge_pieces::{before, behind, behind_word, digits_worth, first_word, or_none_text};
 use ge_rows::{JobFacts, JobMark, JobTable, MarkSort, ShortRow};
 use ge_trials_rows::{made, times_borne};
@@ -200,4 +201,18 @@ pub(crate) fn table_page(alloc: Global, body: &[u8]) -> Result<Vec<u8>, AllocErr
     push_marks(alloc, &mut text, &cluster.jobs)?;
     push_shorts(alloc, &mut text, &cluster.jobs)?;
     Ok(text)
+}
+
+/// A page `holds`: on a line the number of a job and hold bits, and then the lines of a script that is made. It tells the job's
+/// hold bits behind the script, and those of it once it was given these and no others.
+pub(crate) fn holds_page(alloc: Global, body: &[u8]) -> Result<Vec<u8>, AllocError> {
+    let (head, lines) = (before(b'\n', body), behind(b'\n', body));
+    let job = digits_worth(first_word(head)).min(1_000_000) as u32;
+    let bits = digits_worth(behind_word(head)).min(255) as u8;
+    let mut cluster = cluster_behind(alloc, made(alloc, lines)?.as_slice())?;
+    let before_it = holds_of(&cluster.jobs, job);
+    set_hold(&mut cluster.jobs, job, bits);
+    let since = holds_of(&cluster.jobs, job);
+    let line = format!(in alloc; "{before_it} {since}\n")?;
+    Vec::from_slice(alloc, line.as_bytes())
 }

@@ -48,7 +48,11 @@ fn count_wrong(timeline: &Timeline, limit: &LimitId, jobs: u32) -> u32 {
     for job in 1..jobs.saturating_add(1) {
         let from = beginning_of(job);
         let want = u128::from(job.saturating_add(1).min(jobs));
-        if timeline.greatest(limit, from, from.saturating_add(20)) != want {
+        let until = from.saturating_add(20);
+        let is_wrong = timeline.greatest(limit, from, until) != want
+            || timeline.is_above(limit, from, until, want)
+            || !timeline.is_above(limit, from, until, want.saturating_sub(1));
+        if is_wrong {
             count = count.saturating_add(1);
         }
     }

@@ -61,15 +61,32 @@ fn finish(text: &[u8]) -> Act {
     Act::Finish(serial, place(exit), cpu, mem, number(rest).0)
 }
 
+// `PLACE` of `deliver`, or else what `finish` has.
+fn act_of(sort: &[u8], text: &[u8]) -> Act {
+    if is_word(sort, b"deliver") {
+        Act::Deliver(number(text).0)
+    } else {
+        finish(text)
+    }
+}
+
+// `DONE STARTS ACT ..`.
+fn cut(daemon: u32, text: &[u8]) -> Step {
+    let (done, rest) = number(text);
+    let (starts, rest) = number(rest);
+    let act = act_of(first_word(rest), behind_word(rest));
+    Step::Cut(daemon, act, done == 1, starts)
+}
+
 fn daemon_step(sort: &[u8], daemon: u32, text: &[u8]) -> Step {
     if is_word(sort, b"ask") {
         Step::Ask(daemon, number(text).0)
     } else if is_word(sort, b"send") {
         Step::Send(daemon, number(text).0)
-    } else if is_word(sort, b"deliver") {
-        Step::Daemon(daemon, Act::Deliver(number(text).0))
+    } else if is_word(sort, b"cut") {
+        cut(daemon, text)
     } else {
-        Step::Daemon(daemon, finish(text))
+        Step::Daemon(daemon, act_of(sort, text))
     }
 }
 
@@ -208,8 +225,9 @@ fn hosts_of(alloc: Global, line: &[u8]) -> Result<List<Text>, AllocError> {
 
 /// A page `world`: a line of hosts, and then a line for each step, as `handle MOMENT USER GROUP TEXT` (a bar in the text stands for
 /// a line feed), `stop DONE MOMENT USER GROUP TEXT`, `report PLACE MOMENT`, `stopreport DONE PLACE MOMENT`, `ask DAEMON MOMENT`,
-/// `deliver DAEMON PLACE`, `finish DAEMON SERIAL EXIT CPU MEM IO`, `send DAEMON SERIAL`. It tells what was started, accounted, sent and reported,
-/// what each daemon keeps, and how many accounting lines there are.
+/// `deliver DAEMON PLACE`, `finish DAEMON SERIAL EXIT CPU MEM IO`, `send DAEMON SERIAL`, `cut DAEMON DONE STARTS deliver PLACE` and
+/// `cut DAEMON DONE STARTS finish SERIAL EXIT CPU MEM IO`. It tells what was started, accounted, sent and reported, what each daemon
+/// keeps, and how many accounting lines there are.
 pub(crate) fn world_page(alloc: Global, body: &[u8]) -> Result<Vec<u8>, AllocError> {
     let hosts = hosts_of(alloc, before(b'\n', body))?;
     let mut w = new_world(alloc, &hosts)?;

@@ -1,9 +1,9 @@
 //! Numbers read and written, and sets of tasks.
 
 use crate::answers::{is_named, no_call, number};
-use ge_pieces::{digits_worth, line_len, number_up_to, slices_at};
+use ge_pieces::{before, behind, digits_worth, line_len, number_up_to, slices_at};
 use ge_printing::{decimal_text, decimals4, fixed, join_words, number_list};
-use ge_ranges::{RangeFault, parse_set, text};
+use ge_ranges::{RangeFault, next_after, parse_set, text};
 use ge_rows::Text;
 use std::alloc::{AllocError, Global};
 
@@ -39,6 +39,15 @@ fn printed(alloc: Global, written: &[u8]) -> Result<Text, AllocError> {
     }
 }
 
+// The least number of a set above one, or the answer of a number that isn't there.
+fn later(alloc: Global, written: &[u8], number_before: &[u8]) -> Result<Text, AllocError> {
+    let after = digits_worth(number_before).min(1_000_000) as u32;
+    match parse_set(alloc, written) {
+        Ok(set) => number(alloc, next_after(&set, after).map(u64::from)),
+        Err(_) => Text::from_bytes(alloc, b"no set"),
+    }
+}
+
 fn first_len(text: &[u8]) -> usize {
     if text.is_empty() { 0 } else { line_len(text) }
 }
@@ -59,6 +68,8 @@ pub(crate) fn answer(alloc: Global, name: &[u8], given: &[u8]) -> Result<Text, A
         number_list(alloc, numbers(alloc, given)?.as_slice())
     } else if is_named(name, b"line_len") {
         number(alloc, Some(first_len(given) as u64))
+    } else if is_named(name, b"next_after") {
+        later(alloc, before(b'|', given), behind(b'|', given))
     } else if is_named(name, b"set") {
         printed(alloc, given)
     } else {

@@ -1,7 +1,7 @@
 // What daemons do.
 ghost use Rattle.std.specs.Prelude.{◌≡◌, ◌++◌, IfOk, OnOk, map, option_copied};
 ghost use Rattle.std.specs.List.{slice_get};
-ghost use Rattle.ge_model_world.specs.Worlds.{acted, acting, delivered, order_serial, report_of, sending, starts_at, taking};
+ghost use Rattle.ge_model_world.specs.Worlds.{acted, acting, cut_short, delivered, order_serial, report_of, sending, starts_at, taking};
 
 use ge_execd::{Daemon, Order, Stage, WorkFault, can_end};
 use ge_model_world::{Act, Message, Report, World};
@@ -88,6 +88,27 @@ fn act_alone(
     }
 }
 
+// A daemon acts, and stops in that act where at most a number of starts is made: the serials that it starts.
+fn act_or_stop(
+    alloc: Global,
+    sent: &[(u32, Message)],
+    place: u32,
+    d: &mut Daemon,
+    act: Act,
+    most: Option<u64>,
+) -> Result<List<u64>, AllocError>
+    ensures daemon { OnOk result (d.new
+        ≡ (cut_short most (acted sent.now place d.old act)).0) }
+    ensures starts { IfOk result (λ serials. serials
+        ≡ (cut_short most (acted sent.now place d.old act)).1) }
+{
+    let mut serials = act_alone(alloc, sent, place, d, act)?;
+    if let Some(most) = most {
+        serials.truncate(most as usize);
+    }
+    Ok(serials)
+}
+
 // Notes serials as started by the daemon at a place.
 fn note_starts(
     started: &mut List<(u32, u64)>,
@@ -102,16 +123,24 @@ fn note_starts(
     Ok(())
 }
 
-/// The daemon at a place acts, if there is one. It is taken out of the list meanwhile.
-pub(crate) fn act(alloc: Global, w: &mut World, place: u32, act: Act) -> Result<(), AllocError>
-    ensures { OnOk result (w.new ≡ acting w.old place act (slice_get w.old.daemons place)) }
+/// The daemon at a place acts, if there is one, and stops in that act where at most a number of starts is made. It is taken
+/// out of the list meanwhile.
+pub(crate) fn act(
+    alloc: Global,
+    w: &mut World,
+    place: u32,
+    act: Act,
+    most: Option<u64>,
+) -> Result<(), AllocError>
+    ensures { OnOk result (w.new
+        ≡ acting w.old place act most (slice_get w.old.daemons place)) }
 {
     let at = place as usize;
     if at >= w.daemons.len() {
         return Ok(());
     }
     let mut d = w.daemons.replace(at, Daemon::new(alloc, Text::new(alloc)));
-    let serials = act_alone(alloc, w.sent.items(), place, &mut d, act)?;
+    let serials = act_or_stop(alloc, w.sent.items(), place, &mut d, act, most)?;
     w.daemons.replace(at, d);
     note_starts(&mut w.started, place, serials.items())?;
     Ok(())

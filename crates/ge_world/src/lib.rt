@@ -1,5 +1,6 @@
 //! The world of gridmaster and its execution daemons as code: a master's cluster, a daemon for each host, and all messages that were ever
-//! sent, over each list of steps in which messages are lost, come late, again and to the wrong daemon, and the master stops inside events.
+//! sent, over each list of steps in which messages are lost, come late, again and to the wrong daemon, the master stops inside events,
+//! and daemons inside what they do.
 //!
 //! - [`take_step`]: a world after one more step. [`run_world`]: the world after all steps, in which each dispatch is started at most
 //!   once and accounted at most once.

@@ -75,7 +75,9 @@ pub fn take_step(alloc: Global, w: &mut World, s: &Step) -> Result<(), AllocErro
         Step::Stop(x, true) => stop_in_arrival(alloc, w, x),
         Step::Stop(_, false) => Ok(()),
         Step::Ask(place, moment) => ask(alloc, w, *place, *moment),
-        Step::Daemon(place, what) => act(alloc, w, *place, *what),
+        Step::Daemon(place, what) => act(alloc, w, *place, *what, None),
         Step::Send(place, serial) => send(w, *place, *serial),
+        Step::Cut(place, what, true, starts) => act(alloc, w, *place, *what, Some(*starts)),
+        Step::Cut(_, _, false, _) => Ok(()),
     }
 }

@@ -1,5 +1,5 @@
 -- Worlds of gridmaster and a daemon, worked out.
-use Rattle.std.specs.Prelude.{◌≡◌, ℕ, List, [], ◌∷◌, ◌++◌, flat_map, codes, refl}
+use Rattle.std.specs.Prelude.{◌≡◌, ℕ, true, List, [], ◌∷◌, ◌++◌, flat_map, codes, refl}
 use Rattle.ge_model_rows.specs.EventRows.{Event, Good}
 use Rattle.ge_model_core.specs.Scripts.{model_in_full}
 use Rattle.ge_execd.specs.Orders.{orders_in}
@@ -11,7 +11,7 @@ use Rattle.ge_model_world.specs.declared.rows.World.{World}
 use Rattle.ge_model_world.specs.declared.rows.Arrival.TheVariants.{Command, Report}
 use Rattle.ge_model_world.specs.declared.rows.Act.TheVariants.{Deliver, Finish}
 use Rattle.ge_model_world.specs.declared.rows.Step.{Step}
-use Rattle.ge_model_world.specs.declared.rows.Step.TheVariants.{Handle, Ask, Daemon, Send}
+use Rattle.ge_model_world.specs.declared.rows.Step.TheVariants.{Handle, Ask, Daemon, Send, Cut}
 use Rattle.ge_model_world.specs.Worlds.{root_event, world_of}
 use Rattle.ge_world_laws.specs.Product.{product}
 
@@ -48,3 +48,8 @@ once = refl
 by_force : seen (world_of product (codes "local" ∷ []) (begins ++ Handle (Command (root_event 22 (codes "qdel -f 1"))) ∷ ends_twice)) ≡ ((0, 1) ∷ [], Forced 1 ∷ [], 22 ∷ 22 ∷ [])
 unfolding world_of orders_in model_in_full
 by_force = refl
+
+-- a task that its daemon claimed, and stopped before it started it, isn't started later; its end is accounted once
+never_started : seen (world_of product (codes "local" ∷ []) (begins ++ Cut 0 (Deliver 0) true 0 ∷ ends_twice)) ≡ ([], Reported 1 0 ∷ [], 0 ∷ 22 ∷ [])
+unfolding world_of orders_in model_in_full
+never_started = refl

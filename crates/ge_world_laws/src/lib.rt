@@ -94,9 +94,9 @@ pub fn the_cluster_is_a_master()
 {}
 
 /// For all names of different hosts and each list of steps of a world of gridmaster and its daemons, in which messages are
-/// lost, come late, again and to the wrong daemon, and the master stops inside events: each serial is started at most once over
-/// all daemons and accounted at most once; the line of one that was accounted by a report has the exit and the amounts that its
-/// daemon kept, and all reports of a serial are one. Ends come from daemons alone.
+/// lost, come late, again and to the wrong daemon, the master stops inside events and daemons inside what they do: each serial is
+/// started at most once over all daemons and accounted at most once; the line of one that was accounted by a report has the exit
+/// and the amounts that its daemon kept, and all reports of a serial are one. Ends come from daemons alone.
 pub fn dispatches_are_started_and_accounted_once()
     ensures { (hosts : List (List ℕ)) (steps : List Step)
         → AreApart hosts → AreHosts IsHost hosts

@@ -1,7 +1,8 @@
 use Rattle.std.specs.Prelude.{slice_get}
 use Rattle.std.proofs.Common.{◌≡◌, ◌∙◌, ◌+◌, sym, ap, subst, take, Some, arith}
-use Rattle.ge_gridacct.specs.Sums.{AreSums, counted}
-use Rattle.ge_gridacct.specs.declared.summing.Sums.{Sums}
+use Rattle.ge_listing.specs.Sums.{AreSums}
+use Rattle.ge_gridacct.specs.Sums.{counted}
+use Rattle.ge_listing.specs.declared.summing.Sums.{Sums}
 use Rattle.ge_gridacct.proofs.Accounts.{counted_more, counted_less}
 use Rattle.ge_gridacct.proofs.totals.sums_of.Goals.{then-counts, else-counts}
 use Rattle.ge_gridacct.proofs.totals.sums_of.Goals as goal

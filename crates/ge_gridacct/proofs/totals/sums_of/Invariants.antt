@@ -1,7 +1,8 @@
 use Rattle.std.proofs.Common.{◌≡◌, ◌-◌, ◌≤◌, List, take}
 use Rattle.ge_model_rows.specs.AccountRows.{Line}
 use Rattle.ge_acctlog.specs.Logs.{IsLogged, IsSameLog, count_of}
-use Rattle.ge_gridacct.specs.Sums.{AreSums, counted}
+use Rattle.ge_listing.specs.Sums.{AreSums}
+use Rattle.ge_gridacct.specs.Sums.{counted}
 use Rattle.ge_gridacct.proofs.totals.sums_of.Given as goal
 
 -- the sums of the lines so far

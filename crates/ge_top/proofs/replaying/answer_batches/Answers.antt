@@ -1,26 +1,24 @@
-use Rattle.std.proofs.Common.{◌≡◌, ◌+◌, ◌-◌, ◌∙◌, length, false, Err, ap, sym, refl, inl, inr, ⊎_elim, arith}
+use Rattle.std.proofs.Common.{◌≡◌, ◌-◌, ◌∙◌, length, false, Err, ap, sym, refl, inr, arith}
 use Rattle.std.specs.Prelude.{option_map}
 use Rattle.ge_limits.specs.Limits as limit
 use Rattle.ge_model_grammar.specs.Events.{events_of}
 use Rattle.ge_model_core.specs.Plan.{plan_of}
 use Rattle.ge_model_program.specs.Traced.{traced}
 use Rattle.ge_script.specs.Pieces.{coming, given_count, read_count}
-use Rattle.ge_spool.specs.Settled.{generation_of}
-use Rattle.ge_top.specs.Ledgers.{ledger_of}
-use Rattle.ge_top.proofs.Fitting.{room-fits, ledger-next}
+use Rattle.ge_serve.specs.Ledgers.{ledger_of}
 use Rattle.ge_top.proofs.Images.{home-images, ends-images}
 use Rattle.ge_top.proofs.RunsTold.{run-none, told-nothing, told-all, told-in-hand, told-full, told-cut, told-stopped, told-last, told-goes-on}
 use Rattle.ge_top.proofs.SoFar.{read-long, read-below}
-use Rattle.ge_top.proofs.Steps.{stops-as, not_empty, three_syncs, next-generation, turns-left}
+use Rattle.ge_top.proofs.Steps.{stops-as, not_empty, three_syncs, turns-left}
 use Rattle.ge_top.proofs.TakenEvents.{no-more-behind}
-use Rattle.ge_top.proofs.TooLong.{end-too-long, on-full}
+use Rattle.ge_top.proofs.TooLong.{on-full}
 use Rattle.ge_top.proofs.replaying.answer_batches.Goals as goal
 
 pub returns-in-Err-clause-part : goal.returns-in-Err-clause-part
 returns-in-Err-clause-part g c =
     told-nothing _ _ _ _ _ _ _ _ _ _ _ _
     (run-none plan_of c.args.m.now.cluster (g.K.Sink.written c.args.output.now) c.args.batch _ (ledger_of c.args.m.now.spool) c.requires.some (g.S.Source.rest c.args.input.now) (option_map events_of (g.S.Source.rest c.args.input.now)) refl)
-    _ _ _ (λ at_home. home-images _ _ at_home)
+    _ _ _ (λ at_home. home-images _ _ _ at_home)
 
 pub batches-init : goal.batches-init
 batches-init g c = record {
@@ -31,7 +29,6 @@ batches-init g c = record {
   going = c.requires.going;
   room = c.requires.length;
   home = λ home. home;
-  generation = omega arith;
   reads = omega arith;
   writes = omega arith;
   faults_a = omega arith;
@@ -40,15 +37,15 @@ batches-init g c = record {
 
 pub returns-in-Err-Read-clause-part : goal.returns-in-Err-Read-clause-part
 returns-in-Err-Read-clause-part g c =
-    told-nothing _ _ _ _ _ _ _ _ _ _ _ _ c.batches.invariant.run _ _ _ (λ at_home. home-images _ _ (c.batches.invariant.home at_home))
+    told-nothing _ _ _ _ _ _ _ _ _ _ _ _ c.batches.invariant.run _ _ _ (λ at_home. home-images _ _ _ (c.batches.invariant.home at_home))
 
 pub returns-in-Err-Long-clause-part : goal.returns-in-Err-Long-clause-part
 returns-in-Err-Long-clause-part g c =
-    told-nothing _ _ _ _ _ _ _ _ _ _ _ _ c.batches.invariant.run _ _ _ (λ at_home. home-images _ _ (c.batches.invariant.home at_home))
+    told-nothing _ _ _ _ _ _ _ _ _ _ _ _ c.batches.invariant.run _ _ _ (λ at_home. home-images _ _ _ (c.batches.invariant.home at_home))
 
 pub returns-in-Err-Memory-clause-part : goal.returns-in-Err-Memory-clause-part
 returns-in-Err-Memory-clause-part g c =
-    told-nothing _ _ _ _ _ _ _ _ _ _ _ _ c.batches.invariant.run _ _ _ (λ at_home. home-images _ _ (c.batches.invariant.home at_home))
+    told-nothing _ _ _ _ _ _ _ _ _ _ _ _ c.batches.invariant.run _ _ _ (λ at_home. home-images _ _ _ (c.batches.invariant.home at_home))
 
 pub returns-in-Err-Long-clause-long : goal.returns-in-Err-Long-clause-long
 returns-in-Err-Long-clause-long g c =
@@ -61,7 +58,7 @@ returns-then-is_empty-clause-all g c =
     told-all _ _ _ _ _ _ _ _ _ _ _ _ c.batches.invariant.run _ _ _ (coming c.next_batch.new.script (g.S.Source.rest c.next_batch.new.input)) (g.S.Source.rest c.next_batch.new.input) c.in-Ok-next_batch.events c.in-Ok-next_batch.ensures.gives
     (no-more-behind _ _ c.args.batch c.in-Ok-next_batch.events c.in-Ok-next_batch.ensures.all (λ full. omega (arith, ap length none, full, c.requires.some)))
     none
-    (λ at_home. home-images _ _ (c.batches.invariant.home at_home))
+    (λ at_home. home-images _ _ _ (c.batches.invariant.home at_home))
 
 pub returns-then-is_empty-clause-below : goal.returns-then-is_empty-clause-below
 returns-then-is_empty-clause-below g c =
@@ -84,8 +81,7 @@ returns-in-Err-handle_batch-clause-full g c =
     told-full plan_of _ _ c.args.batch _ _ _ _ (coming c.next_batch.new.script (g.S.Source.rest c.next_batch.new.input)) (g.K.Sink.written c.batches.output) (g.K.Sink.written c.batches.output) _ _ _ c.batches.m.cluster t.cluster c.in-Ok-next_batch.events
     c.batches.invariant.run c.in-Ok-next_batch.ensures.gives h.marks h.counted (not_empty c.is_empty.result c.in-Ok-next_batch.events c.is_empty.ensures c.if-is_empty.false) c.in-Ok-next_batch.ensures.few
     (three_syncs _ _ _ h.handled.syncs) refl
-    _ _ _ (g.S.Source.rest c.batches.input) (read_count c.batches.script) (given_count c.batches.script) (generation_of c.args.m.now.spool) (generation_of c.batches.m.spool)
-    c.batches.invariant.total (omega arith) c.batches.invariant.generation (end-too-long c.batches.m.spool t place none)
+    _ _ _ (g.S.Source.rest c.next_batch.new.input) place none c.in-Ok-next_batch.ensures.all
     (λ at_home. ends-images _ _ _ _ _ h.handled.grows.0 h.handled.grows.1 (stands (c.batches.invariant.home at_home))))
 
 pub returns-in-Err-handle_batch-clause-below : goal.returns-in-Err-handle_batch-clause-below
@@ -98,7 +94,7 @@ returns-in-Err-Write-clause-cut g c =
     told-cut plan_of _ _ c.args.batch _ _ _ _ (coming c.next_batch.new.script (g.S.Source.rest c.next_batch.new.input)) (g.K.Sink.written c.batches.output) (g.K.Sink.written c.write_replies.new.output) _ _ _ c.batches.m.cluster c.handle_batch.new.self.cluster c.in-Ok-next_batch.events
     c.batches.invariant.run c.in-Ok-next_batch.ensures.gives h.marks h.counted (not_empty c.is_empty.result c.in-Ok-next_batch.events c.is_empty.ensures c.if-is_empty.false) c.in-Ok-next_batch.ensures.few
     (three_syncs _ _ _ h.handled.syncs) h.handled.left.cluster
-    c.in-Ok-handle_batch.replies h.handled.answer.0 (ledger_of c.handle_batch.new.self.spool) (room-fits (traced plan_of c.batches.m.cluster c.in-Ok-next_batch.events h.marks) c.batches.m.spool h.handled.answer.1) (ledger-next (traced plan_of c.batches.m.cluster c.in-Ok-next_batch.events h.marks) c.batches.m.spool c.handle_batch.new.self.spool h.handled.left.journal) _ _ _ (λ at_home. home-images _ _ (h.handled.home (c.batches.invariant.home at_home)))
+    c.in-Ok-handle_batch.replies h.handled.answer.0 (ledger_of c.handle_batch.new.self.spool) h.handled.answer.1 h.handled.left.ledger _ _ _ (λ at_home. home-images _ _ _ (h.handled.home (c.batches.invariant.home at_home)))
     c.write_replies.ensures.front
 
 pub returns-in-Err-Write-clause-below : goal.returns-in-Err-Write-clause-below
@@ -112,7 +108,7 @@ returns-in-Err-Memory-write_replies-clause-part g c =
     (told-in-hand plan_of _ _ c.args.batch _ _ _ _ (coming c.next_batch.new.script (g.S.Source.rest c.next_batch.new.input)) (g.K.Sink.written c.batches.output) (g.K.Sink.written c.batches.output) _ _ _ c.batches.m.cluster c.handle_batch.new.self.cluster c.in-Ok-next_batch.events
     c.batches.invariant.run c.in-Ok-next_batch.ensures.gives h.marks h.counted (not_empty c.is_empty.result c.in-Ok-next_batch.events c.is_empty.ensures c.if-is_empty.false) c.in-Ok-next_batch.ensures.few
     (three_syncs _ _ _ h.handled.syncs) h.handled.left.cluster
-    _ _ _ (λ at_home. λ x y of_x of_y. inr (home-images _ _ (h.handled.home (c.batches.invariant.home at_home)) x y of_x of_y)))
+    _ _ _ (λ at_home. λ x y of_x of_y. inr (home-images _ _ _ (h.handled.home (c.batches.invariant.home at_home)) x y of_x of_y)))
 
 pub returns-then-stopping-clause-all : goal.returns-then-stopping-clause-all
 returns-then-stopping-clause-all g c =
@@ -121,7 +117,7 @@ returns-then-stopping-clause-all g c =
     told-stopped plan_of _ _ c.args.batch _ _ _ _ (coming c.next_batch.new.script (g.S.Source.rest c.next_batch.new.input)) (g.K.Sink.written c.batches.output) (g.K.Sink.written c.write_replies.new.output) _ _ _ c.batches.m.cluster c.handle_batch.new.self.cluster c.in-Ok-next_batch.events
     c.batches.invariant.run c.in-Ok-next_batch.ensures.gives h.marks h.counted (not_empty c.is_empty.result c.in-Ok-next_batch.events c.is_empty.ensures c.if-is_empty.false) c.in-Ok-next_batch.ensures.few
     (three_syncs _ _ _ h.handled.syncs) h.handled.left.cluster
-    c.in-Ok-handle_batch.replies h.handled.answer.0 (ledger_of c.handle_batch.new.self.spool) (room-fits (traced plan_of c.batches.m.cluster c.in-Ok-next_batch.events h.marks) c.batches.m.spool h.handled.answer.1) (ledger-next (traced plan_of c.batches.m.cluster c.in-Ok-next_batch.events h.marks) c.batches.m.spool c.handle_batch.new.self.spool h.handled.left.journal) _ _ _ (λ at_home. home-images _ _ (h.handled.home (c.batches.invariant.home at_home)))
+    c.in-Ok-handle_batch.replies h.handled.answer.0 (ledger_of c.handle_batch.new.self.spool) h.handled.answer.1 h.handled.left.ledger _ _ _ (λ at_home. home-images _ _ _ (h.handled.home (c.batches.invariant.home at_home)))
     _ (stops ∙ sym c.stopping.ensures ∙ c.if-stopping.true) c.in-Ok-write_replies.ensures.whole
 
 pub returns-then-stopping-clause-below : goal.returns-then-stopping-clause-below
@@ -134,7 +130,7 @@ returns-then-len-batch-clause-all g c =
     told-last plan_of _ _ c.args.batch _ _ _ _ (coming c.next_batch.new.script (g.S.Source.rest c.next_batch.new.input)) (g.K.Sink.written c.batches.output) (g.K.Sink.written c.write_replies.new.output) _ _ _ c.batches.m.cluster c.handle_batch.new.self.cluster c.in-Ok-next_batch.events
     c.batches.invariant.run c.in-Ok-next_batch.ensures.gives h.marks h.counted (not_empty c.is_empty.result c.in-Ok-next_batch.events c.is_empty.ensures c.if-is_empty.false) c.in-Ok-next_batch.ensures.few
     (three_syncs _ _ _ h.handled.syncs) h.handled.left.cluster
-    c.in-Ok-handle_batch.replies h.handled.answer.0 (ledger_of c.handle_batch.new.self.spool) (room-fits (traced plan_of c.batches.m.cluster c.in-Ok-next_batch.events h.marks) c.batches.m.spool h.handled.answer.1) (ledger-next (traced plan_of c.batches.m.cluster c.in-Ok-next_batch.events h.marks) c.batches.m.spool c.handle_batch.new.self.spool h.handled.left.journal) _ _ _ (λ at_home. home-images _ _ (h.handled.home (c.batches.invariant.home at_home)))
+    c.in-Ok-handle_batch.replies h.handled.answer.0 (ledger_of c.handle_batch.new.self.spool) h.handled.answer.1 h.handled.left.ledger _ _ _ (λ at_home. home-images _ _ _ (h.handled.home (c.batches.invariant.home at_home)))
     (g.S.Source.rest c.next_batch.new.input) (no-more-behind _ _ c.args.batch c.in-Ok-next_batch.events c.in-Ok-next_batch.ensures.all (λ full. omega (arith, full, c.len.ensures, c.if-len-batch.true))) c.in-Ok-write_replies.ensures.whole
 
 pub returns-then-len-batch-clause-below : goal.returns-then-len-batch-clause-below
@@ -156,15 +152,13 @@ batches-preserved g c =
       run = told-goes-on plan_of _ _ c.args.batch _ _ _ _ (coming c.next_batch.new.script (g.S.Source.rest c.next_batch.new.input)) (g.K.Sink.written c.batches.output) (g.K.Sink.written c.write_replies.new.output) _ _ _ c.batches.m.cluster c.handle_batch.new.self.cluster c.in-Ok-next_batch.events
           c.batches.invariant.run c.in-Ok-next_batch.ensures.gives h.marks h.counted (not_empty c.is_empty.result c.in-Ok-next_batch.events c.is_empty.ensures c.if-is_empty.false) c.in-Ok-next_batch.ensures.few
           (three_syncs _ _ _ h.handled.syncs) h.handled.left.cluster
-          c.in-Ok-handle_batch.replies h.handled.answer.0 (ledger_of c.handle_batch.new.self.spool) (room-fits (traced plan_of c.batches.m.cluster c.in-Ok-next_batch.events h.marks) c.batches.m.spool h.handled.answer.1) (ledger-next (traced plan_of c.batches.m.cluster c.in-Ok-next_batch.events h.marks) c.batches.m.spool c.handle_batch.new.self.spool h.handled.left.journal) full (stops ∙ still) c.in-Ok-write_replies.ensures.whole;
+          c.in-Ok-handle_batch.replies h.handled.answer.0 (ledger_of c.handle_batch.new.self.spool) h.handled.answer.1 h.handled.left.ledger full (stops ∙ still) c.in-Ok-write_replies.ensures.whole;
       over = c.in-Ok-next_batch.ensures.over;
       total = c.in-Ok-next_batch.ensures.total ∙ c.batches.invariant.total;
       lives = c.in-Ok-handle_batch.ensures.goes;
       going = still;
       room = c.handle_batch.ensures.length;
       home = λ at_home. h.handled.home (c.batches.invariant.home at_home);
-      generation = next-generation (traced plan_of c.batches.m.cluster c.in-Ok-next_batch.events h.marks) c.batches.m.spool c.handle_batch.new.self.spool (generation_of c.args.m.now.spool) (given_count c.batches.script) (given_count c.next_batch.new.script) c.args.batch
-          h.handled.left.journal c.batches.invariant.generation (c.in-Ok-next_batch.ensures.goes_on full) c.requires.some;
       reads = omega (arith, c.next_batch.ensures.later, c.batches.invariant.reads);
       writes = omega (arith, c.write_replies.ensures.later, c.batches.invariant.writes);
       faults_a = omega (arith, c.handle_batch.ensures.faults_a, c.batches.invariant.faults_a);

@@ -3,11 +3,10 @@ use Rattle.std.proofs.Common.{◌≡◌, ◌+◌, ◌-◌, ◌^◌, ◌≤◌, f
 use Rattle.std.specs.Prelude.{option_map}
 use Rattle.ge_model_core.specs.Plan.{plan_of}
 use Rattle.ge_script.specs.Pieces.{coming, given_count, total_count, IsOver}
-use Rattle.ge_spool.specs.Settled.{generation_of}
 use Rattle.ge_serve.specs.Areas.{areas_of}
 use Rattle.ge_serve.specs.Homes.{IsHome}
 use Rattle.ge_serve.specs.Masters.{HasLength, parts_of}
-use Rattle.ge_top.specs.Ledgers.{ledger_of}
+use Rattle.ge_serve.specs.Ledgers.{ledger_of}
 use Rattle.ge_top.proofs.RunsTold.{RunSoFar}
 use Rattle.ge_top.proofs.replaying.answer_batches.Given as goal
 
@@ -22,7 +21,6 @@ invariant-batches g l = record {
   room : HasLength l.m (g.D.Disk.told l.a) (g.D.Disk.told l.b);
   home : IsHome (parts_of l.fn.m) (areas_of g.D.Disk.told g.D.Disk.syncs g.D.Disk.disk_faults l.fn.a l.fn.b)
       → IsHome (parts_of l.m) (areas_of g.D.Disk.told g.D.Disk.syncs g.D.Disk.disk_faults l.a l.b);
-  generation : generation_of l.m.spool ≤ generation_of l.fn.m.spool + given_count l.script;
   reads : g.S.Source.read_faults l.fn.input ≤ g.S.Source.read_faults l.input;
   writes : g.K.Sink.write_faults l.fn.output ≤ g.K.Sink.write_faults l.output;
   faults_a : g.D.Disk.disk_faults l.fn.a ≤ g.D.Disk.disk_faults l.a;

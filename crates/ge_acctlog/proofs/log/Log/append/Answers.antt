@@ -1,37 +1,43 @@
-use Rattle.std.proofs.Common.{◌≡◌, ◌∙◌, false, sym, arith, length-append, Some}
-use Rattle.std.specs.Result.{is_err}
-use Rattle.ge_model_journal.specs.Disk.{read_bytes}
-use Rattle.ge_spool.proofs.Settling.{from-ok}
-use Rattle.ge_model_log.specs.Lines.{lines_in}
-use Rattle.ge_acctlog.proofs.Lines.{lines-again}
-use Rattle.ge_acctlog.proofs.Moments.{appended-since, appended-rests}
+use Rattle.std.proofs.Common.{◌≡◌, ◌∙◌, ◌+◌, ◌++◌, ap, refl, subst, arith, length, take}
+use Rattle.std.proofs.lemmas.List.{take_all}
+use Rattle.ge_outside.specs.Faults.{Rose}
+use Rattle.ge_model_log.specs.Lines.{StandsForOneOf}
+use Rattle.ge_spool.specs.Moments.{Since}
+use Rattle.ge_acctlog.specs.Appends.{Refuses}
+use Rattle.ge_acctlog.specs.Logs.{IsLogged}
+use Rattle.ge_acctlog.specs.Records.{end_behind}
+use Rattle.ge_acctlog.proofs.Gathered.{whole_lines, whole_count, one_record, whole_end}
 use Rattle.ge_acctlog.proofs.log.Log.append.Goals as goal
 
-pub returns-then-is_err-clause-since : goal.returns-then-is_err-clause-since
-returns-then-is_err-clause-since g c = λ held logged.
-    let told = g.D.Disk.told c.args.log.now in
+pub returns-in-Ok-clause-done : goal.returns-in-Ok-clause-done
+returns-in-Ok-clause-done g c = λ held logged.
     let lines = c.args.lines.now in
-    let body = c.in_ok-body.body in
-    let read : lines_in body ≡ Some lines = lines-again lines body c.in_ok-body.ensures.fits c.requires.some c.in_ok-body.ensures.body in
-    appended-since c.args.self.now told (g.D.Disk.told c.write_behind.new.disk) held lines c.in_ok-piece.piece.items body logged (omega arith)
-    (rw c.bytes.ensures at c.in_ok-piece.ensures.is_piece) read (rw c.as_slice.ensures.value at (c.write_behind.ensures.since (read_bytes told) logged.quiet))
+    let told = c.in-Ok.ensures.answer.1 in
+    let whole : take c.in-Ok.field-0 lines ≡ lines =
+    take_all c.in-Ok.field-0 lines (omega (arith, whole_count (length c.args.lines.now) _ c.in-Ok.field-0 told.0 lines refl told.1)) in
+    subst (λ xs. IsLogged c.append_records.new.self (g.D.Disk.told c.append_records.new.log) (held ++ xs)) whole (c.in-Ok.ensures.done held logged)
 
-pub returns-clause-since : goal.returns-clause-since
-returns-clause-since g c = λ held logged.
-    let told = g.D.Disk.told c.args.log.now in
-    let lines = c.args.lines.now in
-    let body = c.in_ok-body.body in
-    let read : lines_in body ≡ Some lines = lines-again lines body c.in_ok-body.ensures.fits c.requires.some c.in_ok-body.ensures.body in
-    appended-since c.args.self.now told (g.D.Disk.told c.write_behind.new.disk) held lines c.in_ok-piece.piece.items body logged (omega arith)
-    (rw c.bytes.ensures at c.in_ok-piece.ensures.is_piece) read (rw c.as_slice.ensures.value at (c.write_behind.ensures.since (read_bytes told) logged.quiet))
+pub returns-in-Ok-clause-since : goal.returns-in-Ok-clause-since
+returns-in-Ok-clause-since g c = λ held logged.
+    let one = c.append_records.ensures.since held logged in
+    subst (λ xs. Since (g.D.Disk.told c.args.log.now) (g.D.Disk.told c.append_records.new.log) (StandsForOneOf held (held ++ xs))) (whole_lines (length c.args.lines.now) one.0 c.args.lines.now refl one.1) one.2
 
-pub returns-clause-done : goal.returns-clause-done
-returns-clause-done g c = λ held logged.
-    let told = g.D.Disk.told c.args.log.now in
-    let lines = c.args.lines.now in
-    let body = c.in_ok-body.body in
-    let read : lines_in body ≡ Some lines = lines-again lines body c.in_ok-body.ensures.fits c.requires.some c.in_ok-body.ensures.body in
-    let sound : is_err c.write_behind.result ≡ false = sym c.is_err.ensures.value ∙ c.if-is_err.false in
-    let quiet = rw c.as_slice.ensures.value at (from-ok c.write_behind.result _ sound c.write_behind.ensures.quiet (read_bytes told) logged.quiet) in
-    appended-rests c.args.self.now _ told (g.D.Disk.told c.write_behind.new.disk) held lines c.in_ok-piece.piece.items body logged (omega arith)
-    (rw c.bytes.ensures at c.in_ok-piece.ensures.is_piece) read quiet logged.alive (omega (arith, logged.count, length-append held lines, c.len.ensures)) (omega arith) c.start.ensures
+pub returns-in-Err-clause-since : goal.returns-in-Err-clause-since
+returns-in-Err-clause-since g c = λ held logged.
+    let one = c.append_records.ensures.since held logged in
+    subst (λ xs. Since (g.D.Disk.told c.args.log.now) (g.D.Disk.told c.append_records.new.log) (StandsForOneOf held (held ++ xs))) (whole_lines (length c.args.lines.now) one.0 c.args.lines.now refl one.1) one.2
+
+pub returns-in-Ok-clause-answer : goal.returns-in-Ok-clause-answer
+returns-in-Ok-clause-answer g c =
+    let told = c.in-Ok.ensures.answer.1 in
+    (c.in-Ok.ensures.answer.0, omega (arith, told.1.fits 0 told.1.some, whole_end (length c.args.lines.now) c.args.self.now.end c.args.lines.now refl))
+
+pub returns-in-Err-clause-answer : goal.returns-in-Err-clause-answer
+returns-in-Err-clause-answer g c =
+    subst (λ place. Refuses c.in-Err.stop c.args.self.now.dead place (Rose (g.D.Disk.disk_faults c.args.log.now) (g.D.Disk.disk_faults c.append_records.new.log))) (whole_end (length c.args.lines.now) c.args.self.now.end c.args.lines.now refl) c.in-Err.ensures.answer
+
+pub returns-in-Ok-clause-ends : goal.returns-in-Ok-clause-ends
+returns-in-Ok-clause-ends g c =
+    let told = c.in-Ok.ensures.answer.1 in
+    let one = one_record (length c.args.lines.now) _ c.in-Ok.field-0 told.0 c.args.lines.now refl c.requires.some told.1 in
+    omega (arith, told.2, ap (λ k. end_behind (length c.args.lines.now) c.args.self.now.end c.args.lines.now k) one, whole_end (length c.args.lines.now) c.args.self.now.end c.args.lines.now refl)

@@ -20,7 +20,7 @@ returns-in-Some-get-clause-cost g c =
     let points = c.in-Some-get.points.now in
     let drawn = found_draws inside.index inside.functions inside.bookings c.args.limit.now c.in-Some.number points c.self.invariant.shows (sym c.in-Some.ensures) (sym c.in-Some-get.ensures) in
     let looks = rw c.as_slice.ensures.value at c.peak.ensures.cost in
-    let few = few_looks (changes inside.bookings c.args.limit.now) points.items c.args.from c.args.until c.args.steps.now c.peak.new.steps drawn.within looks in
+    let few = few_looks (changes inside.bookings c.args.limit.now) points.items c.args.from c.args.until c.args.steps.now c.peak.new.steps drawn.rising drawn.within looks in
     rw c.self.view_is at few
 
 pub returns-in-None-clause-greatest : goal.returns-in-None-clause-greatest

@@ -1,6 +1,6 @@
 use Rattle.std.proofs.Common.{inl}
 use Rattle.ge_spool.proofs.Settling.{still-moments}
-use Rattle.ge_master.proofs.storing.store_record.Goals as goal
+use Rattle.ge_keeping.proofs.storing.keep_record.Goals as goal
 
 pub returns-then-end-gt-AREA_BYTES-clause-any_moment : goal.returns-then-end-gt-AREA_BYTES-clause-any_moment
 returns-then-end-gt-AREA_BYTES-clause-any_moment g c = λ state settled image_a image_b of_a of_b.

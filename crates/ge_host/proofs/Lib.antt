@@ -1,0 +1,4 @@
+mod Written
+mod Unchanged
+mod ReadParts
+mod Taken

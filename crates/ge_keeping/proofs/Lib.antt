@@ -1,0 +1,5 @@
+pub mod Stops
+pub mod Standing
+pub mod Walking
+pub mod Opened
+pub mod Changed
